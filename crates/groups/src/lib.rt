@@ -1,0 +1,1 @@
+// Numbers in groups of seven bits: their length, their bytes, and reading one.

@@ -1,0 +1,1 @@
+// The tests of a job, 1 to 6.

@@ -1,0 +1,1 @@
+// The key of a job, written into a lent slice.

@@ -1,0 +1,1 @@
+// Laws of the list words of papers, and the two sides of a test. No code.

@@ -1,0 +1,1 @@
+// Laws of the tree, the orders and the room in use. No code.

@@ -1,0 +1,43 @@
+-- A job, and its pattern.
+-- Assumes nothing.
+use Prim.Native.Nat.{ℕ, zero, suc, _-_, _≤_}
+use mathlib.Core.Path.{_≡_}
+use mathlib.Core.List.{List, []}
+use lib.ListN.{getD}
+use lib.Seq.{slice}
+use Rattle.papers.specs.Lists.{_∈_, Asc}
+use Rattle.papers.specs.declared.JobHead.{JobHead}
+
+-- n, the start numbers, the rows strictly below the diagonal, the sibling mark, the room limit
+pub record Job : Type 0 where
+  pub n : ℕ
+  pub starts : List ℕ
+  pub rows : List ℕ
+  pub mark : ℕ
+  pub limit : ℕ
+
+-- a job as code has it: its numbers and its two lists
+abbrev pub jobOf : JobHead → List ℕ → List ℕ → Job
+jobOf head starts rows = record { n = head .n; starts = starts; rows = rows; mark = head .mark; limit = head .limit }
+
+-- A pattern: the rows of each column.
+abbrev pub Pattern : Type 0
+Pattern = ℕ → List ℕ
+
+-- the starts counted from 1
+unfoldable pub start : List ℕ → ℕ → ℕ
+start starts k = getD starts (k - 1) 0
+
+-- the rows of column j are those from start j to start j + 1
+unfoldable pub columnOf : List ℕ → List ℕ → Pattern
+columnOf starts rows j = slice (start starts j) (start starts (suc j)) rows
+
+-- the pattern of a job
+abbrev pub pattern : Job → Pattern
+pattern job = columnOf (job .starts) (job .rows)
+
+-- Rows strictly below the diagonal: column j has its rows ascending, above j and at most n; there is no column 0.
+pub record Below (n : ℕ) (A : Pattern) : Type 0 where
+  pub none : A 0 ≡ []
+  pub ascending : (j : ℕ) → Asc j (A j)
+  pub within : (i j : ℕ) → i ∈ A j → i ≤ n

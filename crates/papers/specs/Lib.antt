@@ -1,0 +1,5 @@
+pub mod Bounds
+pub mod Lists
+pub mod Numbers
+pub mod Job
+pub mod Fill

@@ -1,0 +1,51 @@
+-- Numbers in the bytes: groups of seven bits, low group first, the high bit set on all but the last.
+-- Assumes nothing.
+use Prim.Native.Nat.{ℕ, zero, suc, _+_, _-_, _*_, _/_, _%_}
+use mathlib.Core.Bool.{Bool, true, false}
+use mathlib.Core.List.{List, [], _∷_, _++_}
+use lib.Dec.{ltb, eqb}
+use lib.ListN.{length, getD}
+use Rattle.papers.specs.Bounds.{maxGroups}
+use Rattle.papers.specs.declared.Number.{Number}
+use Rattle.papers.specs.declared.Number.the-variants.{Value, Ended, TooLong, NotShortest}
+
+-- the shortest form of x, of at most f groups after the first
+unfoldable pub groupsOf : ℕ → ℕ → List ℕ
+groupsOf zero x = x ∷ []
+groupsOf (suc f) x = elim (ltb x 128) [ true ↦ x ∷ [] | false ↦ (x % 128 + 128) ∷ groupsOf f (x / 128) ]
+
+-- the bytes of a number
+unfoldable pub bytesOf : ℕ → List ℕ
+bytesOf x = groupsOf (maxGroups - 1) x
+
+-- the bytes of numbers, one after the other
+unfoldable pub encode : List ℕ → List ℕ
+encode [] = []
+encode (x ∷ xs) = bytesOf x ++ encode xs
+
+-- ---- reading, by place in the whole list of bytes; places count from 0 here
+
+-- a number whose first group is low, and the rest of whose groups were read behind it
+unfoldable pub over : ℕ → Number → Number
+over low (Value v next) = Value (low + 128 * v) next
+over low Ended = Ended
+over low TooLong = TooLong
+over low NotShortest = NotShortest
+
+-- a last group b that stands at `at`: 0 is one only where it is the first
+unfoldable pub lastGroup : Bool → ℕ → ℕ → Number
+lastGroup first zero at = elim first [ true ↦ Value 0 (at + 1) | false ↦ NotShortest ]
+lastGroup first (suc b) at = Value (suc b) (at + 1)
+
+-- the number whose groups stand from `at` on: k more may come; whether the next is its first
+unfoldable pub readFrom : ℕ → Bool → List ℕ → ℕ → Number
+readFrom zero first s at = elim (ltb at (length s)) [ true ↦ TooLong | false ↦ Ended ]
+readFrom (suc k) first s at =
+    elim (ltb at (length s)) [
+      | true ↦ elim (ltb (getD s at 0) 128) [ true ↦ lastGroup first (getD s at 0) at | false ↦ over (getD s at 0 - 128) (readFrom k false s (at + 1)) ]
+      | false ↦ Ended
+    ]
+
+-- the number that starts at `at`
+unfoldable pub readNumber : List ℕ → ℕ → Number
+readNumber s at = readFrom maxGroups true s at

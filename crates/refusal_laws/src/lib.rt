@@ -1,0 +1,1 @@
+// Each number is answered exactly when its condition holds and no test before it refuses. No code.

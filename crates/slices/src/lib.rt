@@ -1,0 +1,1 @@
+// Lent slices: cleared, copied into, and handed on in part.
