@@ -10,6 +10,10 @@ maxColumns = 4096
 abbrev pub maxLimit : ℕ
 maxLimit = 2 ^ 40
 
+-- the sibling marks are 0 to this (refusal 2)
+abbrev pub maxMark : ℕ
+maxMark = 2
+
 -- a declared peak is at most this (refusal 14)
 abbrev pub maxPeak : ℕ
 maxPeak = 2 ^ 40

@@ -3,3 +3,8 @@ pub mod Lists
 pub mod Numbers
 pub mod Job
 pub mod Fill
+pub mod Tree
+pub mod Room
+pub mod Order
+pub mod Key
+pub mod Plan

@@ -23,8 +23,10 @@ pub enum Number {
     NotShortest,
 }
 
-// The greatest n, room limit and declared peak, and the most groups of a number. The definitions have the same four in specs/Bounds.antt.
+// The greatest n, sibling mark, room limit and declared peak, and the most groups of a number. The definitions have the same in specs/Bounds.antt.
 pub const MAX_COLUMNS: u64 = 4096;
+
+pub const MAX_MARK: u64 = 2;
 
 pub const MAX_LIMIT: u64 = 1099511627776;
 

@@ -1,0 +1,34 @@
+-- The key of a job.
+-- Assumes nothing.
+use Prim.Native.Nat.{ℕ, zero, suc, _-_}
+use mathlib.Core.List.{List, [], _∷_, _++_, map}
+use lib.ListN.{length}
+use Rattle.papers.specs.Bounds.{edition}
+use Rattle.papers.specs.Lists.{upTo}
+use Rattle.papers.specs.Numbers.{encode}
+use Rattle.papers.specs.Job.{Job, Pattern, pattern}
+
+-- gaps: the first row less b, then differences
+unfoldable pub gapsOf : ℕ → List ℕ → List ℕ
+gapsOf b [] = []
+gapsOf b (x ∷ xs) = (x - b) ∷ gapsOf x xs
+
+-- of column j the count of its rows and their gaps
+unfoldable pub listNumbers : ℕ → List ℕ → List ℕ
+listNumbers j l = length l ∷ gapsOf j l
+
+-- of the columns from j on
+unfoldable pub listsNumbers : ℕ → List (List ℕ) → List ℕ
+listsNumbers j [] = []
+listsNumbers j (l ∷ ls) = listNumbers j l ++ listsNumbers (suc j) ls
+
+-- the lists of the columns 1 to n
+unfoldable pub listsOf : ℕ → Pattern → List (List ℕ)
+listsOf n A = map A (upTo n)
+
+-- edition, n, mark, limit, then per column the count of pattern rows and their gaps
+unfoldable pub keyNumbers : Job → List ℕ
+keyNumbers job = edition ∷ job .n ∷ job .mark ∷ job .limit ∷ listsNumbers 1 (listsOf (job .n) (pattern job))
+
+unfoldable pub keyOf : Job → List ℕ
+keyOf job = encode (keyNumbers job)

@@ -1,0 +1,75 @@
+-- The order of columns: subtrees in one piece, siblings by the mark.
+-- Assumes nothing.
+use Prim.Native.Nat.{ℕ, zero, suc, _-_, _≤_}
+use mathlib.Core.Logic.{_↔_}
+use mathlib.Core.List.{List, [], _∷_, _++_, flatMap}
+use lib.ListN.{length, getD}
+use Rattle.papers.specs.Lists.{_∈_, Distinct, sort}
+use Rattle.papers.specs.Job.{Pattern}
+use Rattle.papers.specs.Tree.{t, parent, rowCount, children, Under}
+use Rattle.papers.specs.Room.{rooms, peakOf}
+
+-- ---- what any order must be
+
+-- the column of step s, the steps counted from 1
+unfoldable pub columnAt : List ℕ → ℕ → ℕ
+columnAt order s = getD order (s - 1) 0
+
+-- the subtree whose top is done at step s takes consecutive steps, s the last of them
+pub record Together (par : ℕ → ℕ) (order : List ℕ) (s : ℕ) : Type 0 where
+  pub first : ℕ
+  pub steps : (k : ℕ) → 1 ≤ k → k ≤ length order → Under par (columnAt order s) (columnAt order k) ↔ ((first ≤ k) × (k ≤ s))
+
+-- an order of the columns 1 to n: each once, each subtree in consecutive steps, its top last
+pub record Ordered (par : ℕ → ℕ) (n : ℕ) (order : List ℕ) : Type 0 where
+  pub each : (j : ℕ) → (j ∈ order) ↔ ((1 ≤ j) × (j ≤ n))
+  pub once : Distinct order
+  pub together : (s : ℕ) → 1 ≤ s → s ≤ length order → Together par order s
+
+-- ---- the order of a mark
+
+-- the key by which siblings descend: of a child with its rows and its W, under a parent with `above` rows.
+-- Mark 0: none, so that the numbers ascend; 1: W less the update's entries; 2: the update's entries.
+unfoldable pub siblingKey : ℕ → ℕ → ℕ → ℕ → ℕ
+siblingKey zero above rows W = 0
+siblingKey (suc zero) above rows W = W - t rows
+siblingKey (suc (suc m)) above rows W = t rows
+
+module _ (mark : ℕ) (size : ℕ → ℕ) (kids : ℕ → List ℕ) where
+  -- the peak of a subtree done alone, in the order of its steps
+  unfoldable pub alone : List ℕ → ℕ
+  alone steps = peakOf size (λ j. length (kids j)) steps
+
+  -- the children of j in the mark's order, ties by the lower number; `steps c` are the steps of c's subtree
+  unfoldable pub arranged : (ℕ → List ℕ) → ℕ → List ℕ
+  arranged steps j = sort (λ c. siblingKey mark (size j) (size c) (alone (steps c))) (kids j)
+
+  -- the steps of j's subtree, at most f columns deep: its children's subtrees, then j
+  unfoldable pub stepsOf : ℕ → ℕ → List ℕ
+  stepsOf zero j = []
+  stepsOf (suc f) j = flatMap (stepsOf f) (arranged (stepsOf f) j) ++ (j ∷ [])
+
+-- ---- of a pattern of n columns
+
+-- the children of j; of 0, the roots
+abbrev pub kidsOf : ℕ → Pattern → ℕ → List ℕ
+kidsOf n A = children (parent A) n
+
+-- pops: the number of children
+abbrev pub popsOf : ℕ → Pattern → ℕ → ℕ
+popsOf n A j = length (kidsOf n A j)
+
+-- W(j): the peak of j's subtree done alone, in its order
+unfoldable pub W : ℕ → ℕ → Pattern → ℕ → ℕ
+W mark n A j = alone mark (rowCount A) (kidsOf n A) (stepsOf mark (rowCount A) (kidsOf n A) n j)
+
+-- the order: the subtrees of the roots, ascending
+unfoldable pub orderOf : ℕ → ℕ → Pattern → List ℕ
+orderOf mark n A = flatMap (stepsOf mark (rowCount A) (kidsOf n A) n) (kidsOf n A 0)
+
+-- the room in use at each step, and the peak
+unfoldable pub roomsOf : ℕ → Pattern → List ℕ → List ℕ
+roomsOf n A order = rooms (rowCount A) (popsOf n A) [] order
+
+unfoldable pub peak : ℕ → Pattern → List ℕ → ℕ
+peak n A order = peakOf (rowCount A) (popsOf n A) order

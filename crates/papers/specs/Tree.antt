@@ -1,0 +1,48 @@
+-- The tree of parents: parent, front and update of a column, its children and its subtree.
+-- Assumes nothing.
+use Prim.Native.Nat.{ℕ, zero, suc, _+_, _*_, _/_, _<_}
+use mathlib.Core.Bool.{Bool, true, false}
+use mathlib.Core.List.{List, _∷_}
+use lib.Dec.{eqb}
+use lib.ListN.{length}
+use Rattle.papers.specs.Lists.{head0, keep, upTo}
+use Rattle.papers.specs.Job.{Pattern}
+use Rattle.papers.specs.Fill.{R}
+
+-- the parent of j: the least row of R(j); 0 where R(j) is empty, and j is a root
+unfoldable pub parent : Pattern → ℕ → ℕ
+parent A j = head0 (R A j)
+
+-- the front of j: j, then R(j)
+abbrev pub front : Pattern → ℕ → List ℕ
+front A j = j ∷ R A j
+
+-- the update of j: R(j)
+abbrev pub update : Pattern → ℕ → List ℕ
+update A j = R A j
+
+-- the rows of R(j)
+abbrev pub rowCount : Pattern → ℕ → ℕ
+rowCount A j = length (R A j)
+
+-- the entries of r rows, a lower triangle
+unfoldable pub t : ℕ → ℕ
+t r = r * (r + 1) / 2
+
+-- the children of j among the columns 1 to n, ascending; of 0, the roots
+unfoldable pub children : (ℕ → ℕ) → ℕ → ℕ → List ℕ
+children par n j = keep (λ c. eqb (par c) j) (upTo n)
+
+-- k stands in the subtree whose top is j: it is j, or its parent stands there
+pub data Under (par : ℕ → ℕ) (j : ℕ) : ℕ → Type 0 where
+  top : Under par j j
+  up : {k : ℕ} → 0 < par k → Under par j (par k) → Under par j k
+
+-- the same by a test that climbs at most f parents
+unfoldable pub isUnder : (ℕ → ℕ) → ℕ → ℕ → ℕ → Bool
+isUnder par zero j k = eqb k j
+isUnder par (suc f) j k = elim (eqb k j) [ true ↦ true | false ↦ elim (eqb (par k) 0) [ true ↦ false | false ↦ isUnder par f j (par k) ] ]
+
+-- the columns of 1 to n in the subtree of j
+unfoldable pub subtreeOf : (ℕ → ℕ) → ℕ → ℕ → List ℕ
+subtreeOf par n j = keep (isUnder par n j) (upTo n)
