@@ -1,2 +1,4 @@
 pub mod Gathers
 pub mod Fill
+pub mod Parents
+pub mod Subtrees
