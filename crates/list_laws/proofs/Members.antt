@@ -1,0 +1,53 @@
+-- The tests on lists: `member` passes just where the number stands in the list, `same` just where the lists are one.
+-- Assumes nothing.
+use Prim.Native.Nat.{ℕ}
+use mathlib.Core.Path.{_≡_, refl}
+use mathlib.Core.Logic.{_⊎_, inl, inr}
+use mathlib.Core.Bool.{true, false}
+use mathlib.Core.List.{List, [], _∷_, List·Memᴰ·head, List·Memᴰ·tail, List·Memᴰ·not-nil, List·Memᴰ·cases-cons}
+use lib.Dec.{eqb}
+use borrow.Author.Tests.{eqb-true, eqb-false, eq-eqb}
+use Rattle.papers.specs.Lists.{_∈_, member, same}
+use Rattle.list_laws.proofs.Tests.{Test, passes, fails, test, true-false}
+
+pub member-true : (x : ℕ) (l : List ℕ) → member x l ≡ true → x ∈ l
+unfolding member
+member-true x [] e = absurd (true-false e refl)
+member-true x (y ∷ ys) e = go (test (eqb x y)) (λ q. member-true x ys q)
+  where
+    go : Test (eqb x y) → (member x ys ≡ true → x ∈ ys) → x ∈ (y ∷ ys)
+    go (passes q) ih = List·Memᴰ·head (eqb-true x y q)
+    go (fails q) ih = List·Memᴰ·tail (ih (rw (q, member) at e))
+
+pub member-into : (x : ℕ) (l : List ℕ) → x ∈ l → member x l ≡ true
+unfolding member
+member-into x [] m = absurd (List·Memᴰ·not-nil m)
+member-into x (y ∷ ys) m = go (test (eqb x y)) (List·Memᴰ·cases-cons m) (λ t. member-into x ys t)
+  where
+    go : Test (eqb x y) → (x ≡ y) ⊎ (x ∈ ys) → (x ∈ ys → member x ys ≡ true) → member x (y ∷ ys) ≡ true
+    go (passes q) c ih = rw (q, member)
+    go (fails q) (inl e) ih = absurd (eqb-false x y q e)
+    go (fails q) (inr t) ih = rw (q, member) (ih t)
+
+pub member-out : (x : ℕ) (l : List ℕ) → ¬ (x ∈ l) → member x l ≡ false
+member-out x l h = go (test (member x l))
+  where
+    go : Test (member x l) → member x l ≡ false
+    go (passes e) = absurd (h (member-true x l e))
+    go (fails e) = e
+
+pub same-true : (xs ys : List ℕ) → same xs ys ≡ true → xs ≡ ys
+unfolding same
+same-true [] [] e = refl
+same-true [] (y ∷ ys) e = absurd (true-false e refl)
+same-true (x ∷ xs) [] e = absurd (true-false e refl)
+same-true (x ∷ xs) (y ∷ ys) e = go (test (eqb x y)) (λ q. same-true xs ys q)
+  where
+    go : Test (eqb x y) → (same xs ys ≡ true → xs ≡ ys) → _≡_ {A = List ℕ} (x ∷ xs) (y ∷ ys)
+    go (passes q) ih = let head = eqb-true x y q in let tail = ih (rw (q, same) at e) in cc
+    go (fails q) ih = absurd (true-false (rw (q, same) at e) refl)
+
+pub same-refl : (xs : List ℕ) → same xs xs ≡ true
+unfolding same
+same-refl [] = refl
+same-refl (x ∷ xs) = rw (eq-eqb x x refl, same) (same-refl xs)
