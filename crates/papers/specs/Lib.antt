@@ -8,3 +8,9 @@ pub mod Room
 pub mod Order
 pub mod Key
 pub mod Plan
+pub mod Refusals
+pub mod Analysis
+pub mod Check
+pub mod Run
+pub mod Text
+pub mod Call

@@ -1,0 +1,82 @@
+-- The whole outcome of writing a key, of an analysis, and of writing a plan.
+-- Assumes nothing.
+use Prim.Native.Nat.{ℕ}
+use mathlib.Core.List.{List, [], _∷_, _++_, map}
+use lib.ListN.{length}
+use Rattle.papers.specs.Lists.{upTo, flat, startsFrom, zeros, thenZeros}
+use Rattle.papers.specs.Job.{Job, pattern}
+use Rattle.papers.specs.Fill.{R}
+use Rattle.papers.specs.Tree.{parent}
+use Rattle.papers.specs.Key.{keyOf}
+use Rattle.papers.specs.Plan.{Plan, columnsIn, popsIn, planOf, planBytes}
+use Rattle.papers.specs.Refusals.{answer, Verdict, Outcome, outcome, jobTests, Lent, allZero, holding, lengthsTest, factorRowsTest, peakTest, bytesTest}
+
+-- ---- a key: 1 to 6, then 10
+
+pub record KeyCall : Type 0 where
+  pub job : Job
+  pub bytes : List ℕ
+
+unfoldable pub keyTests : List (KeyCall → Verdict)
+keyTests = map (λ test call. test (call .job)) jobTests ++ ((λ call. bytesTest (keyOf (call .job)) (call .bytes)) ∷ [])
+
+unfoldable pub keyDone : KeyCall → Outcome (List ℕ)
+keyDone call = let key = keyOf (call .job) in record { answer = answer 0 0 (length key); lent = thenZeros key (call .bytes) }
+
+unfoldable pub keyWritten : Job → List ℕ → Outcome (List ℕ)
+keyWritten job bytes = outcome keyTests keyDone zeros (record { job = job; bytes = bytes }) bytes
+
+-- ---- an analysis: 1 to 9
+
+pub record AnalysisCall : Type 0 where
+  pub job : Job
+  pub lent : Lent
+
+-- the parents, order, pops and lists of a plan, in their slices
+unfoldable pub holdingPlan : Job → Plan → Lent → Lent
+holdingPlan job plan lent =
+    holding (map (parent (pattern job)) (upTo (job .n))) (columnsIn (plan .steps)) (popsIn (plan .steps)) (startsFrom 0 (plan .lists)) (flat (plan .lists)) lent
+
+unfoldable pub analysisTests : List (AnalysisCall → Verdict)
+analysisTests =
+    map (λ test call. test (call .job)) jobTests
+    ++ ((λ call. lengthsTest (call .job .n) (call .lent))
+    ∷ (λ call. factorRowsTest (length (flat (planOf (call .job) .lists))) (call .lent))
+    ∷ (λ call. peakTest (call .job .limit) (planOf (call .job) .peak))
+    ∷ [])
+
+unfoldable pub analysisDone : AnalysisCall → Outcome Lent
+analysisDone call = let plan = planOf (call .job) in record { answer = answer 0 0 (plan .peak); lent = holdingPlan (call .job) plan (call .lent) }
+
+unfoldable pub analysed : Job → Lent → Outcome Lent
+analysed job lent = outcome analysisTests analysisDone allZero (record { job = job; lent = lent }) lent
+
+-- ---- a plan: as an analysis, then 10
+
+pub record PlanLent : Type 0 where
+  pub lent : Lent
+  pub bytes : List ℕ
+
+pub record PlanCall : Type 0 where
+  pub job : Job
+  pub slices : PlanLent
+
+unfoldable pub planTests : List (PlanCall → Verdict)
+planTests =
+    map (λ test call. test (record { job = call .job; lent = call .slices .lent })) analysisTests
+    ++ ((λ call. bytesTest (planBytes (call .job) (planOf (call .job))) (call .slices .bytes)) ∷ [])
+
+unfoldable pub planDone : PlanCall → Outcome PlanLent
+planDone call =
+    let plan = planOf (call .job) in
+    let written = planBytes (call .job) plan in
+    record {
+      answer = answer 0 0 (length written);
+      lent = record { lent = holdingPlan (call .job) plan (call .slices .lent); bytes = thenZeros written (call .slices .bytes) };
+    }
+
+unfoldable pub planZero : PlanLent → PlanLent
+planZero slices = record { lent = allZero (slices .lent); bytes = zeros (slices .bytes) }
+
+unfoldable pub planWritten : Job → PlanLent → Outcome PlanLent
+planWritten job slices = outcome planTests planDone planZero (record { job = job; slices = slices }) slices

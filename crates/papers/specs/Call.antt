@@ -1,0 +1,54 @@
+-- Readable keys, and the solver's call.
+-- Assumes nothing.
+use Prim.Native.Nat.{ℕ, _+_, _*_, _^_}
+use mathlib.Core.Path.{_≡_}
+use mathlib.Core.Bool.{Bool, true, false, _||_}
+use mathlib.Core.List.{List, [], _∷_}
+use lib.Dec.{ltb}
+use lib.ListN.{length}
+use Rattle.papers.specs.Bounds.{edition, maxColumns, maxMark, maxLimit, textColumns, textRows}
+use Rattle.papers.specs.Lists.{flat, startsFrom}
+use Rattle.papers.specs.Job.{Job}
+use Rattle.papers.specs.Key.{keyOf}
+use Rattle.papers.specs.Plan.{Read, got, bad, then, field, readLists, atEnd}
+use Rattle.papers.specs.Refusals.{answer, untouched, zeroed, Verdict, passed, refused, first, refusedIf, jobTests}
+use Rattle.papers.specs.Check.{checked}
+use Rattle.papers.specs.Text.{buffers}
+use Rattle.papers.specs.declared.Answer.{Answer}
+
+-- a key is readable if it is the whole key of a job that passes 1 to 6, with nothing after
+pub record Readable (key : List ℕ) : Type 0 where
+  pub job : Job
+  pub passes : first jobTests job ≡ passed
+  pub whole : keyOf job ≡ key
+
+-- the job of a key, read through to its end
+unfoldable pub readKey : List ℕ → Read Job
+readKey s =
+    then (field edition edition s 0) λ e at. then (field 0 maxColumns s at) λ n at. then (field 0 maxMark s at) λ mark at. then (field 0 maxLimit s at) λ limit at. then (readLists n 1 n s at) λ lists at. atEnd (record { n = n; starts = startsFrom 0 lists; rows = flat lists; mark = mark; limit = limit }) s at
+
+pub record SolverCall : Type 0 where
+  pub key : List ℕ
+  pub plan : List ℕ
+
+-- 27: unreadable key
+unfoldable pub readableTest : SolverCall → Verdict
+readableTest call = elim (readKey (call .key)) [ got job at ↦ passed | bad number place ↦ refused (answer 27 0 0) untouched ]
+
+-- 26: more columns or pattern rows than the program's sizes
+unfoldable pub sizesTest : SolverCall → Verdict
+sizesTest call = elim (readKey (call .key)) [ got job at ↦ refusedIf (ltb textColumns (job .n) || ltb textRows (length (job .rows))) (answer 26 0 0) untouched | bad number place ↦ passed ]
+
+unfoldable pub callTests : List (SolverCall → Verdict)
+callTests = readableTest ∷ sizesTest ∷ []
+
+-- else the check, in the program's buffers
+unfoldable pub keyChecked : SolverCall → Answer
+keyChecked call = elim (readKey (call .key)) [ got job at ↦ checked job (call .plan) buffers .answer | bad number place ↦ answer 27 0 0 ]
+
+unfoldable pub solverAnswer : SolverCall → Answer
+solverAnswer call = elim (first callTests call) [ passed ↦ keyChecked call | refused a leaves ↦ a ]
+
+-- the one number that the solver's call answers
+unfoldable pub called : List ℕ → List ℕ → ℕ
+called key plan = let a = solverAnswer (record { key = key; plan = plan }) in a .number * 2 ^ 32 + a .place

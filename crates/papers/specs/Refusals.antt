@@ -1,0 +1,143 @@
+-- Refusals: an entry point's tests in order, the first that refuses decides. The tests of a job, of its lists and of lent slices.
+-- Assumes nothing.
+use Prim.Native.Nat.{ℕ, zero, suc, _+_}
+use mathlib.Core.Bool.{Bool, true, false, not, _||_}
+use mathlib.Core.List.{List, [], _∷_}
+use lib.Dec.{ltb, leb, eqb}
+use lib.ListN.{length}
+use Rattle.papers.specs.Bounds.{maxColumns, maxMark, maxLimit, workLength}
+use Rattle.papers.specs.Lists.{least, zeros, thenZeros}
+use Rattle.papers.specs.Job.{Job, start, columnOf}
+use Rattle.papers.specs.declared.Answer.{Answer}
+
+abbrev pub answer : ℕ → ℕ → ℕ → Answer
+answer number place count = record { number = number; place = place; count = count }
+
+-- what a refusal leaves in the lent slices: what stood there, or zeros
+pub data Leaves : Type 0 where
+  untouched : Leaves
+  zeroed : Leaves
+
+-- what a test finds: nothing to refuse; or a refusal, and what it leaves
+pub data Verdict : Type 0 where
+  passed : Verdict
+  refused : Answer → Leaves → Verdict
+
+-- the first test that refuses
+unfoldable pub first : {C : Type 0} → List (C → Verdict) → C → Verdict
+first [] call = passed
+first (test ∷ tests) call = elim (test call) [ passed ↦ first tests call | refused a leaves ↦ refused a leaves ]
+
+-- refused if the condition holds
+unfoldable pub refusedIf : Bool → Answer → Leaves → Verdict
+refusedIf holds a leaves = elim holds [ true ↦ refused a leaves | false ↦ passed ]
+
+-- refused at the least place, unless there is none
+unfoldable pub refusedAt : ℕ → ℕ → ℕ → Leaves → Verdict
+refusedAt number zero count leaves = passed
+refusedAt number (suc p) count leaves = refused (answer number (suc p) count) leaves
+
+-- ---- the whole outcome of a call: its answer, and what its lent slices then hold
+pub record Outcome (S : Type 0) : Type 0 where
+  pub answer : Answer
+  pub lent : S
+
+-- by the first test that refuses, or by what is done where none does
+unfoldable pub outcome : {C S : Type 0} → List (C → Verdict) → (C → Outcome S) → (S → S) → C → S → Outcome S
+outcome tests done zeroing call lent =
+    elim (first tests call) [
+      | passed ↦ done call
+      | refused a leaves ↦ record { answer = a; lent = elim leaves [ untouched ↦ lent | zeroed ↦ zeroing lent ] }
+    ]
+
+-- ---- a job: 1 to 6
+
+-- 1: n over 4,096
+unfoldable pub columnsTest : ℕ → Verdict
+columnsTest n = refusedIf (ltb maxColumns n) (answer 1 0 0) untouched
+
+-- 2: mark not 0, 1, 2
+unfoldable pub markTest : Job → Verdict
+markTest job = refusedIf (ltb maxMark (job .mark)) (answer 2 0 0) untouched
+
+-- 3: limit over 2^40
+unfoldable pub limitTest : Job → Verdict
+limitTest job = refusedIf (ltb maxLimit (job .limit)) (answer 3 0 0) untouched
+
+-- the start behind column j's rows lies before the one in front of them
+unfoldable pub falls : List ℕ → ℕ → Bool
+falls starts j = ltb (start starts (suc j)) (start starts j)
+
+-- 4: not n + 1 starts or first not 0 (place 0); a start falls (its column); last is not the row count (n)
+unfoldable pub startsTest : ℕ → List ℕ → List ℕ → Verdict
+startsTest n starts rows =
+    elim (eqb (length starts) (n + 1)) [
+      | false ↦ refused (answer 4 0 0) untouched
+      | true ↦ elim (eqb (start starts 1) 0) [
+        | false ↦ refused (answer 4 0 0) untouched
+        | true ↦ elim (least (falls starts) n) [
+          | suc j ↦ refused (answer 4 (suc j) 0) untouched
+          | zero ↦ refusedIf (not (eqb (start starts (suc n)) (length rows))) (answer 4 n 0) untouched
+        ]
+      ]
+    ]
+
+-- the fault of row r of column j: 5 not above its column, or over n; 6 not above the one before it; 0 for none. Both is 5.
+unfoldable pub rowFault : ℕ → ℕ → ℕ → ℕ → ℕ
+rowFault n j before r = elim (leb r j) [ true ↦ 5 | false ↦ elim (ltb n r) [ true ↦ 5 | false ↦ elim (leb r before) [ true ↦ 6 | false ↦ 0 ] ] ]
+
+-- the first fault of the rows of column j. The first row has none before it: j stands for it, since a row not above j is 5.
+unfoldable pub rowsFault : ℕ → ℕ → ℕ → List ℕ → ℕ
+rowsFault n j before [] = 0
+rowsFault n j before (r ∷ rs) = elim (rowFault n j before r) [ zero ↦ rowsFault n j r rs | suc f ↦ suc f ]
+
+unfoldable pub columnFault : ℕ → List ℕ → List ℕ → ℕ → ℕ
+columnFault n starts rows j = rowsFault n j j (columnOf starts rows j)
+
+-- 5 and 6, the first faulty row in reading order
+unfoldable pub rowsTest : ℕ → List ℕ → List ℕ → Verdict
+rowsTest n starts rows =
+    let j = least (λ j. ltb 0 (columnFault n starts rows j)) n in
+    refusedAt (columnFault n starts rows j) j 0 untouched
+
+-- the tests of a job, in order
+unfoldable pub jobTests : List (Job → Verdict)
+jobTests = (λ job. columnsTest (job .n)) ∷ markTest ∷ limitTest ∷ (λ job. startsTest (job .n) (job .starts) (job .rows)) ∷ (λ job. rowsTest (job .n) (job .starts) (job .rows)) ∷ []
+
+-- ---- lent slices
+
+-- the outputs and the work of an analysis or a check
+pub record Lent : Type 0 where
+  pub parents : List ℕ
+  pub order : List ℕ
+  pub pops : List ℕ
+  pub factorStarts : List ℕ
+  pub factorRows : List ℕ
+  pub work : List ℕ
+
+-- all of each lent slice zero
+unfoldable pub allZero : Lent → Lent
+allZero lent =
+    record { parents = zeros (lent .parents); order = zeros (lent .order); pops = zeros (lent .pops); factorStarts = zeros (lent .factorStarts); factorRows = zeros (lent .factorRows); work = zeros (lent .work) }
+
+-- outputs hold the result, then zeros; work is zero
+unfoldable pub holding : List ℕ → List ℕ → List ℕ → List ℕ → List ℕ → Lent → Lent
+holding parents order pops starts rows lent =
+    record { parents = thenZeros parents (lent .parents); order = thenZeros order (lent .order); pops = thenZeros pops (lent .pops); factorStarts = thenZeros starts (lent .factorStarts); factorRows = thenZeros rows (lent .factorRows); work = zeros (lent .work) }
+
+-- 7: a lent slice below its fixed length
+unfoldable pub lengthsTest : ℕ → Lent → Verdict
+lengthsTest n lent =
+    refusedIf (ltb (length (lent .parents)) n || ltb (length (lent .order)) n || ltb (length (lent .pops)) n || ltb (length (lent .factorStarts)) (n + 1) || ltb (length (lent .work)) (workLength n)) (answer 7 0 0) untouched
+
+-- 8: factor rows exceed the lent slice
+unfoldable pub factorRowsTest : ℕ → Lent → Verdict
+factorRowsTest needed lent = refusedIf (ltb (length (lent .factorRows)) needed) (answer 8 0 needed) zeroed
+
+-- 9: peak over the limit
+unfoldable pub peakTest : ℕ → ℕ → Verdict
+peakTest limit peak = refusedIf (ltb limit peak) (answer 9 0 peak) zeroed
+
+-- 10: byte slice too short for key or plan
+unfoldable pub bytesTest : List ℕ → List ℕ → Verdict
+bytesTest written bytes = refusedIf (ltb (length bytes) (length written)) (answer 10 0 (length written)) zeroed

@@ -1,0 +1,116 @@
+-- The whole outcome of a run of steps on a stack of updates.
+-- Assumes nothing.
+use Prim.Native.Nat.{ℕ, zero, suc, _-_, max}
+use mathlib.Core.Bool.{Bool, true, false, not, _&&_, _||_}
+use mathlib.Core.List.{List, [], _∷_, map}
+use lib.Dec.{ltb, leb}
+use lib.ListN.{length, getD, take, drop}
+use Rattle.papers.specs.Lists.{member, every, least, zeros}
+use Rattle.papers.specs.Job.{columnOf}
+use Rattle.papers.specs.Tree.{t}
+use Rattle.papers.specs.Room.{roomAt}
+use Rattle.papers.specs.Order.{columnAt}
+use Rattle.papers.specs.Refusals.{answer, untouched, zeroed, Verdict, refusedIf, refusedAt, Outcome, outcome, columnsTest, startsTest, rowsTest}
+
+-- n, factor starts and rows, columns, pops, a room, a stack slice
+pub record RunCall : Type 0 where
+  pub n : ℕ
+  pub starts : List ℕ
+  pub rows : List ℕ
+  pub columns : List ℕ
+  pub pops : List ℕ
+  pub room : ℕ
+  pub stack : List ℕ
+
+-- the columns whose updates are held, the top one first; the greatest room in use of the steps done
+pub record State : Type 0 where
+  pub held : List ℕ
+  pub greatest : ℕ
+
+module _ (call : RunCall) where
+  -- the rows of column c
+  unfoldable pub rowsIn : ℕ → List ℕ
+  rowsIn c = columnOf (call .starts) (call .rows) c
+
+  -- the pops of step s
+  unfoldable pub popsAt : ℕ → ℕ
+  popsAt s = getD (call .pops) (s - 1) 0
+
+  -- the entries of each update held
+  unfoldable pub entries : List ℕ → List ℕ
+  entries held = map (λ c. t (length (rowsIn c))) held
+
+  -- room in use at step s
+  unfoldable pub roomIn : ℕ → State → ℕ
+  roomIn s state = roomAt (popsAt s) (length (rowsIn (columnAt (call .columns) s))) (entries (state .held))
+
+  -- every row of every popped update stands in the front of c
+  unfoldable pub fits : ℕ → List ℕ → Bool
+  fits c popped = every (λ u. every (λ i. member i (c ∷ rowsIn c)) (rowsIn u)) popped
+
+  -- the fault of step s: 14 column not in 1..n; 21 pops more than held; 22 a popped row outside the front; 23 room in use over the room given;
+  -- 0 for none
+  unfoldable pub stepFault : ℕ → State → ℕ
+  stepFault s state =
+      let c = columnAt (call .columns) s in
+      elim (leb 1 c && leb c (call .n)) [
+        | false ↦ 14
+        | true ↦ elim (ltb (length (state .held)) (popsAt s)) [
+          | true ↦ 21
+          | false ↦ elim (fits c (take (popsAt s) (state .held))) [
+            | false ↦ 22
+            | true ↦ elim (ltb (call .room) (roomIn s state)) [ true ↦ 23 | false ↦ 0 ]
+          ]
+        ]
+      ]
+
+  -- the update of c on top; a root, of no rows, leaves nothing
+  unfoldable pub pushed : ℕ → List ℕ → List ℕ
+  pushed c held = elim (rowsIn c) [ [] ↦ held | r ∷ rs ↦ c ∷ held ]
+
+  -- what step s makes of the state
+  unfoldable pub stepped : ℕ → State → State
+  stepped s state =
+      record { held = pushed (columnAt (call .columns) s) (drop (popsAt s) (state .held)); greatest = max (state .greatest) (roomIn s state) }
+
+  -- after the first s steps
+  unfoldable pub stateAfter : ℕ → State
+  stateAfter zero = record { held = []; greatest = 0 }
+  stateAfter (suc s) = stepped (suc s) (stateAfter s)
+
+  -- the fault of step s, the steps before it done
+  unfoldable pub faultAt : ℕ → ℕ
+  faultAt s = stepFault s (stateAfter (s - 1))
+
+-- 7: columns, pops or stack slice shorter than n
+unfoldable pub runLengthsTest : RunCall → Verdict
+runLengthsTest call =
+    let n = call .n in
+    refusedIf (ltb (length (call .columns)) n || ltb (length (call .pops)) n || ltb (length (call .stack)) n) (answer 7 0 0) untouched
+
+-- 14, 21, 22, 23 of the first step at fault; the count is of the steps fully done
+unfoldable pub stepsTest : RunCall → Verdict
+stepsTest call =
+    let s = least (λ s. ltb 0 (faultAt call s)) (call .n) in
+    refusedAt (faultAt call s) s (stateAfter call (s - 1) .greatest) zeroed
+
+-- 24: updates left
+unfoldable pub leftTest : RunCall → Verdict
+leftTest call = let state = stateAfter call (call .n) in refusedIf (ltb 0 (length (state .held))) (answer 24 (call .n) (state .greatest)) zeroed
+
+-- 1, 4, 5, 6, 7, then the steps, then 24
+unfoldable pub runTests : List (RunCall → Verdict)
+runTests =
+    (λ call. columnsTest (call .n))
+    ∷ (λ call. startsTest (call .n) (call .starts) (call .rows))
+    ∷ (λ call. rowsTest (call .n) (call .starts) (call .rows))
+    ∷ runLengthsTest
+    ∷ stepsTest
+    ∷ leftTest
+    ∷ []
+
+unfoldable pub runDone : RunCall → Outcome (List ℕ)
+runDone call = record { answer = answer 0 0 (stateAfter call (call .n) .greatest); lent = zeros (call .stack) }
+
+unfoldable pub ran : RunCall → Outcome (List ℕ)
+ran call = outcome runTests runDone zeros call (call .stack)

@@ -1,0 +1,229 @@
+-- The job text that the listing program reads, and the listing that it prints.
+-- Assumes nothing.
+use Prim.Native.Nat.{ℕ, zero, suc, _+_, _-_, _*_, _/_, _%_}
+use mathlib.Core.Bool.{Bool, true, false, not, _&&_, _||_}
+use mathlib.Core.List.{List, [], _∷_, _++_, map, flatMap}
+use lib.Dec.{ltb, leb, eqb}
+use lib.ListN.{length, getD, replicate, take}
+use Rattle.papers.specs.Bounds.{textBytes, textColumns, textRows, textFactorRows, workLength, maxDigits, defaultMark, listingBytes}
+use Rattle.papers.specs.Lists.{every, upTo, least, flat, startsFrom, zeros, thenZeros}
+use Rattle.papers.specs.Job.{Job, Pattern, pattern}
+use Rattle.papers.specs.Fill.{R}
+use Rattle.papers.specs.Order.{popsOf, orderOf, roomsOf}
+use Rattle.papers.specs.Refusals.{answer, untouched, Verdict, passed, refused, first, refusedIf, refusedAt, Outcome, outcome, Lent}
+use Rattle.papers.specs.Analysis.{analysed}
+use Rattle.papers.specs.declared.Answer.{Answer}
+
+-- bytes that have a meaning: newline, space, the digits 0 to 9
+abbrev pub newline : ℕ
+newline = 10
+
+abbrev pub space : ℕ
+space = 32
+
+abbrev pub digit : ℕ → ℕ
+digit d = 48 + d
+
+unfoldable pub isDigit : ℕ → Bool
+isDigit b = leb (digit 0) b && leb b (digit 9)
+
+-- ---- lines
+
+-- a line without its newline, and what follows it; or no newline
+pub data Cut : Type 0 where
+  line : List ℕ → List ℕ → Cut
+  unended : Cut
+
+unfoldable pub after : ℕ → Cut → Cut
+after b (line l rest) = line (b ∷ l) rest
+after b unended = unended
+
+unfoldable pub cut : List ℕ → Cut
+cut [] = unended
+cut (b ∷ bs) = elim (eqb b newline) [ true ↦ line [] bs | false ↦ after b (cut bs) ]
+
+-- what follows the first q lines
+unfoldable pub afterLines : ℕ → List ℕ → List ℕ
+afterLines zero text = text
+afterLines (suc q) text = elim (cut (afterLines q text)) [ line l rest ↦ rest | unended ↦ [] ]
+
+-- ---- numbers of a line
+
+-- the words of a line, which stand between single spaces
+unfoldable pub onWord : ℕ → List (List ℕ) → List (List ℕ)
+onWord b [] = (b ∷ []) ∷ []
+onWord b (w ∷ ws) = (b ∷ w) ∷ ws
+
+unfoldable pub wordsOf : List ℕ → List (List ℕ)
+wordsOf [] = [] ∷ []
+wordsOf (b ∷ bs) = elim (eqb b space) [ true ↦ [] ∷ wordsOf bs | false ↦ onWord b (wordsOf bs) ]
+
+-- a decimal: digits, at least one and at most 13, no leading zero before others
+unfoldable pub isDecimal : List ℕ → Bool
+isDecimal [] = false
+isDecimal (d ∷ []) = isDigit d
+isDecimal (d ∷ e ∷ ds) = every isDigit (d ∷ e ∷ ds) && not (eqb d (digit 0)) && leb (length (d ∷ e ∷ ds)) maxDigits
+
+unfoldable pub allDecimal : List (List ℕ) → Bool
+allDecimal [] = true
+allDecimal (w ∷ ws) = isDecimal w && allDecimal ws
+
+-- the value of digits behind a number
+unfoldable pub valueOf : ℕ → List ℕ → ℕ
+valueOf v [] = v
+valueOf v (d ∷ ds) = valueOf (10 * v + (d - digit 0)) ds
+
+unfoldable pub numbersOf : List ℕ → List ℕ
+numbersOf l = let words = wordsOf l in elim (allDecimal words) [ true ↦ map (valueOf 0) words | false ↦ [] ]
+
+-- the numbers of line q, the lines counted from 1; none where the line is missing, unended or not of decimals with one space between
+unfoldable pub numbersAt : List ℕ → ℕ → List ℕ
+numbersAt text q = elim (cut (afterLines (q - 1) text)) [ line l rest ↦ numbersOf l | unended ↦ [] ]
+
+-- ---- the first line: n and limit, or n, limit and mark
+
+pub record Head : Type 0 where
+  pub fine : Bool
+  pub n : ℕ
+  pub limit : ℕ
+  pub mark : ℕ
+
+abbrev pub badHead : Head
+badHead = record { fine = false; n = 0; limit = 0; mark = 0 }
+
+unfoldable pub headOf : List ℕ → Head
+headOf [] = badHead
+headOf (n ∷ []) = badHead
+headOf (n ∷ limit ∷ []) = record { fine = true; n = n; limit = limit; mark = defaultMark }
+headOf (n ∷ limit ∷ mark ∷ []) = record { fine = true; n = n; limit = limit; mark = mark }
+headOf (n ∷ limit ∷ mark ∷ x ∷ xs) = badHead
+
+-- ---- a row line: a row count and that many rows
+
+unfoldable pub rowsOfLine : List ℕ → List ℕ
+rowsOfLine [] = []
+rowsOfLine (count ∷ rows) = rows
+
+unfoldable pub isRowLine : List ℕ → Bool
+isRowLine [] = false
+isRowLine (count ∷ rows) = eqb count (length rows)
+
+-- ---- the job of a text: column j's rows stand in line j + 1
+
+unfoldable pub textHead : List ℕ → Head
+textHead text = headOf (numbersAt text 1)
+
+unfoldable pub textLists : List ℕ → ℕ → List (List ℕ)
+textLists text n = map (λ j. rowsOfLine (numbersAt text (suc j))) (upTo n)
+
+unfoldable pub textJob : List ℕ → Job
+textJob text =
+    let head = textHead text in
+    let lists = textLists text (head .n) in
+    record { n = head .n; starts = startsFrom 0 lists; rows = flat lists; mark = head .mark; limit = head .limit }
+
+-- ---- 25 and 26, by the first line at fault
+
+-- what standard input held: at most 8,192 bytes of it, and whether more followed
+pub record Input : Type 0 where
+  pub text : List ℕ
+  pub more : Bool
+
+-- 26 at 0: more input than 8,192 bytes
+unfoldable pub inputTest : Input → Verdict
+inputTest input = refusedIf (input .more || ltb textBytes (length (input .text))) (answer 26 0 0) untouched
+
+-- line 1: 25 bad text, then 26 more than 256 columns
+unfoldable pub headTest : Input → Verdict
+headTest input =
+    let head = textHead (input .text) in
+    elim (head .fine) [ false ↦ refused (answer 25 1 0) untouched | true ↦ refusedIf (ltb textColumns (head .n)) (answer 26 1 0) untouched ]
+
+-- the fault of column j's line: 25 missing or bad text, then 26 more than 2,048 pattern rows with those of the lines before; 0 for none
+unfoldable pub lineFault : List ℕ → ℕ → ℕ
+lineFault text j =
+    elim (isRowLine (numbersAt text (suc j))) [ false ↦ 25 | true ↦ elim (ltb textRows (length (flat (textLists text j)))) [ true ↦ 26 | false ↦ 0 ] ]
+
+-- the first of the n row lines at fault; column j's is line j + 1
+unfoldable pub rowLinesTest : Input → Verdict
+rowLinesTest input =
+    elim (least (λ j. ltb 0 (lineFault (input .text) j)) (textHead (input .text) .n)) [
+      | zero ↦ passed
+      | suc j ↦ refused (answer (lineFault (input .text) (suc j)) (suc (suc j)) 0) untouched
+    ]
+
+-- 25 at line n + 2: text after the last row line
+unfoldable pub endTest : Input → Verdict
+endTest input =
+    let n = textHead (input .text) .n in
+    refusedIf (ltb 0 (length (afterLines (suc n) (input .text)))) (answer 25 (n + 2) 0) untouched
+
+unfoldable pub textTests : List (Input → Verdict)
+textTests = inputTest ∷ headTest ∷ rowLinesTest ∷ endTest ∷ []
+
+-- ---- what is printed
+
+unfoldable pub digitsOf : ℕ → ℕ → List ℕ
+digitsOf zero x = digit (x % 10) ∷ []
+digitsOf (suc f) x = elim (ltb x 10) [ true ↦ digit x ∷ [] | false ↦ digitsOf f (x / 10) ++ (digit (x % 10) ∷ []) ]
+
+-- a number in decimal
+unfoldable pub decimalOf : ℕ → List ℕ
+decimalOf x = digitsOf x x
+
+-- a line: a first word, then numbers, one space between, a newline at the end
+unfoldable pub printed : List ℕ → List ℕ → List ℕ
+printed word [] = word ++ (newline ∷ [])
+printed word (x ∷ xs) = word ++ (space ∷ printed (decimalOf x) xs)
+
+-- `plan`
+abbrev pub wordPlan : List ℕ
+wordPlan = 112 ∷ 108 ∷ 97 ∷ 110 ∷ []
+
+-- `refused`
+abbrev pub wordRefused : List ℕ
+wordRefused = 114 ∷ 101 ∷ 102 ∷ 117 ∷ 115 ∷ 101 ∷ 100 ∷ []
+
+unfoldable pub refusalLine : Answer → List ℕ
+refusalLine a = printed wordRefused (a .number ∷ a .place ∷ a .count ∷ [])
+
+-- a line per step: column, pops, room in use, rows of R
+unfoldable pub stepLines : ℕ → Pattern → List ℕ → List ℕ → List ℕ
+stepLines n A [] rooms = []
+stepLines n A (j ∷ js) [] = []
+stepLines n A (j ∷ js) (room ∷ rooms) = printed (decimalOf j) (popsOf n A j ∷ room ∷ R A j) ++ stepLines n A js rooms
+
+-- a header, then the steps
+unfoldable pub listingOf : Job → ℕ → List ℕ
+listingOf job peak =
+    let order = orderOf (job .mark) (job .n) (pattern job) in
+    printed wordPlan (job .n ∷ job .mark ∷ peak ∷ []) ++ stepLines (job .n) (pattern job) order (roomsOf (job .n) (pattern job) order)
+
+-- the program's zeroed buffers
+unfoldable pub buffers : Lent
+buffers =
+    record { parents = replicate textColumns 0; order = replicate textColumns 0; pops = replicate textColumns 0; factorStarts = replicate (textColumns + 1) 0; factorRows = replicate textFactorRows 0; work = replicate (workLength textColumns) 0 }
+
+-- the listing of a job, or the line of its refusal
+unfoldable pub jobPrinted : Job → Answer → List ℕ
+jobPrinted job a = elim (a .number) [ zero ↦ listingOf job (a .count) | suc k ↦ refusalLine a ]
+
+-- what the program prints: a text's faults come before its job's
+unfoldable pub programPrints : Input → List ℕ
+programPrints input =
+    elim (first textTests input) [ passed ↦ jobPrinted (textJob (input .text)) (analysed (textJob (input .text)) buffers .answer) | refused a leaves ↦ refusalLine a ]
+
+-- ---- the listing into a lent slice: 7 where it is shorter than any listing may need
+
+pub record ListingCall : Type 0 where
+  pub input : Input
+  pub bytes : List ℕ
+
+unfoldable pub listingTests : List (ListingCall → Verdict)
+listingTests = (λ call. refusedIf (ltb (length (call .bytes)) listingBytes) (answer 7 0 0) untouched) ∷ []
+
+unfoldable pub listingDone : ListingCall → Outcome (List ℕ)
+listingDone call = let out = programPrints (call .input) in record { answer = answer 0 0 (length out); lent = thenZeros out (call .bytes) }
+
+unfoldable pub listed : Input → List ℕ → Outcome (List ℕ)
+listed input bytes = outcome listingTests listingDone zeros (record { input = input; bytes = bytes }) bytes
