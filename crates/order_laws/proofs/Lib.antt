@@ -1,2 +1,11 @@
 pub mod Triangles
 pub mod Rooms
+pub mod Trees
+pub mod Subtrees
+pub mod Reversed
+pub mod Forests
+pub mod Steps
+pub mod Pieces
+pub mod Ordering
+pub mod Arranged
+pub mod Orders
