@@ -23,6 +23,11 @@ pub data Verdict : Type 0 where
   passed : Verdict
   refused : Answer → Leaves → Verdict
 
+-- the answer of a verdict: number 0 where nothing is refused
+unfoldable pub answerOf : Verdict → Answer
+answerOf passed = answer 0 0 0
+answerOf (refused a leaves) = a
+
 -- the first test that refuses
 unfoldable pub first : {C : Type 0} → List (C → Verdict) → C → Verdict
 first [] call = passed

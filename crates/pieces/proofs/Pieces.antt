@@ -1,0 +1,154 @@
+-- The pieces of the paper's bench that are to be proved, and its other worked examples: ONE claim over a list, by computation, each piece
+-- through the definition of the entry point that it speaks of.
+-- Assumes nothing.
+use Prim.Native.Nat.{ℕ, suc, _+_}
+use mathlib.Core.Path.{_≡_, refl}
+use mathlib.Core.Bool.{Bool, true, false, _&&_}
+use mathlib.Core.List.{List, [], _∷_, flatMap}
+use lib.Dec.{eqb}
+use lib.ListN.{length, replicate, take, drop}
+use Rattle.papers.specs.Bounds.{workLength}
+use Rattle.papers.specs.Lists.{upTo, head0, member, same, every, keep, sum, greatest, merge, insert, sort, least, flat, startsFrom, thenZeros}
+use Rattle.papers.specs.Numbers.{groupsOf, bytesOf, encode, over, lastGroup, readFrom, readNumber}
+use Rattle.papers.specs.Job.{Job, start, columnOf, pattern}
+use Rattle.papers.specs.Fill.{gather, lists, R}
+use Rattle.papers.specs.Tree.{parent, t, children, isUnder, subtreeOf}
+use Rattle.papers.specs.Room.{topUpdate, roomAt, heldAfter, rooms, peakOf}
+use Rattle.papers.specs.Order.{columnAt, siblingKey, alone, arranged, stepsOf, orderOf, peak}
+use Rattle.papers.specs.Key.{gapsOf, listNumbers, listsNumbers, listsOf, keyNumbers, keyOf}
+use Rattle.papers.specs.Plan.{planOf, stepNumbers, planNumbers, planBytes, then, onto, inField, field, readStep, readSteps, readRows, readList, readLists, atEnd, readPlan}
+use Rattle.papers.specs.Refusals.{answer, Lent, first, refusedIf, refusedAt, outcome, columnsTest, markTest, limitTest, falls, startsTest, rowFault, rowsFault, columnFault, rowsTest, jobTests, allZero, holding, lengthsTest, factorRowsTest, peakTest, bytesTest}
+use Rattle.papers.specs.Analysis.{holdingPlan, analysisTests, analysisDone, analysed, planTests, planDone, planZero, planWritten}
+use Rattle.papers.specs.Check.{keyDiffers, keyTest, planRead, readTest, repeated, repeatTest, listTest, scattered, subtreeTest, popsTest, truePeak, declaredTest, ofPlan, checkTests, checkDone, checked}
+use Rattle.papers.specs.declared.Answer.{Answer}
+
+-- ---- what a piece says
+
+-- a job by its columns' rows
+jobOf : ℕ → ℕ → ℕ → List (List ℕ) → Job
+unfolding flat startsFrom
+jobOf n mark limit columns = record { n = n; starts = startsFrom 0 columns; rows = flat columns; mark = mark; limit = limit }
+
+-- slices of the fixed lengths, and 64 factor rows
+lentFor : ℕ → Lent
+lentFor n =
+    record { parents = replicate n 0; order = replicate n 0; pops = replicate n 0; factorStarts = replicate (n + 1) 0; factorRows = replicate 64 0; work = replicate (workLength n) 0 }
+
+pub data Piece : Type 0 where
+  -- a number's bytes
+  number : ℕ → List ℕ → Piece
+  -- an analysis answers this
+  analysis : Job → Answer → Piece
+  -- an analysis gives this order
+  order : Job → List ℕ → Piece
+  -- an analysis gives R of a column, which starts at a place of the factor rows
+  fill : Job → ℕ → ℕ → List ℕ → Piece
+  -- a written plan has these bytes
+  plan : Job → List ℕ → Piece
+  -- the check of these bytes answers this
+  check : Job → List ℕ → Answer → Piece
+
+sameAnswer : Answer → Answer → Bool
+sameAnswer a b = eqb (a .number) (b .number) && eqb (a .place) (b .place) && eqb (a .count) (b .count)
+
+pub holds : Piece → Bool
+unfolding lentFor sameAnswer flatMap upTo head0 member same every keep sum greatest merge insert sort least flat startsFrom thenZeros groupsOf bytesOf encode over lastGroup readFrom readNumber start columnOf gather lists R parent t children isUnder subtreeOf topUpdate roomAt heldAfter rooms peakOf columnAt siblingKey alone arranged stepsOf orderOf peak gapsOf listNumbers listsNumbers listsOf keyNumbers keyOf planOf stepNumbers planNumbers planBytes then onto inField field readStep readSteps readRows readList readLists atEnd readPlan first refusedIf refusedAt outcome columnsTest markTest limitTest falls startsTest rowFault rowsFault columnFault rowsTest jobTests allZero holding lengthsTest factorRowsTest peakTest bytesTest holdingPlan analysisTests analysisDone analysed planTests planDone planZero planWritten keyDiffers keyTest planRead readTest repeated repeatTest listTest scattered subtreeTest popsTest truePeak declaredTest ofPlan checkTests checkDone checked
+holds (number x bytes) = same (bytesOf x) bytes
+holds (analysis job a) = sameAnswer (analysed job (lentFor (job .n)) .answer) a
+holds (order job columns) = same (analysed job (lentFor (job .n)) .lent .order) columns
+holds (fill job j at rows) =
+    same (R (pattern job) j) rows && same (take (length rows) (drop at (analysed job (lentFor (job .n)) .lent .factorRows))) rows
+holds (plan job bytes) =
+    let written = planWritten job (record { lent = lentFor (job .n); bytes = replicate (length bytes + 3) 7 }) in
+    sameAnswer (written .answer) (answer 0 0 (length bytes)) && same (take (length bytes) (written .lent .bytes)) bytes
+holds (check job bytes a) = sameAnswer (checked job bytes (lentFor (job .n)) .answer) a
+
+pub all : List Piece → Bool
+all [] = true
+all (p ∷ ps) = holds p && all ps
+
+-- ---- the jobs
+
+none : Job
+unfolding jobOf
+none = jobOf 0 0 0 []
+
+pair : ℕ → Job
+unfolding jobOf
+pair limit = jobOf 2 0 limit ((2 ∷ []) ∷ [] ∷ [])
+
+-- the pair's plan bytes: its limit, the two steps' columns and pops, the peak, what follows
+pairBytes : ℕ → ℕ → ℕ → ℕ → ℕ → ℕ → List ℕ → List ℕ
+pairBytes limit c₁ p₁ c₂ p₂ peak rest =
+    0x01 ∷ 0x02 ∷ 0x00 ∷ limit ∷ 0x01 ∷ 0x01 ∷ 0x00 ∷ c₁ ∷ p₁ ∷ c₂ ∷ p₂ ∷ 0x01 ∷ 0x01 ∷ 0x00 ∷ peak ∷ rest
+
+loose : Job
+unfolding jobOf
+loose = jobOf 3 0 100 ([] ∷ [] ∷ [] ∷ [])
+
+dense : Job
+unfolding jobOf
+dense = jobOf 3 0 100 ((2 ∷ 3 ∷ []) ∷ (3 ∷ []) ∷ [] ∷ [])
+
+filling : Job
+unfolding jobOf
+filling = jobOf 4 0 100 ((3 ∷ 4 ∷ []) ∷ (3 ∷ []) ∷ [] ∷ [] ∷ [])
+
+crossed : Job
+unfolding jobOf
+crossed = jobOf 4 0 100 ((3 ∷ []) ∷ (4 ∷ []) ∷ (4 ∷ []) ∷ [] ∷ [])
+
+star : Job
+unfolding jobOf
+star = jobOf 4 0 100 ((4 ∷ []) ∷ (4 ∷ []) ∷ (4 ∷ []) ∷ [] ∷ [])
+
+nine : ℕ → Job
+unfolding jobOf
+nine mark =
+    jobOf 9 mark 20 ((2 ∷ 8 ∷ 9 ∷ []) ∷ [] ∷ (4 ∷ 7 ∷ []) ∷ (8 ∷ 9 ∷ []) ∷ (6 ∷ 8 ∷ []) ∷ (7 ∷ []) ∷ (9 ∷ []) ∷ [] ∷ [] ∷ [])
+
+pub pieces : List Piece
+unfolding none pair pairBytes loose dense filling crossed star nine
+pieces =
+    -- n 0, limit 0
+    plan none (0x01 ∷ 0x00 ∷ 0x00 ∷ 0x00 ∷ 0x00 ∷ [])
+    ∷ check none (0x01 ∷ 0x00 ∷ 0x00 ∷ 0x00 ∷ 0x00 ∷ []) (answer 0 0 0)
+    -- n 2, column 1 {2}, limit 10
+    ∷ plan (pair 10) (pairBytes 0x0A 1 0 2 1 3 [])
+    ∷ check (pair 10) (pairBytes 0x0A 1 0 2 1 3 []) (answer 0 0 3)
+    -- that plan, for limit 11 and changed
+    ∷ check (pair 11) (pairBytes 0x0A 1 0 2 1 3 []) (answer 11 4 0)
+    ∷ check (pair 10) (pairBytes 0x0A 1 0 1 1 3 []) (answer 16 2 0)
+    ∷ check (pair 10) (pairBytes 0x0A 2 1 1 0 3 []) (answer 18 1 0)
+    ∷ check (pair 10) (pairBytes 0x0A 1 0 2 0 3 []) (answer 19 2 0)
+    ∷ check (pair 10) (pairBytes 0x0A 1 0 2 1 4 []) (answer 20 0 3)
+    ∷ check (pair 10) (pairBytes 0x0A 1 0 2 1 3 (0x00 ∷ [])) (answer 15 16 0)
+    -- limits 2 and 3, in the analysis and in the check
+    ∷ analysis (pair 2) (answer 9 0 3)
+    ∷ analysis (pair 3) (answer 0 0 3)
+    ∷ check (pair 2) (pairBytes 0x02 1 0 2 1 3 []) (answer 9 0 3)
+    ∷ check (pair 3) (pairBytes 0x03 1 0 2 1 3 []) (answer 0 0 3)
+    -- n 3: no rows, and dense
+    ∷ analysis loose (answer 0 0 1)
+    ∷ analysis dense (answer 0 0 6)
+    -- n 4: fill (4, 3); an order that is not ascending
+    ∷ analysis filling (answer 0 0 6)
+    ∷ fill filling 3 3 (4 ∷ [])
+    ∷ analysis crossed (answer 0 0 4)
+    ∷ order crossed (2 ∷ 1 ∷ 3 ∷ 4 ∷ [])
+    -- the star, and the nine columns with marks 0 and 1
+    ∷ analysis star (answer 0 0 5)
+    ∷ analysis (nine 0) (answer 0 0 15)
+    ∷ order (nine 0) (1 ∷ 2 ∷ 3 ∷ 4 ∷ 5 ∷ 6 ∷ 7 ∷ 8 ∷ 9 ∷ [])
+    ∷ analysis (nine 1) (answer 0 0 13)
+    ∷ order (nine 1) (3 ∷ 4 ∷ 5 ∷ 6 ∷ 7 ∷ 1 ∷ 2 ∷ 8 ∷ 9 ∷ [])
+    -- numbers
+    ∷ number 0 (0x00 ∷ [])
+    ∷ number 300 (0xAC ∷ 0x02 ∷ [])
+    ∷ number 1099511627776 (0x80 ∷ 0x80 ∷ 0x80 ∷ 0x80 ∷ 0x80 ∷ 0x20 ∷ [])
+    ∷ []
+
+-- every piece holds
+pub all-hold : all pieces ≡ true
+unfolding all holds pieces
+all-hold = refl
