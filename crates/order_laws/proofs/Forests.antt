@@ -9,10 +9,11 @@ use lib.Dec.{eqb}
 use borrow.Author.Tests.{eqb-true, eqb-false}
 use Rattle.papers.specs.Lists.{_∈_, Distinct}
 use Rattle.papers.specs.Tree.{Under, top, up}
+use Rattle.fill_laws.proofs.Subtrees.{under-trans, under-le}
 use Rattle.list_laws.proofs.Tests.{Test, passes, fails, test}
 use Rattle.order_laws.specs.Parents.{Tree}
 use Rattle.order_laws.specs.Done.{Ready, Valid}
-use Rattle.order_laws.proofs.Trees.{under-le, under-trans, under-child, through, apart}
+use Rattle.order_laws.proofs.Trees.{under-child, through, apart}
 use Rattle.order_laws.proofs.Reversed.{reverse-from, reversed-mem}
 
 module _ (par : ℕ → ℕ) where
@@ -69,7 +70,7 @@ module _ {par : ℕ → ℕ} {n : ℕ} (tree : Tree par n) where
       child-of : (c x : ℕ) → c ∈ cs → Under par c x → Under par j x × (x ≢ j)
       child-of c x m s =
           let e = k c .0 m in
-          (under-trans par j c x (under-child par j c z e) s, λ q. absurd (omega (arith, under-le tree c x s, tree .above c (omega arith))))
+          (under-trans par j c x (under-child par j c z e) s, λ q. absurd (omega (arith, under-le par (tree .above) c x s, tree .above c (omega arith))))
 
       proper : (x : ℕ) → x ∈ v → Under par j x × (x ≢ j)
       proper x m = let (c, u, s) = f .from x m in child-of c x u s

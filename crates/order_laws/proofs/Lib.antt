@@ -9,3 +9,4 @@ pub mod Pieces
 pub mod Ordering
 pub mod Arranged
 pub mod Orders
+pub mod Patterns

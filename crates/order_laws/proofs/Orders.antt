@@ -9,11 +9,12 @@ use lib.ListN.{length}
 use Rattle.papers.specs.Lists.{_∈_, Distinct, upTo}
 use Rattle.papers.specs.Tree.{children, Under}
 use Rattle.papers.specs.Order.{Ordered, arranged, stepsOf}
+use Rattle.fill_laws.proofs.Subtrees.{under-le}
 use Rattle.list_laws.proofs.Counts.{same-length}
 use Rattle.list_laws.proofs.UpTo.{upTo-range, upTo-into, upTo-distinct, length-upTo}
 use Rattle.order_laws.specs.Parents.{Tree}
 use Rattle.order_laws.specs.Done.{Valid}
-use Rattle.order_laws.proofs.Trees.{under-le, under-range, top-within, Rooted, rooted}
+use Rattle.order_laws.proofs.Trees.{under-range, top-within, Rooted, rooted}
 use Rattle.order_laws.proofs.Subtrees.{children-are, children-of, children-distinct}
 use Rattle.order_laws.proofs.Forests.{SubtreeOrder, ForestOrder, forest, column-last}
 use Rattle.order_laws.proofs.Arranged.{arranged-elements, arranged-distinct, steps-zero, steps-suc}
@@ -63,4 +64,4 @@ module _ {par : ℕ → ℕ} {n : ℕ} (tree : Tree par n) (mark : ℕ) (size : 
       into : (x : ℕ) → 1 ≤ x → x ≤ n → x ∈ flatMap (steps n) (children par n 0)
       into x l u =
           let r = rooted tree x in
-          roots-order .into (r .root) x (children-are par n 0 (r .root) .1 (omega (arith, under-le tree (r .root) x (r .under)), top-within tree (r .root) x u (r .under), r .free)) (r .under)
+          roots-order .into (r .root) x (children-are par n 0 (r .root) .1 (omega (arith, under-le par (tree .above) (r .root) x (r .under)), top-within tree (r .root) x u (r .under), r .free)) (r .under)

@@ -8,6 +8,7 @@ use native.Mathlib.Omega.{arith}
 use lib.Dec.{eqb}
 use borrow.Author.Tests.{eqb-true, eqb-false}
 use Rattle.papers.specs.Tree.{Under, top, up}
+use Rattle.fill_laws.proofs.Subtrees.{under-le}
 use Rattle.list_laws.proofs.Tests.{Test, passes, fails, test}
 use Rattle.order_laws.specs.Parents.{Tree}
 
@@ -16,10 +17,6 @@ module _ (par : ℕ → ℕ) where
   pub under-cases : (j x : ℕ) → Under par j x → (x ≡ j) ⊎ ((0 < par x) × Under par j (par x))
   under-cases j x top = inl refl
   under-cases j x (up z s) = inr (z, s)
-
-  pub under-trans : (j c x : ℕ) → Under par j c → Under par c x → Under par j x
-  under-trans j c x s top = s
-  under-trans j c x s (up z u) = up z (under-trans j c (par x) s u)
 
   pub under-child : (j c : ℕ) → 0 < j → par c ≡ j → Under par j c
   under-child j c z e = up {k = c} (omega arith) (rw e top)
@@ -50,10 +47,6 @@ module _ (par : ℕ → ℕ) where
       go (inr v) ih = ih (v .1)
 
 module _ {par : ℕ → ℕ} {n : ℕ} (tree : Tree par n) where
-  pub under-le : (j x : ℕ) → Under par j x → x ≤ j
-  under-le j x top = omega arith
-  under-le j x (up z s) = omega (arith, under-le j (par x) s, tree .above x z)
-
   -- two children of one column have nothing in common
   pub apart : (j c d x : ℕ) → par c ≡ j → par d ≡ j → c ≢ d → Under par c x → Under par d x → ⊥
   apart j c d x p q h s u = go (chain par c d x s u)
@@ -63,7 +56,7 @@ module _ {par : ℕ → ℕ} {n : ℕ} (tree : Tree par n) where
         where
           next : (d ≡ c) ⊎ ((0 < par d) × Under par c (par d)) → ⊥
           next (inl e) = h (sym e)
-          next (inr v) = omega (arith, under-le c (par d) (v .1), tree .above c (omega arith))
+          next (inr v) = omega (arith, under-le par (tree .above) c (par d) (v .1), tree .above c (omega arith))
 
       go : Under par c d ⊎ Under par d c → ⊥
       go (inl s) = over c d p q h s
@@ -71,7 +64,7 @@ module _ {par : ℕ → ℕ} {n : ℕ} (tree : Tree par n) where
 
   -- a subtree is made of columns
   pub under-range : (j x : ℕ) → 1 ≤ j → j ≤ n → Under par j x → (1 ≤ x) × (x ≤ n)
-  under-range j x l u s = (positive x s, omega (arith, under-le j x s))
+  under-range j x l u s = (positive x s, omega (arith, under-le par (tree .above) j x s))
     where
       positive : (x : ℕ) → Under par j x → 1 ≤ x
       positive x top = l
