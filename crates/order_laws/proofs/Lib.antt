@@ -10,3 +10,5 @@ pub mod Ordering
 pub mod Arranged
 pub mod Orders
 pub mod Patterns
+pub mod Greatest
+pub mod Peaks
