@@ -12,3 +12,4 @@ pub mod Orders
 pub mod Patterns
 pub mod Greatest
 pub mod Peaks
+pub mod RoomBounds
