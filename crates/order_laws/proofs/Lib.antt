@@ -13,3 +13,7 @@ pub mod Patterns
 pub mod Greatest
 pub mod Peaks
 pub mod RoomBounds
+pub mod Frames
+pub mod Alone
+pub mod Needs
+pub mod Works
