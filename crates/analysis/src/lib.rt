@@ -1,0 +1,1 @@
+// The analysis of a job: its entry point.

@@ -1,0 +1,1 @@
+// Pops, room in use and the peak of an order.

@@ -1,0 +1,1 @@
+// The exact number of factor rows, counted without storing a list.
