@@ -1,0 +1,4 @@
+pub mod Held
+pub mod Parents
+pub mod Done
+pub mod Subtrees
