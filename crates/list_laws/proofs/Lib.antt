@@ -7,3 +7,4 @@ pub mod Counts
 pub mod UpTo
 pub mod Stores
 pub mod Sorts
+pub mod Leasts
