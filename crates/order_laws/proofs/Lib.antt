@@ -17,3 +17,4 @@ pub mod Frames
 pub mod Alone
 pub mod Needs
 pub mod Works
+pub mod TogetherTest
