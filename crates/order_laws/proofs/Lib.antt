@@ -18,3 +18,5 @@ pub mod Alone
 pub mod Needs
 pub mod Works
 pub mod TogetherTest
+pub mod Waiting
+pub mod Takes
