@@ -1,3 +1,4 @@
 pub mod Agreements
 pub mod Exactly
 pub mod Tests
+pub mod Job
