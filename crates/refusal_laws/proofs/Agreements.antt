@@ -30,6 +30,10 @@ agree-passed-iff v K h = (λ p a k. refused-passed (h a .1 k .1) p, go v refl)
     go passed q f = q
     go (refused a l) q f = absurd (f a (h a .0 (l, q)))
 
+-- a condition said otherwise
+pub agree-same : (v : Verdict) {K L : Answer → Type 0} → Agree v K → ((a : Answer) → K a ↔ L a) → Agree v L
+agree-same v h i a = (λ r. i a .0 (h a .0 r), λ x. h a .1 (i a .1 x))
+
 -- a verdict that refuses with each answer of a condition, and passes if there is none
 pub agree-by : (v : Verdict) (K : Answer → Type 0) → ((a : Answer) → K a → Refuses v a) → (v ≡ passed) ⊎ ((a : Answer) × K a) → Agree v K
 agree-by v K gives d a = (λ r. there r d, gives a)
