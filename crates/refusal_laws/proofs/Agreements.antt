@@ -7,7 +7,7 @@ use mathlib.Core.List.{List, [], _∷_, _++_, map}
 use Rattle.papers.specs.declared.Answer.{Answer}
 use Rattle.papers.specs.Refusals.{Leaves, Verdict, passed, refused, answerOf, first}
 use Rattle.papers.specs.Conditions.{Condition, Answered, Unrefused, of}
-use Rattle.job_laws.proofs.Firsts.{refused-passed, first-passes, first-refuses}
+use Rattle.job_laws.proofs.Firsts.{refused-passed, first-passes, first-refuses, first-map}
 
 -- a verdict refuses with answer a, whatever it leaves
 abbrev pub Refuses : Verdict → Answer → Type 0
@@ -91,19 +91,22 @@ module _ {C : Type 0} where
 
   -- ---- lists of tests put together
 
-  -- tests behind others need agree only where those pass
-  pub agree-append : (ts us : List (C → Verdict)) (Ks Ls : List (Condition C)) (call : C) → AgreeEach ts Ks call → (first ts call ≡ passed → AgreeEach us Ls call)
+  append-agree : (ts us : List (C → Verdict)) (Ks Ls : List (Condition C)) (call : C) → AgreeEach ts Ks call → (first ts call ≡ passed → AgreeEach us Ls call)
       → AgreeEach (ts ++ us) (Ks ++ Ls) call
   unfolding first
-  agree-append [] us [] Ls call h g = g refl
-  agree-append [] us (K ∷ Ks) Ls call h g = absurd h
-  agree-append (t ∷ ts) us [] Ls call h g = absurd h
-  agree-append (t ∷ ts) us (K ∷ Ks) Ls call h g = (h .0, λ p. agree-append ts us Ks Ls call (h .1 p) (λ q. g (first-passes t ts call p ∙ q)))
+  append-agree [] us [] Ls call h g = g refl
+  append-agree [] us (K ∷ Ks) Ls call h g = absurd h
+  append-agree (t ∷ ts) us [] Ls call h g = absurd h
+  append-agree (t ∷ ts) us (K ∷ Ks) Ls call h g = (h .0, λ p. append-agree ts us Ks Ls call (h .1 p) (λ q. g (first-passes t ts call p ∙ q)))
 
-  -- tests of a part of the call
-  pub agree-part : {D : Type 0} (part : C → D) (ts : List (D → Verdict)) (Ks : List (Condition D)) (call : C) → AgreeEach ts Ks (part call)
-      → AgreeEach (map (λ test call. test (part call)) ts) (of part Ks) call
-  agree-part part [] [] call h = tt
-  agree-part part [] (K ∷ Ks) call h = absurd h
-  agree-part part (t ∷ ts) [] call h = absurd h
-  agree-part part (t ∷ ts) (K ∷ Ks) call h = (h .0, λ p. agree-part part ts Ks call (h .1 p))
+module _ {C D : Type 0} (part : C → D) where
+  part-agree : (ts : List (D → Verdict)) (Ks : List (Condition D)) (call : C) → AgreeEach ts Ks (part call) → AgreeEach (map (λ test call. test (part call)) ts) (of part Ks) call
+  part-agree [] [] call h = tt
+  part-agree [] (K ∷ Ks) call h = absurd h
+  part-agree (t ∷ ts) [] call h = absurd h
+  part-agree (t ∷ ts) (K ∷ Ks) call h = (h .0, λ p. part-agree ts Ks call (h .1 p))
+
+  -- tests of a part of the call, then others, which need agree only where those pass
+  pub agree-behind : (ts : List (D → Verdict)) (us : List (C → Verdict)) (Ks : List (Condition D)) (Ls : List (Condition C)) (call : C) → AgreeEach ts Ks (part call)
+      → (first ts (part call) ≡ passed → AgreeEach us Ls call) → AgreeEach (map (λ test call. test (part call)) ts ++ us) (of part Ks ++ Ls) call
+  agree-behind ts us Ks Ls call h g = append-agree _ us _ Ls call (part-agree ts Ks call h) (λ p. g (sym (first-map part ts call) ∙ p))

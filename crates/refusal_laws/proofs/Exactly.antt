@@ -5,13 +5,13 @@ use Prim.Native.Nat.{ℕ, _<_, _≤_}
 use mathlib.Core.Path.{_≡_, refl, sym, ap, _∙_}
 use mathlib.Core.Logic.{_↔_}
 use mathlib.Core.Bool.{Bool, true, false}
-use mathlib.Core.List.{List, _++_}
+use mathlib.Core.List.{List, _++_, map}
 use native.Mathlib.Omega.{arith}
 use Rattle.papers.specs.declared.Answer.{Answer}
 use Rattle.papers.specs.Refusals.{Leaves, untouched, zeroed, Verdict, passed, refused, answerOf, first, refusedIf, refusedAt, Outcome, outcome}
 use Rattle.papers.specs.Conditions.{Condition, Answered, Unrefused}
 use Rattle.refusal_laws.specs.Exactly.{Exactly}
-use Rattle.job_laws.proofs.Firsts.{refused-passed, first-append-passed, first-append-refused}
+use Rattle.job_laws.proofs.Firsts.{refused-passed, first-append-passed, first-append-refused, first-map}
 use Rattle.refusal_laws.proofs.Agreements.{Refuses, Agree, one-answer, AgreeEach, answered-iff, passed-iff}
 
 -- two outcomes that a contract allows, each being the one that it states, coincide
@@ -31,12 +31,17 @@ unfolding refusedIf
 leaving-if true a l h = h
 leaving-if false a l h = tt
 
-pub first-append-each : {C : Type 0} (P : Verdict → Type 0) (ts us : List (C → Verdict)) (call : C) → P (first ts call) → P (first us call) → P (first (ts ++ us) call)
-first-append-each P ts us call h g = go (first ts call) refl
+-- tests of a part of the call, then others
+pub leaving-behind : {C D : Type 0} (part : C → D) (ts : List (D → Verdict)) (us : List (C → Verdict)) (call : C) → Leaving (first ts (part call)) → Leaving (first us call)
+    → Leaving (first (map (λ test call. test (part call)) ts ++ us) call)
+leaving-behind {C} part ts us call h g = go (first ts (part call)) refl
   where
-    go : (v : Verdict) → first ts call ≡ v → P (first (ts ++ us) call)
-    go passed q = rw (first-append-passed ts us call q) g
-    go (refused a l) q = rw (first-append-refused ts us call q) (rw q at h)
+    front : List (C → Verdict)
+    front = map (λ test call. test (part call)) ts
+
+    go : (v : Verdict) → first ts (part call) ≡ v → Leaving (first (front ++ us) call)
+    go passed q = rw (first-append-passed front us call (first-map part ts call ∙ q)) g
+    go (refused a l) q = rw (first-append-refused front us call (first-map part ts call ∙ q)) (rw q at h)
 
 -- ---- the outcome
 

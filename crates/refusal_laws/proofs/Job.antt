@@ -1,4 +1,4 @@
--- The tests of a job's numbers and of its starts (1 to 4) against their conditions. Each way out of the test of the starts is one way in which starts
+-- The tests of a job (1 to 6) against their conditions. Each way out of the test of the starts is one way in which starts
 -- are bad, and starts that are bad in none are the ones that pass.
 -- Assumes nothing.
 use Prim.Native.Nat.{ℕ, zero, suc, _+_, _<_, _≤_}
@@ -13,12 +13,15 @@ use Rattle.papers.specs.declared.Answer.{Answer}
 use Rattle.papers.specs.Bounds.{maxColumns, maxMark, maxLimit}
 use Rattle.papers.specs.Lists.{least}
 use Rattle.papers.specs.Job.{Job, start}
-use Rattle.papers.specs.Refusals.{answer, untouched, passed, refused, falls, columnsTest, markTest, limitTest, startsTest}
-use Rattle.papers.specs.Conditions.{Columns, Least, ColumnsOver, MarkUnknown, LimitOver, Falls, BadStarts, miscounted, not-zero, falls as falls-at, last, StartsBad}
+use Rattle.papers.specs.Refusals.{answer, untouched, Verdict, passed, refused, first, falls, columnsTest, markTest, limitTest, startsTest, jobTests}
+use Rattle.papers.specs.Conditions.{Columns, columns, jobConditions, Least, ColumnsOver, MarkUnknown, LimitOver, Falls, BadStarts, miscounted, not-zero, falls as falls-at, last, StartsBad}
 use Rattle.list_laws.proofs.Leasts.{least-zero-iff}
+use Rattle.job_laws.proofs.Untouched.{Early, job-untouched}
 use Rattle.job_laws.proofs.Starts.{falls-false-iff, starts-few, starts-from, starts-fall, starts-end, starts-pass}
-use Rattle.refusal_laws.proofs.Agreements.{Agree, agree-by}
+use Rattle.refusal_laws.proofs.Agreements.{Agree, agree-by, AgreeEach}
+use Rattle.refusal_laws.proofs.Exactly.{Leaving}
 use Rattle.refusal_laws.proofs.Tests.{below-iff, agree-if, found-iff}
+use Rattle.refusal_laws.proofs.Rows.{rows-agree}
 
 -- 1
 pub columns-agree : (n : ℕ) → Agree (columnsTest n) (ColumnsOver n)
@@ -81,3 +84,22 @@ module _ (c : Columns) where
       go (yes a) (yes b) (suc j) z d = let (r, f, none) = least-fall j .0 z in four (suc j) (falls-at a b (r .0) (r .1) f none)
       go (yes a) (yes b) zero z (no d) = four (c .n) (last a b (no-fall .1 z) d)
       go (yes a) (yes b) zero z (yes d) = inl (starts-pass (c .n) (c .starts) (c .rows) a b z d)
+
+-- ---- 1 to 6
+
+pub job-agree : (job : Job) → AgreeEach jobTests jobConditions job
+unfolding jobTests
+job-agree job =
+    (columns-agree (job .n), λ p. (mark-agree job, λ p. (limit-agree job, λ p. (starts-agree (columns job), λ p. (rows-agree (columns job), λ p. tt)))))
+
+-- a refusal of 1 to 6 leaves what it must
+pub early-leaving : (v : Verdict) → Early v → Leaving v
+early-leaving passed h = tt
+early-leaving (refused a l) h = rw (h .0) (h .1, omega (arith, h .2))
+
+pub job-leaving : (job : Job) → Leaving (first jobTests job)
+job-leaving job = go (first jobTests job) refl
+  where
+    go : (v : Verdict) → first jobTests job ≡ v → Leaving v
+    go passed e = tt
+    go (refused a l) e = early-leaving (refused a l) (job-untouched job e)

@@ -1,5 +1,7 @@
 pub mod Agreements
 pub mod Exactly
 pub mod Tests
-pub mod Job
 pub mod Rows
+pub mod Job
+pub mod Slices
+pub mod Analysis
