@@ -5,3 +5,4 @@ pub mod Rows
 pub mod Job
 pub mod Slices
 pub mod Analysis
+pub mod Run

@@ -14,13 +14,18 @@ use Rattle.papers.specs.Conditions.{Least}
 use Rattle.list_laws.proofs.Tests.{Test, passes, fails, test, true-false}
 use Rattle.list_laws.proofs.Leasts.{least-zero-iff, least-found-iff}
 use Rattle.job_laws.proofs.Firsts.{refused-if, passed-if}
-use Rattle.refusal_laws.proofs.Agreements.{Refuses, Agree, agree-by}
+use Rattle.refusal_laws.proofs.Agreements.{Refuses, Agree, agree-same, agree-by}
 use Rattle.refusal_laws.proofs.Exactly.{Leaving}
 
 -- ---- comparisons
 
 pub below-iff : (x y : ℕ) → (ltb x y ≡ true) ↔ (x < y)
 below-iff x y = (ltb-true x y, lt-ltb x y)
+
+-- a test fails just where what it tests does not hold
+pub fails-iff : (b : Bool) {P : Type 0} → (b ≡ true) ↔ P → (b ≡ false) ↔ (¬ P)
+fails-iff true i = (λ e. absurd (true-false refl e), λ h. absurd (h (i .0 refl)))
+fails-iff false i = (λ e p. true-false (i .1 p) refl, λ h. refl)
 
 pub either-iff : (b c : Bool) {P Q : Type 0} → (b ≡ true) ↔ P → (c ≡ true) ↔ Q → ((b || c) ≡ true) ↔ (P ⊎ Q)
 either-iff true c p q = (λ e. inl (p .0 refl), λ h. refl)
@@ -76,6 +81,32 @@ module _ (f : ℕ → Bool) (n : ℕ) {P : ℕ → Type 0} (holds : (k : ℕ) �
       → Agree (let p = least f n in refusedAt (number p) p (count p) leaves) (λ a. (p : ℕ) × Least P n p × (a ≡ answer (number p) p (count p)))
   unfolding refusedAt
   agree-at number count leaves = agree-least _ (λ p. answer (number p) p (count p)) leaves (λ e. rw e) (λ p e. rw e)
+
+-- ---- refused with the fault of the least place that has one
+
+-- the fault of place k: none, or m just where `Bad k m`
+pub record Faults (fault : ℕ → ℕ) (Bad : ℕ → ℕ → Type 0) : Type 0 where
+  pub is : (k m : ℕ) → Bad k m → (fault k ≡ m) × (0 < m)
+  pub some : (k : ℕ) → (fault k ≡ 0) ⊎ Bad k (fault k)
+
+module _ {fault : ℕ → ℕ} {Bad : ℕ → ℕ → Type 0} (faults : Faults fault Bad) (n : ℕ) where
+  faulty-iff : (k : ℕ) → (ltb 0 (fault k) ≡ true) ↔ ((m : ℕ) × Bad k m)
+  faulty-iff k = (λ e. go (ltb-true 0 (fault k) e) (faults .some k), λ h. lt-ltb 0 (fault k) (let i = faults .is k (h .0) (h .1) in omega arith))
+    where
+      go : 0 < fault k → (fault k ≡ 0) ⊎ Bad k (fault k) → (m : ℕ) × Bad k m
+      go p (inl z) = absurd (omega arith)
+      go p (inr b) = (fault k, b)
+
+  -- a verdict that names the least place at fault, with its fault
+  pub agree-faults : (v : Verdict) (given : ℕ → ℕ → Answer) (leaves : Leaves) → (least (λ k. ltb 0 (fault k)) n ≡ 0 → v ≡ passed)
+      → ((p : ℕ) → least (λ k. ltb 0 (fault k)) n ≡ suc p → v ≡ refused (given (fault (suc p)) (suc p)) leaves)
+      → Agree v (λ a. (k m : ℕ) × ((1 ≤ k) × (k ≤ n)) × Bad k m × ((i m : ℕ) → 1 ≤ i → i < k → ¬ Bad i m) × (a ≡ given m k))
+  agree-faults v given leaves pass refuse =
+      agree-same v (agree-least (λ k. ltb 0 (fault k)) n (λ k l h. faulty-iff k) v (λ k. given (fault k) k) leaves pass refuse)
+      (λ a. (
+        λ (k, (r, (m, b), none), q). (k, m, r, b, λ i m l h x. none i l h (m, x), let e = faults .is k m b .0 in rw (← e) q),
+        λ (k, m, r, b, none, q). (k, (r, (m, b), λ i l h x. none i (x .0) l h (x .1)), let e = faults .is k m b .0 in rw e q),
+      ))
 
 pub leaving-at : (number p count : ℕ) (leaves : Leaves) → ((q : ℕ) → p ≡ suc q → Leaving (refused (answer number (suc q) count) leaves)) → Leaving (refusedAt number p count leaves)
 unfolding refusedAt
