@@ -1,13 +1,10 @@
 -- Writing a key, an analysis and the writing of a plan answer exactly by their conditions: each list of tests is the job's and what follows, and
 -- every test of it agrees with its condition.
 -- Assumes nothing.
-use mathlib.Core.Path.{_≡_, refl}
-use mathlib.Core.List.{List, [], _∷_, _++_, map}
-use lib.ListN.{length}
-use Rattle.papers.specs.Lists.{zeros, flat}
+use mathlib.Core.Path.{refl}
+use Rattle.papers.specs.Lists.{zeros}
 use Rattle.papers.specs.Key.{keyOf}
-use Rattle.papers.specs.Plan.{planOf, planBytes}
-use Rattle.papers.specs.Refusals.{Verdict, first, jobTests, allZero}
+use Rattle.papers.specs.Refusals.{first, jobTests, allZero}
 use Rattle.papers.specs.Analysis.{KeyCall, keyTests, keyDone, keyWritten, AnalysisCall, analysisTests, analysisDone, analysed, PlanCall, planTests, planDone, planZero, planWritten}
 use Rattle.papers.specs.Conditions.{jobConditions, keyConditions, analysisConditions, planConditions}
 use Rattle.refusal_laws.specs.Exactly.{Exactly}

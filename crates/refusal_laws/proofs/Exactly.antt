@@ -1,18 +1,18 @@
 -- The outcome of an entry point is decided by the first test that refuses, so where its tests agree with its conditions, and each refusal has a
 -- number and leaves what that number must, the outcome is exactly what the conditions say.
 -- Assumes nothing.
-use Prim.Native.Nat.{ℕ, _<_, _≤_}
+use Prim.Native.Nat.{_<_, _≤_}
 use mathlib.Core.Path.{_≡_, refl, sym, ap, _∙_}
 use mathlib.Core.Logic.{_↔_}
 use mathlib.Core.Bool.{Bool, true, false}
 use mathlib.Core.List.{List, _++_, map}
 use native.Mathlib.Omega.{arith}
 use Rattle.papers.specs.declared.Answer.{Answer}
-use Rattle.papers.specs.Refusals.{Leaves, untouched, zeroed, Verdict, passed, refused, answerOf, first, refusedIf, refusedAt, Outcome, outcome}
+use Rattle.papers.specs.Refusals.{Leaves, untouched, zeroed, Verdict, passed, refused, first, refusedIf, Outcome, outcome}
 use Rattle.papers.specs.Conditions.{Condition, Answered, Unrefused}
 use Rattle.refusal_laws.specs.Exactly.{Exactly}
 use Rattle.job_laws.proofs.Firsts.{refused-passed, first-append-passed, first-append-refused, first-map}
-use Rattle.refusal_laws.proofs.Agreements.{Refuses, Agree, one-answer, AgreeEach, answered-iff, passed-iff}
+use Rattle.refusal_laws.proofs.Agreements.{Refuses, one-answer, AgreeEach, answered-iff, passed-iff}
 
 -- two outcomes that a contract allows, each being the one that it states, coincide
 pub outcomes-coincide : {S : Type 0} {stated x y : Outcome S} → x ≡ stated → y ≡ stated → x ≡ y

@@ -6,3 +6,4 @@ pub mod Job
 pub mod Slices
 pub mod Analysis
 pub mod Run
+pub mod Text

@@ -1,21 +1,21 @@
 -- A run answers exactly by its conditions. The fault of a step is found by four tests in turn, so it is the one whose condition holds and none before
 -- it does.
 -- Assumes nothing.
-use Prim.Native.Nat.{ℕ, zero, suc, _-_, _<_, _≤_}
+use Prim.Native.Nat.{ℕ, _-_, _<_, _≤_}
 use mathlib.Core.Path.{_≡_, refl}
 use mathlib.Core.Logic.{_↔_, _⊎_, inl, inr}
 use mathlib.Core.Bool.{Bool, true, false, _&&_, or-assoc}
-use mathlib.Core.List.{List, [], _∷_}
+use mathlib.Core.List.{_∷_}
 use native.Mathlib.Omega.{arith}
 use lib.Dec.{ltb, leb}
 use lib.ListN.{length, take}
-use borrow.Author.Tests.{ltb-true, ltb-false, leb-true, leb-false, lt-ltb, le-ltb, le-leb, lt-leb}
-use Rattle.papers.specs.Lists.{_∈_, member, every, zeros}
+use borrow.Author.Tests.{ltb-false, leb-true, le-ltb, le-leb}
+use Rattle.papers.specs.Lists.{member, every, zeros}
 use Rattle.papers.specs.Order.{columnAt}
-use Rattle.papers.specs.Refusals.{answer, untouched, zeroed, Verdict, passed, first, refusedAt, columnsTest, startsTest, rowsTest}
-use Rattle.papers.specs.Run.{RunCall, State, rowsIn, popsAt, roomIn, fits, stepFault, stateAfter, faultAt, runLengthsTest, stepsTest, leftTest, runTests, runDone, ran}
+use Rattle.papers.specs.Refusals.{answer, untouched, zeroed, first, refusedAt, columnsTest, startsTest, rowsTest}
+use Rattle.papers.specs.Run.{RunCall, rowsIn, popsAt, roomIn, fits, stepFault, stateAfter, faultAt, runLengthsTest, stepsTest, leftTest, runTests, runDone, ran}
 use Rattle.papers.specs.Conditions.{RunShort, stepColumn, heldAt, Known, AllFit, BadStep, unknown-column, too-many-pops, row-outside, over-room, StepBad, UpdatesLeft, runColumns, runConditions}
-use Rattle.list_laws.proofs.Tests.{Test, passes, fails, test, true-false, and-both, below-or}
+use Rattle.list_laws.proofs.Tests.{Test, passes, fails, test, and-both}
 use Rattle.list_laws.proofs.Members.{member-true, member-into}
 use Rattle.order_laws.proofs.TogetherTest.{every-all}
 use Rattle.job_laws.proofs.Firsts.{first-each}

@@ -1,10 +1,9 @@
 -- The tests of lent slices and of the limit (7 to 10) against their conditions: each is a comparison, and 7 is several.
 -- Assumes nothing.
 use Prim.Native.Nat.{ℕ, _+_}
-use mathlib.Core.Bool.{true, or-assoc}
+use mathlib.Core.Bool.{or-assoc}
 use mathlib.Core.List.{List}
 use native.Mathlib.Omega.{arith}
-use lib.Dec.{ltb}
 use lib.ListN.{length}
 use Rattle.papers.specs.Bounds.{workLength}
 use Rattle.papers.specs.Refusals.{untouched, zeroed, Lent, lengthsTest, factorRowsTest, peakTest, bytesTest}

@@ -1,7 +1,7 @@
 -- One test against its condition: a test that refuses where something holds, and one that refuses at the least place where something holds.
 -- Assumes nothing.
 use Prim.Native.Nat.{ℕ, zero, suc, _<_, _≤_}
-use mathlib.Core.Path.{_≡_, refl, sym, _∙_}
+use mathlib.Core.Path.{_≡_, refl}
 use mathlib.Core.Logic.{_↔_, _⊎_, inl, inr}
 use mathlib.Core.Bool.{Bool, true, false, _||_}
 use native.Mathlib.Omega.{arith}
@@ -12,7 +12,7 @@ use Rattle.papers.specs.Lists.{least}
 use Rattle.papers.specs.Refusals.{answer, Leaves, Verdict, passed, refused, refusedIf, refusedAt}
 use Rattle.papers.specs.Conditions.{Least}
 use Rattle.list_laws.proofs.Tests.{Test, passes, fails, test, true-false}
-use Rattle.list_laws.proofs.Leasts.{least-zero-iff, least-found-iff}
+use Rattle.list_laws.proofs.Leasts.{least-found-iff}
 use Rattle.job_laws.proofs.Firsts.{refused-if, passed-if}
 use Rattle.refusal_laws.proofs.Agreements.{Refuses, Agree, agree-same, agree-by}
 use Rattle.refusal_laws.proofs.Exactly.{Leaving}
