@@ -8,7 +8,7 @@ use native.Mathlib.Omega.{arith}
 use lib.ListN.{length}
 use Rattle.papers.specs.Lists.{_∈_, Distinct, sort}
 use Rattle.papers.specs.Order.{siblingKey, alone, arranged, stepsOf}
-use Rattle.list_laws.proofs.Sorts.{sort-elements, sort-length, sort-distinct, sort-same, sort-level}
+use Rattle.list_laws.proofs.Sorts.{sort-elements, sort-length, sort-distinct, sort-same}
 
 flatMap-same : (u v : ℕ → List ℕ) (cs : List ℕ) → ((c : ℕ) → c ∈ cs → u c ≡ v c) → flatMap u cs ≡ flatMap v cs
 unfolding flatMap
@@ -56,8 +56,3 @@ module _ (mark : ℕ) (size : ℕ → ℕ) (kids : ℕ → List ℕ) where
       let kin = arranged mark size kids b j in
       let children : flatMap a (arranged mark size kids a j) ≡ flatMap b kin = ap (flatMap a) (arranged-same a b j same) ∙ flatMap-same a b kin (λ c m. same c (arranged-elements b j c .0 m)) in
       rw (steps-suc f j, steps-suc g j, children)
-
--- mark 0 leaves the children as they are, ascending
-pub arranged-zero : (size : ℕ → ℕ) (kids : ℕ → List ℕ) (steps : ℕ → List ℕ) (j : ℕ) → arranged 0 size kids steps j ≡ kids j
-unfolding arranged siblingKey
-arranged-zero size kids steps j = sort-level _ (λ c. refl) (kids j)

@@ -20,3 +20,4 @@ pub mod Works
 pub mod TogetherTest
 pub mod Waiting
 pub mod Takes
+pub mod Entries

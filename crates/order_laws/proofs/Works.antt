@@ -10,8 +10,9 @@ use Rattle.papers.specs.Job.{Pattern, Below}
 use Rattle.papers.specs.Tree.{t, parent, rowCount, children}
 use Rattle.papers.specs.Room.{peakOf}
 use Rattle.papers.specs.Order.{siblingKey, alone, arranged, stepsOf, kidsOf, popsOf, W, orderOf}
+use Rattle.list_laws.proofs.Sorts.{Sorted, sort-sorted, sort-level}
 use Rattle.order_laws.specs.Subtrees.{Kin, inTurn, butLast, subtreeSteps, siblingsOf}
-use Rattle.order_laws.proofs.Subtrees.{children-are}
+use Rattle.order_laws.proofs.Subtrees.{children-are, children-asc}
 use Rattle.order_laws.proofs.Arranged.{steps-suc, steps-enough}
 use Rattle.order_laws.proofs.Patterns.{tree-of, root-rows}
 use Rattle.order_laws.proofs.Needs.{need-children}
@@ -25,6 +26,16 @@ order-roots mark n A = refl
 pub W-peak : (mark n : ℕ) (A : Pattern) (j : ℕ) → W mark n A j ≡ peakOf (rowCount A) (popsOf n A) (subtreeSteps mark n A j)
 unfolding W alone subtreeSteps
 W-peak mark n A j = refl
+
+-- siblings stand by descending key of the mark, and of one key the lower number first
+pub siblings-by-mark : (mark n : ℕ) (A : Pattern) (j : ℕ) → Sorted (λ c. siblingKey mark (rowCount A j) (rowCount A c) (W mark n A c)) (siblingsOf mark n A j)
+unfolding siblingsOf
+siblings-by-mark mark n A j = sort-sorted _ 0 (kidsOf n A j) (children-asc (parent A) n j)
+
+-- by mark 0 their numbers ascend
+pub siblings-ascend : (n : ℕ) (A : Pattern) (j : ℕ) → siblingsOf 0 n A j ≡ kidsOf n A j
+unfolding siblingsOf siblingKey
+siblings-ascend n A j = sort-level _ (λ c. refl) (kidsOf n A j)
 
 module _ {n : ℕ} {A : Pattern} (below : Below n A) where
   -- children are lower columns, and have rows
