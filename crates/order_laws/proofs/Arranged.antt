@@ -6,7 +6,7 @@ use mathlib.Core.Logic.{_↔_}
 use mathlib.Core.List.{List, [], _∷_, _++_, flatMap, List·Memᴰ·head, List·Memᴰ·tail}
 use native.Mathlib.Omega.{arith}
 use lib.ListN.{length}
-use Rattle.papers.specs.Lists.{_∈_, Distinct, sort}
+use Rattle.papers.specs.Lists.{_∈_, Distinct}
 use Rattle.papers.specs.Order.{siblingKey, alone, arranged, stepsOf}
 use Rattle.list_laws.proofs.Sorts.{sort-elements, sort-length, sort-distinct, sort-same}
 
@@ -35,10 +35,6 @@ module _ (mark : ℕ) (size : ℕ → ℕ) (kids : ℕ → List ℕ) where
   arranged-same u v j h = sort-same _ _ (kids j) (λ c m. ap (λ l. siblingKey mark (size j) (size c) (alone mark size kids l)) (h c m))
 
   -- ---- the steps of a subtree
-
-  pub steps-zero : (j : ℕ) → stepsOf mark size kids 0 j ≡ []
-  unfolding stepsOf
-  steps-zero j = refl
 
   pub steps-suc : (f j : ℕ) → stepsOf mark size kids (suc f) j ≡ flatMap (stepsOf mark size kids f) (arranged mark size kids (stepsOf mark size kids f) j) ++ (j ∷ [])
   unfolding stepsOf

@@ -1,21 +1,20 @@
 -- The entries held are those of the updates of the columns held, and the room of a step is counted over them.
 -- Assumes nothing.
 use Prim.Native.Nat.{ℕ, zero, suc, _<_, _≤_}
-use mathlib.Core.Path.{_≡_, refl, sym, ap, _∙_}
-use mathlib.Core.Logic.{_↔_, _≢_}
-use mathlib.Core.List.{List, [], _∷_, _++_, map}
+use mathlib.Core.Path.{_≡_, refl, ap}
+use mathlib.Core.Logic.{_↔_}
+use mathlib.Core.List.{List, [], _∷_, map}
 use native.Mathlib.Omega.{arith}
-use lib.Dec.{eqb}
 use lib.ListN.{length, take, drop, getD, length-map}
-use lib.Seq.{take-suc, take-length}
-use borrow.Author.Tests.{eqb-true, eqb-false, eq-eqb, ne-eqb}
+use lib.Seq.{take-suc}
+use borrow.Author.Tests.{eq-eqb, ne-eqb}
 use Rattle.papers.specs.Job.{Pattern, Below}
 use Rattle.papers.specs.Tree.{t, parent, rowCount}
 use Rattle.papers.specs.Room.{roomAt, heldAfter, rooms}
-use Rattle.papers.specs.Order.{columnAt, Ordered, popsOf}
+use Rattle.papers.specs.Order.{Ordered, popsOf}
 use Rattle.order_laws.specs.Held.{heldAfterAll, Enough}
 use Rattle.order_laws.specs.Stack.{pushedOn, heldColumns}
-use Rattle.order_laws.proofs.Rooms.{held-root, held-update, held-append, rooms-cons}
+use Rattle.order_laws.proofs.Rooms.{held-root, held-update, held-append}
 use Rattle.order_laws.proofs.Steps.{column-at}
 use Rattle.order_laws.proofs.Patterns.{tree-of, root-rows}
 use Rattle.order_laws.proofs.Takes.{step-enough}

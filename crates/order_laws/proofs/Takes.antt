@@ -4,7 +4,7 @@
 use Prim.Native.Nat.{ℕ, zero, suc, _<_, _≤_}
 use mathlib.Core.Path.{_≡_, refl, sym, ap, _∙_}
 use mathlib.Core.Logic.{_↔_}
-use mathlib.Core.List.{List, [], _∷_, _++_, reverse, reverse-append, List·Memᴰ·head}
+use mathlib.Core.List.{List, [], _∷_, reverse, reverse-append, List·Memᴰ·head}
 use native.Mathlib.Omega.{arith}
 use lib.ListN.{length, take, drop, take-append-drop}
 use lib.Seq.{take-suc, take-length}
@@ -13,7 +13,7 @@ use Rattle.papers.specs.Tree.{children, Under, top, up}
 use Rattle.papers.specs.Order.{columnAt, Ordered}
 use Rattle.list_laws.proofs.Counts.{distinct-append}
 use Rattle.order_laws.specs.Parents.{Tree}
-use Rattle.order_laws.specs.Stack.{waiting, pushedOn, heldColumns}
+use Rattle.order_laws.specs.Stack.{waiting, heldColumns}
 use Rattle.order_laws.proofs.Reversed.{reversed-mem, reverse-distinct}
 use Rattle.order_laws.proofs.Steps.{column-at, column-in, slice-steps}
 use Rattle.order_laws.proofs.Ordering.{ordered-ready}

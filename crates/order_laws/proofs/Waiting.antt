@@ -4,7 +4,7 @@
 use Prim.Native.Nat.{ℕ, zero, suc, _<_, _≤_}
 use mathlib.Core.Path.{_≡_, refl, sym, ap, _∙_}
 use mathlib.Core.Logic.{_⊎_, inl, inr, _↔_, _≢_}
-use mathlib.Core.Bool.{Bool, true, false, not}
+use mathlib.Core.Bool.{Bool, true, false}
 use mathlib.Core.List.{List, [], _∷_, _++_, List·Memᴰ·head, List·Memᴰ·tail, List·Memᴰ·cases-cons, Memᴰ·append-left, Memᴰ·cast}
 use native.Mathlib.Omega.{arith}
 use lib.Dec.{eqb}
@@ -12,7 +12,7 @@ use lib.ListN.{length, take, drop, length-append}
 use lib.Seq.{drop-at, take-at}
 use borrow.Author.Tests.{eqb-true, eqb-false, eq-eqb, ne-eqb}
 use Rattle.papers.specs.Lists.{_∈_, Distinct, member, keep}
-use Rattle.papers.specs.Tree.{children, Under, top, up}
+use Rattle.papers.specs.Tree.{children, Under}
 use Rattle.list_laws.proofs.Tests.{Test, passes, fails, test, true-false, not-true}
 use Rattle.list_laws.proofs.Members.{member-into, member-out}
 use Rattle.list_laws.proofs.Keeps.{keep-yes, keep-no, keep-append, keep-none, keep-from, keep-into, keep-distinct, keep-same}
