@@ -39,6 +39,10 @@ abbrev pub Shown : Bool → ℕ → Type 0
 Shown true b = Unit {0}
 Shown false b = 0 < b
 
+pub shown-some : (first : Bool) (b : ℕ) → 0 < b → Shown first b
+shown-some true b h = tt
+shown-some false b h = h
+
 pub last-shown : (first : Bool) (b at : ℕ) → Shown first b → lastGroup first b at ≡ Value b (at + 1)
 unfolding lastGroup
 last-shown true zero at h = refl

@@ -59,7 +59,7 @@ grouped-below {f} (last l) = let p : 2 ^ 7 ≤ 2 ^ (7 * suc f) = pow-mono {i = 7
 grouped-below (more {f = f} l g) = let i = grouped-below g in let e = seven-more f in omega arith
 
 -- every group is a byte
-pub groups-are-bytes : {f x : ℕ} → Grouped f x → Within 256 (groupsOf f x)
+groups-are-bytes : {f x : ℕ} → Grouped f x → Within 256 (groupsOf f x)
 groups-are-bytes {f} {x} (last l) = rw (groups-small f x l) (omega arith, tt)
 groups-are-bytes {x = x} (more {f = f} l g) = rw (groups-large f x l) (omega arith, groups-are-bytes g)
 
@@ -90,7 +90,7 @@ many-digits m x h l = go (below-or 7 m)
     go (inr w) = let p : 2 ^ m ≤ 2 ^ 7 = pow-mono w in omega arith
 
 -- a number of m binary digits
-pub groups-of-digits : {f x : ℕ} (m : ℕ) → Grouped f x → x < 2 ^ m → 2 ^ m ≤ 2 * x + 1 → length (groupsOf f x) ≡ max 1 ((m + 6) / 7)
+groups-of-digits : {f x : ℕ} (m : ℕ) → Grouped f x → x < 2 ^ m → 2 ^ m ≤ 2 * x + 1 → length (groupsOf f x) ≡ max 1 ((m + 6) / 7)
 groups-of-digits {f} {x} m (last l) h g = let s = few-digits m x g l in rw (groups-small f x l) (omega arith)
 groups-of-digits {x = x} m (more {f = f} l r) h g =
     let s = many-digits m x h l in
