@@ -100,10 +100,12 @@ groups-of-digits {x = x} m (more {f = f} l r) h g =
 
 -- ---- with the paper's bound on groups
 
+-- a number is written in bytes
 pub bytes-are-bytes : (x : ℕ) → x < 2 ^ (7 * maxGroups) → Within 256 (bytesOf x)
 unfolding bytesOf
 bytes-are-bytes x h = groups-are-bytes (grouped (maxGroups - 1) x h)
 
+-- a number has a byte, and no more than the bound
 pub bytes-length : (x : ℕ) → (0 < length (bytesOf x)) × (length (bytesOf x) ≤ maxGroups)
 unfolding bytesOf
 bytes-length x = groups-length (maxGroups - 1) x
@@ -118,6 +120,7 @@ count-of-zeros x z h e =
 
 -- ---- numbers one after the other
 
+-- more numbers are written behind the first ones
 pub encode-append : (xs ys : List ℕ) → encode (xs ++ ys) ≡ encode xs ++ encode ys
 unfolding encode
 encode-append [] ys = refl
