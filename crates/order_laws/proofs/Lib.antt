@@ -17,3 +17,6 @@ pub mod Frames
 pub mod Alone
 pub mod Needs
 pub mod Works
+pub mod TogetherTest
+pub mod Waiting
+pub mod Takes

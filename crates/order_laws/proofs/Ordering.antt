@@ -99,11 +99,6 @@ module _ (par : ℕ → ℕ) where
   valid-at [] j rest done v = v .0
   valid-at (x ∷ pre) j rest done v = valid-at pre j rest (x ∷ done) (v .1)
 
-  valid-from : (order : List ℕ) → ((pre : List ℕ) (j : ℕ) (rest : List ℕ) → pre ++ (j ∷ rest) ≡ order → Ready par (reverse pre) j)
-      → (js pre : List ℕ) → pre ++ js ≡ order → Valid par (reverse pre) js
-  valid-from order h [] pre e = tt
-  valid-from order h (j ∷ js) pre e = (h pre j js e, rw (reverse-append pre (j ∷ [])) at (valid-from order h js (pre ++ (j ∷ [])) (append-assoc pre (j ∷ []) js ∙ e)))
-
 module _ {par : ℕ → ℕ} {n : ℕ} (tree : Tree par n) (order : List ℕ) where
   -- steps that each find their column's subtree right before them make an order
   pub valid-ordered : ((j : ℕ) → (j ∈ order) ↔ ((1 ≤ j) × (j ≤ n))) → Valid par [] order → Ordered par n order
@@ -122,11 +117,11 @@ module _ {par : ℕ → ℕ} {n : ℕ} (tree : Tree par n) (order : List ℕ) wh
           at pre j rest e q = piece-together par order s l u once (rw (e, q) at (ready-piece par pre j rest (valid-at par pre j rest [] (rw (← e) at v))))
 
   -- and in an order each step finds it there
-  pub ordered-valid : Ordered par n order → Valid par [] order
-  ordered-valid o = valid-from par order (λ pre j rest e. ready pre j rest e) order [] refl
+  pub ordered-ready : Ordered par n order → (s : ℕ) → s < length order → Ready par (reverse (take s order)) (columnAt order (suc s))
+  ordered-ready o s h = rw (column-at order s) (at (take s order) (getD order s 0) (drop (suc s) order) (sym (split-at order s 0 h)))
     where
-      ready : (pre : List ℕ) (j : ℕ) (rest : List ℕ) → pre ++ (j ∷ rest) ≡ order → Ready par (reverse pre) j
-      ready pre j rest e =
+      at : (pre : List ℕ) (j : ℕ) (rest : List ℕ) → pre ++ (j ∷ rest) ≡ order → Ready par (reverse pre) j
+      at pre j rest e =
           let v : Ordered par n (pre ++ (j ∷ rest)) = rw (← e) at o in
           let size : suc (length pre) ≤ length (pre ++ (j ∷ rest)) = omega (arith, length-append pre (j ∷ rest)) in
           let (l, u) = v .each j .0 (Memᴰ·append-right pre (List·Memᴰ·head refl)) in
