@@ -5,4 +5,6 @@ pub mod Members
 pub mod Keeps
 pub mod Counts
 pub mod UpTo
+pub mod Stores
 pub mod Sorts
+pub mod Leasts
