@@ -5,3 +5,4 @@ pub mod Fields
 pub mod Gaps
 pub mod Plans
 pub mod Begins
+pub mod Reaches
