@@ -1,0 +1,8 @@
+pub mod Factor
+pub mod States
+pub mod Fronts
+pub mod StepFaults
+pub mod Rooms
+pub mod Completes
+pub mod StepRules
+pub mod SoundRuns
