@@ -39,7 +39,7 @@ module _ (n j : ℕ) where
       go : (g : ℕ) → rowFault n j before r ≡ g → Scan r rs → Scan before (r ∷ rs)
       go zero e (fine q h) = fine (rows-next n j before r rs e ∙ q) (also (length rs) e h)
       go zero e (fault k f q l x h) = fault (suc k) f (rows-next n j before r rs e ∙ q) (omega arith) x (also k e h)
-      go (suc g) e s = fault 0 g (rows-fault n j before r rs g e) (omega arith) e (λ i l. absurd (omega arith))
+      go (suc g) e s = fault 0 g (rows-fault n j before r rs (omega arith) ∙ e) (omega arith) e (λ i l. absurd (omega arith))
 
   fine-iff : (before : ℕ) (rs : List ℕ) → (rowsFault n j before rs ≡ 0) ↔ ((k : ℕ) → k < length rs → faultOf before rs k ≡ 0)
   fine-iff before rs = (λ z. there z (scan before rs), λ h. back h (scan before rs))
