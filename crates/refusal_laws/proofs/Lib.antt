@@ -7,3 +7,4 @@ pub mod Slices
 pub mod Analysis
 pub mod Run
 pub mod Text
+pub mod PlanTests
