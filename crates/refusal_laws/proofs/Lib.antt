@@ -8,3 +8,4 @@ pub mod Analysis
 pub mod Run
 pub mod Text
 pub mod PlanTests
+pub mod Check

@@ -15,7 +15,6 @@ use Rattle.list_laws.proofs.Tests.{Test, passes, fails, test, true-false, not-t
 use Rattle.list_laws.proofs.Leasts.{least-zero-iff, least-found-iff}
 use Rattle.job_laws.proofs.Firsts.{refused-passed, refused-if, passed-if}
 use Rattle.refusal_laws.proofs.Agreements.{Refuses, Agree, agree-same, agree-by}
-use Rattle.refusal_laws.proofs.Exactly.{Leaving}
 
 -- ---- comparisons
 
@@ -126,8 +125,3 @@ module _ {fault : ℕ → ℕ} {Bad : ℕ → ℕ → Type 0} (faults : Faults f
         λ (k, (r, (m, b), none), q). (k, m, r, b, λ i m l h x. none i l h (m, x), let e = faults .is k m b .0 in rw (← e) q),
         λ (k, m, r, b, none, q). (k, (r, (m, b), λ i l h x. none i (x .0) l h (x .1)), let e = faults .is k m b .0 in rw e q),
       ))
-
-pub leaving-at : (number p count : ℕ) (leaves : Leaves) → ((q : ℕ) → p ≡ suc q → Leaving (refused (answer number (suc q) count) leaves)) → Leaving (refusedAt number p count leaves)
-unfolding refusedAt
-leaving-at number zero count leaves h = tt
-leaving-at number (suc p) count leaves h = h p refl
