@@ -91,7 +91,7 @@ module _ {C : Type 0} where
 
   -- ---- lists of tests put together
 
-  append-agree : (ts us : List (C → Verdict)) (Ks Ls : List (Condition C)) (call : C) → AgreeEach ts Ks call → (first ts call ≡ passed → AgreeEach us Ls call)
+  pub append-agree : (ts us : List (C → Verdict)) (Ks Ls : List (Condition C)) (call : C) → AgreeEach ts Ks call → (first ts call ≡ passed → AgreeEach us Ls call)
       → AgreeEach (ts ++ us) (Ks ++ Ls) call
   unfolding first
   append-agree [] us [] Ls call h g = g refl
@@ -100,7 +100,7 @@ module _ {C : Type 0} where
   append-agree (t ∷ ts) us (K ∷ Ks) Ls call h g = (h .0, λ p. append-agree ts us Ks Ls call (h .1 p) (λ q. g (first-passes t ts call p ∙ q)))
 
 module _ {C D : Type 0} (part : C → D) where
-  part-agree : (ts : List (D → Verdict)) (Ks : List (Condition D)) (call : C) → AgreeEach ts Ks (part call) → AgreeEach (map (λ test call. test (part call)) ts) (of part Ks) call
+  pub part-agree : (ts : List (D → Verdict)) (Ks : List (Condition D)) (call : C) → AgreeEach ts Ks (part call) → AgreeEach (map (λ test call. test (part call)) ts) (of part Ks) call
   part-agree [] [] call h = tt
   part-agree [] (K ∷ Ks) call h = absurd h
   part-agree (t ∷ ts) [] call h = absurd h

@@ -33,13 +33,13 @@ key-exactly call = outcome-exactly keyTests keyDone zeros call (call .bytes) key
 
 -- ---- an analysis
 
-analysis-agree : (call : AnalysisCall) → AgreeEach analysisTests analysisConditions call
+pub analysis-agree : (call : AnalysisCall) → AgreeEach analysisTests analysisConditions call
 unfolding analysisTests
 analysis-agree call =
     agree-behind (λ call. call .job) jobTests _ jobConditions _ call (job-agree (call .job))
     (λ p. (lengths-agree (call .job .n) (call .lent), λ p. (factor-rows-agree _ (call .lent), λ p. (peak-agree (call .job .limit) _, λ p. tt))))
 
-analysis-leaving : (call : AnalysisCall) → Leaving (first analysisTests call)
+pub analysis-leaving : (call : AnalysisCall) → Leaving (first analysisTests call)
 unfolding analysisTests
 analysis-leaving call =
     leaving-behind (λ call. call .job) jobTests _ call (job-leaving (call .job))

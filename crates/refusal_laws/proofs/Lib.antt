@@ -9,3 +9,5 @@ pub mod Run
 pub mod Text
 pub mod PlanTests
 pub mod Check
+pub mod Printed
+pub mod Program

@@ -1,4 +1,4 @@
--- The job text is refused exactly by its conditions, line by line; what the program then prints, and the listing's own 7.
+-- The tests of a job text against their conditions, line by line.
 -- Assumes nothing.
 use Prim.Native.Nat.{ℕ, suc, _<_}
 use mathlib.Core.Path.{_≡_, refl, _∙_}
@@ -10,16 +10,14 @@ use lib.Dec.{ltb}
 use lib.ListN.{length}
 use borrow.Author.Tests.{eqb-true, eq-eqb}
 use Rattle.papers.specs.declared.Answer.{Answer}
-use Rattle.papers.specs.Bounds.{textBytes, textColumns, textRows, listingBytes}
-use Rattle.papers.specs.Lists.{flat, zeros}
-use Rattle.papers.specs.Refusals.{answer, untouched, passed, refused, first, refusedIf}
-use Rattle.papers.specs.Text.{numbersAt, headOf, isRowLine, afterLines, textHead, textLists, Input, inputTest, headTest, lineFault, rowLinesTest, endTest, textTests, ListingCall, listingTests, listingDone, listed}
-use Rattle.papers.specs.Conditions.{Answered, HeadLine, two, three, RowLine, rows, InputOver, BadHead, bad-head, columns-over, BadLine, bad-line, rows-over, LineBad, TextAfter, textConditions}
+use Rattle.papers.specs.Bounds.{textBytes, textColumns, textRows}
+use Rattle.papers.specs.Lists.{flat}
+use Rattle.papers.specs.Refusals.{answer, untouched, passed, refused, refusedIf}
+use Rattle.papers.specs.Text.{numbersAt, headOf, isRowLine, afterLines, textHead, textLists, Input, inputTest, headTest, lineFault, rowLinesTest, endTest, textTests}
+use Rattle.papers.specs.Conditions.{HeadLine, two, three, RowLine, rows, InputOver, BadHead, bad-head, columns-over, BadLine, bad-line, rows-over, LineBad, TextAfter, textConditions}
 use Rattle.list_laws.proofs.Tests.{Test, passes, fails, test, true-false}
-use Rattle.job_laws.proofs.Firsts.{refused-if, passed-if, first-each}
-use Rattle.refusal_laws.specs.Exactly.{Exactly}
-use Rattle.refusal_laws.proofs.Agreements.{Refuses, Agree, agree-by, AgreeEach, answered-iff}
-use Rattle.refusal_laws.proofs.Exactly.{Leaving, leaving-if, outcome-exactly}
+use Rattle.job_laws.proofs.Firsts.{refused-if, passed-if}
+use Rattle.refusal_laws.proofs.Agreements.{Refuses, Agree, agree-by, AgreeEach}
 use Rattle.refusal_laws.proofs.Tests.{below-iff, fails-iff, either-iff, agree-if, Faults, agree-faults}
 
 -- ---- lines
@@ -130,21 +128,7 @@ end-agree : (input : Input) → Agree (endTest input) (TextAfter input)
 unfolding endTest
 end-agree input = agree-if _ _ untouched (below-iff 0 (length (afterLines (suc (textHead (input .text) .n)) (input .text))))
 
-text-agree : (input : Input) → AgreeEach textTests textConditions input
+-- a text is refused by just the numbers and lines of its conditions
+pub text-agree : (input : Input) → AgreeEach textTests textConditions input
 unfolding textTests
 text-agree input = (input-agree input, λ p. (head-agree input, λ p. (lines-agree input, λ p. (end-agree input, λ p. tt))))
-
--- ---- the program
-
--- a text is refused by just the numbers, lines and counts of its conditions
-pub text-exactly : (input : Input) (a : Answer) → Refuses (first textTests input) a ↔ Answered textConditions input a
-text-exactly input = answered-iff textTests textConditions input (text-agree input)
-
--- the listing needs a slice that any listing fits
-pub listing-exactly : (call : ListingCall) → Exactly ((λ call a. (length (call .bytes) < listingBytes) × (a ≡ answer 7 0 0)) ∷ []) call (call .bytes) (zeros (call .bytes)) (listingDone call) (listed (call .input) (call .bytes))
-unfolding listed listingDone listingTests
-listing-exactly call =
-    outcome-exactly listingTests listingDone zeros call (call .bytes) ((λ call a. (length (call .bytes) < listingBytes) × (a ≡ answer 7 0 0)) ∷ [])
-    (agree-if _ _ untouched (below-iff (length (call .bytes)) listingBytes), λ p. tt)
-    (first-each Leaving listingTests call tt (leaving-if _ _ untouched (omega arith, omega arith), tt))
-    (λ p. refl)
