@@ -71,7 +71,8 @@ module _ {C : Type 0} where
       go passed q ih = (λ r. inr (agree-passed-iff (t call) (K call) (h .0) .0 q, ih q .0 (r .0, sym (first-passes t ts call q) ∙ r .1)), next q (ih q))
       go (refused b m) q ih = (λ r. inl (h .0 a .0 (m, rw (one-answer (r .1) (first-refuses t ts call q)) q)), here b m q)
 
-  no-answer-iff : (Ks : List (Condition C)) (call : C) → ((a : Answer) → ¬ Answered Ks call a) ↔ Unrefused Ks call
+  -- nothing is answered just where no condition gives an answer
+  pub no-answer-iff : (Ks : List (Condition C)) (call : C) → ((a : Answer) → ¬ Answered Ks call a) ↔ Unrefused Ks call
   no-answer-iff [] call = (λ h. tt, λ h a x. x)
   no-answer-iff (K ∷ Ks) call = go (no-answer-iff Ks call)
     where
@@ -88,6 +89,43 @@ module _ {C : Type 0} where
       let i = agree-passed-iff (first ts call) (Answered Ks call) (answered-iff ts Ks call h) in
       let j = no-answer-iff Ks call in
       (λ p. j .0 (i .0 p), λ u. i .1 (j .1 u))
+
+  -- of two lists of conditions, one behind the other, the second answers only where the first gives nothing
+  pub answered-append : (Ks Ls : List (Condition C)) (call : C) (a : Answer) → Answered (Ks ++ Ls) call a ↔ (Answered Ks call a ⊎ (Unrefused Ks call × Answered Ls call a))
+  answered-append [] Ls call a = (λ r. inr (tt, r), back)
+    where
+      back : ⊥ ⊎ (Unit {0} × Answered Ls call a) → Answered Ls call a
+      back (inl x) = absurd x
+      back (inr r) = r .1
+  answered-append (K ∷ Ks) Ls call a = go (answered-append Ks Ls call a)
+    where
+      Behind : Type 0
+      Behind = Answered Ks call a ⊎ (Unrefused Ks call × Answered Ls call a)
+
+      Whole : Type 0
+      Whole = Answered (K ∷ Ks) call a ⊎ (Unrefused (K ∷ Ks) call × Answered Ls call a)
+
+      there : ((b : Answer) → ¬ K call b) → Behind → Whole
+      there n (inl r) = inl (inr (n, r))
+      there n (inr (u, r)) = inr ((n, u), r)
+
+      go : Answered (Ks ++ Ls) call a ↔ Behind → Answered (K ∷ (Ks ++ Ls)) call a ↔ Whole
+      go ih = (from, into)
+        where
+          from : Answered (K ∷ (Ks ++ Ls)) call a → Whole
+          from (inl k) = inl (inl k)
+          from (inr (n, r)) = there n (ih .0 r)
+
+          into : Whole → Answered (K ∷ (Ks ++ Ls)) call a
+          into (inl (inl k)) = inl k
+          into (inl (inr (n, r))) = inr (n, ih .1 (inl r))
+          into (inr (u, r)) = inr (u .0, ih .1 (inr (u .1, r)))
+
+  pub unrefused-append : (Ks Ls : List (Condition C)) (call : C) → Unrefused (Ks ++ Ls) call ↔ (Unrefused Ks call × Unrefused Ls call)
+  unrefused-append [] Ls call = (λ u. (tt, u), λ u. u .1)
+  unrefused-append (K ∷ Ks) Ls call =
+      let ih = unrefused-append Ks Ls call in
+      (λ u. let (p, q) = ih .0 (u .1) in ((u .0, p), q), λ (u, w). (u .0, ih .1 (u .1, w)))
 
   -- ---- lists of tests put together
 

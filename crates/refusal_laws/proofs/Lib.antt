@@ -11,3 +11,4 @@ pub mod PlanTests
 pub mod Check
 pub mod Printed
 pub mod Program
+pub mod Call
