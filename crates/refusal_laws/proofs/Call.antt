@@ -13,17 +13,17 @@ use Rattle.papers.specs.declared.Answer.{Answer}
 use Rattle.papers.specs.Bounds.{textColumns, textRows}
 use Rattle.papers.specs.Job.{Job}
 use Rattle.papers.specs.Plan.{Read, got, bad}
-use Rattle.papers.specs.Refusals.{answer, untouched, Leaves, Verdict, passed, refused, first, refusedIf, allZero}
-use Rattle.papers.specs.Check.{CheckCall, checkDone, checked}
+use Rattle.papers.specs.Refusals.{answer, untouched, Leaves, Verdict, passed, refused, first, refusedIf}
+use Rattle.papers.specs.Check.{checked}
 use Rattle.papers.specs.Text.{buffers}
 use Rattle.papers.specs.Call.{Readable, readKey, SolverCall, readableTest, sizesTest, callTests, keyChecked, solverAnswer}
 use Rattle.papers.specs.Conditions.{Answered, Unrefused, Unreadable, SizesOver, checkConditions, callConditions}
 use Rattle.bytes_laws.proofs.Fields.{got-bad}
 use Rattle.job_laws.proofs.Firsts.{refused-passed}
 use Rattle.job_laws.proofs.Readable.{readable-read, readable-one, readable-iff}
-use Rattle.refusal_laws.specs.Exactly.{Exactly}
 use Rattle.refusal_laws.specs.Solver.{solverCheck, CheckRefuses, solverConditions}
 use Rattle.refusal_laws.proofs.Agreements.{Refuses, Agree, one-answer, agree-by, AgreeEach, answered-iff, no-answer-iff, passed-iff, answered-append, unrefused-append}
+use Rattle.refusal_laws.proofs.Check.{check-exactly}
 use Rattle.refusal_laws.proofs.Tests.{below-iff, either-iff, agree-if}
 
 module _ (call : SolverCall) (bytes : (i : ℕ) → getD (call .key) i 0 < 256) where
@@ -102,56 +102,55 @@ module _ (call : SolverCall) (bytes : (i : ℕ) → getD (call .key) i 0 < 256) 
   moved : (s r : Readable (call .key)) {a : Answer} → Answered checkConditions (solverCheck call (s .job)) a → Answered checkConditions (solverCheck call (r .job)) a
   moved s r {a} k = subst (λ (job : Job). Answered checkConditions (solverCheck call job) a) (readable-one (call .key) s r) k
 
-  module _ (check-exactly : (call : CheckCall) → Exactly checkConditions call (call .lent) (allZero (call .lent)) (checkDone call) (checked (call .job) (call .plan) (call .lent))) where
-    -- a number with its place is answered exactly when its condition gives it, and no condition before does
-    pub call-exactly : (a : Answer) → 0 < a .number → (solverAnswer call ≡ a) ↔ Answered solverConditions call a
-    call-exactly a h = go (first callTests call) refl
-      where
-        both : Answered solverConditions call a ↔ (Answered callConditions call a ⊎ (Unrefused callConditions call × Answered (CheckRefuses ∷ []) call a))
-        both = answered-append callConditions (CheckRefuses ∷ []) call a
+  -- a number with its place is answered exactly when its condition gives it, and no condition before does
+  pub call-exactly : (a : Answer) → 0 < a .number → (solverAnswer call ≡ a) ↔ Answered solverConditions call a
+  call-exactly a h = go (first callTests call) refl
+    where
+      both : Answered solverConditions call a ↔ (Answered callConditions call a ⊎ (Unrefused callConditions call × Answered (CheckRefuses ∷ []) call a))
+      both = answered-append callConditions (CheckRefuses ∷ []) call a
 
-        go : (v : Verdict) → first callTests call ≡ v → (solverAnswer call ≡ a) ↔ Answered solverConditions call a
-        go passed q =
-            let (r, c) = call-checked q in
-            let exact = check-exactly (solverCheck call (r .job)) .refused-iff a h in
-            (λ e. both .1 (inr (call-none .0 q, inl (r, exact .0 (sym c ∙ e)))), λ x. back r c exact (both .0 x))
-          where
-            back : (r : Readable (call .key)) → solverAnswer call ≡ checked (r .job) (call .plan) buffers .answer
-                → (checked (r .job) (call .plan) buffers .answer ≡ a) ↔ Answered checkConditions (solverCheck call (r .job)) a
-                → Answered callConditions call a ⊎ (Unrefused callConditions call × Answered (CheckRefuses ∷ []) call a) → solverAnswer call ≡ a
-            back r c exact (inl k) = absurd (refused-passed (call-given a .1 k .1) q)
-            back r c exact (inr (u, inl (s, k))) = c ∙ exact .1 (moved s r k)
-            back r c exact (inr (u, inr (n, x))) = absurd x
-        go (refused b l) q = (λ e. both .1 (inl (call-given a .0 (l, rw (← (sym (call-refused q) ∙ e)) q))), λ x. back (both .0 x))
-          where
-            back : Answered callConditions call a ⊎ (Unrefused callConditions call × Answered (CheckRefuses ∷ []) call a) → solverAnswer call ≡ a
-            back (inl k) = call-refused q ∙ one-answer q (call-given a .1 k .1)
-            back (inr (u, x)) = absurd (refused-passed q (call-none .1 u))
+      go : (v : Verdict) → first callTests call ≡ v → (solverAnswer call ≡ a) ↔ Answered solverConditions call a
+      go passed q =
+          let (r, c) = call-checked q in
+          let exact = check-exactly (solverCheck call (r .job)) .refused-iff a h in
+          (λ e. both .1 (inr (call-none .0 q, inl (r, exact .0 (sym c ∙ e)))), λ x. back r c exact (both .0 x))
+        where
+          back : (r : Readable (call .key)) → solverAnswer call ≡ checked (r .job) (call .plan) buffers .answer
+              → (checked (r .job) (call .plan) buffers .answer ≡ a) ↔ Answered checkConditions (solverCheck call (r .job)) a
+              → Answered callConditions call a ⊎ (Unrefused callConditions call × Answered (CheckRefuses ∷ []) call a) → solverAnswer call ≡ a
+          back r c exact (inl k) = absurd (refused-passed (call-given a .1 k .1) q)
+          back r c exact (inr (u, inl (s, k))) = c ∙ exact .1 (moved s r k)
+          back r c exact (inr (u, inr (n, x))) = absurd x
+      go (refused b l) q = (λ e. both .1 (inl (call-given a .0 (l, rw (← (sym (call-refused q) ∙ e)) q))), λ x. back (both .0 x))
+        where
+          back : Answered callConditions call a ⊎ (Unrefused callConditions call × Answered (CheckRefuses ∷ []) call a) → solverAnswer call ≡ a
+          back (inl k) = call-refused q ∙ one-answer q (call-given a .1 k .1)
+          back (inr (u, x)) = absurd (refused-passed q (call-none .1 u))
 
-    -- the plan passes exactly when no condition gives anything
-    pub call-done : (solverAnswer call .number ≡ 0) ↔ Unrefused solverConditions call
-    call-done = (λ e. both .1 (there e (first callTests call) refl), λ u. let (p, w) = both .0 u in back p w)
-      where
-        both : Unrefused solverConditions call ↔ (Unrefused callConditions call × Unrefused (CheckRefuses ∷ []) call)
-        both = unrefused-append callConditions (CheckRefuses ∷ []) call
+  -- the plan passes exactly when no condition gives anything
+  pub call-done : (solverAnswer call .number ≡ 0) ↔ Unrefused solverConditions call
+  call-done = (λ e. both .1 (there e (first callTests call) refl), λ u. let (p, w) = both .0 u in back p w)
+    where
+      both : Unrefused solverConditions call ↔ (Unrefused callConditions call × Unrefused (CheckRefuses ∷ []) call)
+      both = unrefused-append callConditions (CheckRefuses ∷ []) call
 
-        there : solverAnswer call .number ≡ 0 → (v : Verdict) → first callTests call ≡ v → Unrefused callConditions call × Unrefused (CheckRefuses ∷ []) call
-        there e passed q =
-            let (r, c) = call-checked q in
-            let none = check-exactly (solverCheck call (r .job)) .done-iff .0 (sym (ap (λ (a : Answer). a .number) c) ∙ e) in
-            (call-none .0 q, (λ b (s, k). no-answer-iff checkConditions (solverCheck call (r .job)) .1 none b (moved s r k), tt))
-        there e (refused b l) q = absurd (positive (call-given b .0 (l, q)))
-          where
-            zero : b .number ≡ 0
-            zero = sym (ap (λ (a : Answer). a .number) (call-refused q)) ∙ e
+      there : solverAnswer call .number ≡ 0 → (v : Verdict) → first callTests call ≡ v → Unrefused callConditions call × Unrefused (CheckRefuses ∷ []) call
+      there e passed q =
+          let (r, c) = call-checked q in
+          let none = check-exactly (solverCheck call (r .job)) .done-iff .0 (sym (ap (λ (a : Answer). a .number) c) ∙ e) in
+          (call-none .0 q, (λ b (s, k). no-answer-iff checkConditions (solverCheck call (r .job)) .1 none b (moved s r k), tt))
+      there e (refused b l) q = absurd (positive (call-given b .0 (l, q)))
+        where
+          zero : b .number ≡ 0
+          zero = sym (ap (λ (a : Answer). a .number) (call-refused q)) ∙ e
 
-            positive : Answered callConditions call b → ⊥
-            positive (inl (n, x)) = omega (arith, zero, ap (λ (a : Answer). a .number) x)
-            positive (inr (n, inl (r, p, x))) = omega (arith, zero, ap (λ (a : Answer). a .number) x)
-            positive (inr (n, inr (m, x))) = x
+          positive : Answered callConditions call b → ⊥
+          positive (inl (n, x)) = omega (arith, zero, ap (λ (a : Answer). a .number) x)
+          positive (inr (n, inl (r, p, x))) = omega (arith, zero, ap (λ (a : Answer). a .number) x)
+          positive (inr (n, inr (m, x))) = x
 
-        back : Unrefused callConditions call → Unrefused (CheckRefuses ∷ []) call → solverAnswer call .number ≡ 0
-        back u w =
-            let (r, c) = call-checked (call-none .1 u) in
-            ap (λ (a : Answer). a .number) c
-            ∙ check-exactly (solverCheck call (r .job)) .done-iff .1 (no-answer-iff checkConditions (solverCheck call (r .job)) .0 (λ b k. w .0 b (r, k)))
+      back : Unrefused callConditions call → Unrefused (CheckRefuses ∷ []) call → solverAnswer call .number ≡ 0
+      back u w =
+          let (r, c) = call-checked (call-none .1 u) in
+          ap (λ (a : Answer). a .number) c
+          ∙ check-exactly (solverCheck call (r .job)) .done-iff .1 (no-answer-iff checkConditions (solverCheck call (r .job)) .0 (λ b k. w .0 b (r, k)))

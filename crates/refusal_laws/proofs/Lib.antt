@@ -7,6 +7,9 @@ pub mod Slices
 pub mod Analysis
 pub mod Run
 pub mod Text
+pub mod Fields
+pub mod Readings
+pub mod PlanBytes
 pub mod PlanTests
 pub mod Check
 pub mod Printed
