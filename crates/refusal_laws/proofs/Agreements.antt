@@ -49,6 +49,11 @@ AgreeEach [] (K ∷ Ks) call = ⊥
 AgreeEach (t ∷ ts) [] call = ⊥
 AgreeEach (t ∷ ts) (K ∷ Ks) call = Agree (t call) (K call) × (t call ≡ passed → AgreeEach ts Ks call)
 
+infixr 5 _▸_
+-- one test agrees, and those behind it where it passes
+abbrev pub _▸_ : {A B P : Type 0} → A → (P → B) → A × (P → B)
+a ▸ f = (a, f)
+
 module _ {C : Type 0} where
   -- the first test that refuses gives the answers of the first condition that gives any
   pub answered-iff : (ts : List (C → Verdict)) (Ks : List (Condition C)) (call : C) → AgreeEach ts Ks call → Agree (first ts call) (Answered Ks call)

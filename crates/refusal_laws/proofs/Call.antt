@@ -22,7 +22,7 @@ use Rattle.bytes_laws.proofs.Fields.{got-bad}
 use Rattle.job_laws.proofs.Firsts.{refused-passed}
 use Rattle.job_laws.proofs.Readable.{readable-read, readable-one, readable-iff}
 use Rattle.refusal_laws.specs.Solver.{solverCheck, CheckRefuses, solverConditions}
-use Rattle.refusal_laws.proofs.Agreements.{Refuses, Agree, one-answer, agree-by, AgreeEach, answered-iff, no-answer-iff, passed-iff, answered-append, unrefused-append}
+use Rattle.refusal_laws.proofs.Agreements.{Refuses, Agree, one-answer, agree-by, AgreeEach, _▸_, answered-iff, no-answer-iff, passed-iff, answered-append, unrefused-append}
 use Rattle.refusal_laws.proofs.Check.{check-exactly}
 use Rattle.refusal_laws.proofs.Tests.{below-iff, either-iff, agree-if}
 
@@ -72,7 +72,7 @@ module _ (call : SolverCall) (bytes : (i : ℕ) → getD (call .key) i 0 < 256) 
 
   call-agree : AgreeEach callTests callConditions call
   unfolding callTests
-  call-agree = (readable-agree, λ p. (sizes-agree, λ p. tt))
+  call-agree = readable-agree ▸ λ p. sizes-agree ▸ λ p. tt
 
   -- ---- the answer
 

@@ -14,8 +14,8 @@ use Rattle.papers.specs.Conditions.{jobConditions, ofRead, checkConditions}
 use Rattle.job_laws.proofs.Firsts.{refused-passed, first-each, first-passed-iff}
 use Rattle.job_laws.proofs.Passed.{passes-iff, passed-below}
 use Rattle.refusal_laws.specs.Exactly.{Exactly}
-use Rattle.refusal_laws.proofs.Agreements.{Refuses, Agree, AgreeEach, agree-behind}
-use Rattle.refusal_laws.proofs.Exactly.{Leaving, leaving-if, leaving-at, leaving-behind, outcome-exactly}
+use Rattle.refusal_laws.proofs.Agreements.{Refuses, Agree, AgreeEach, _▸_, agree-behind}
+use Rattle.refusal_laws.proofs.Exactly.{Leaving, _&_, leaving-if, leaving-at, leaving-behind, outcome-exactly}
 use Rattle.refusal_laws.proofs.Job.{job-agree, job-leaving}
 use Rattle.refusal_laws.proofs.Slices.{lengths-agree, lengths-leaving, factor-rows-agree, factor-rows-leaving, peak-agree, peak-leaving}
 use Rattle.refusal_laws.proofs.PlanTests.{Steps, plan-steps, repeat-agree, subtree-agree, list-agree, pops-agree, declared-agree}
@@ -57,67 +57,34 @@ module _ (call : CheckCall) where
   unfolding checkTests
   check-agree =
       agree-behind (λ call. call .job) jobTests _ jobConditions _ call (job-agree (call .job))
-      (λ job. (
-        lengths-agree (call .job .n) (call .lent),
-        λ p. (
-          begins-agree call,
-          λ p. (
-            read-agree call,
-            λ p. (
-              of-plan-agree _ _ (λ plan at e. factor-rows-agree (length (flat (plan .lists))) (call .lent)),
-              λ p. (
-                of-plan-agree _ _ (λ plan at e. repeat-agree (call .job) plan (steps e)),
-                λ unrepeated. (
-                  of-plan-agree _ _ (λ plan at e. list-agree (call .job) plan),
-                  λ p. (
-                    of-plan-agree _ _ (λ plan at e. subtree-agree (call .job) plan (steps e) (sym (of-plan-got _ e) ∙ unrepeated) (passed-below (call .job) (passes-iff (call .job) .0 job))),
-                    λ p. (
-                      of-plan-agree _ _ (λ plan at e. pops-agree (call .job) plan),
-                      λ p. (
-                        of-plan-agree _ _ (λ plan at e. declared-agree (call .job) plan),
-                        λ p. (of-plan-agree _ _ (λ plan at e. peak-agree (call .job .limit) (truePeak (call .job) plan)), λ p. tt),
-                      ),
-                    ),
-                  ),
-                ),
-              ),
-            ),
-          ),
-        ),
-      ))
+      (λ job. lengths-agree (call .job .n) (call .lent)
+      ▸ λ p. begins-agree call
+      ▸ λ p. read-agree call
+      ▸ λ p. of-plan-agree _ _ (λ plan at e. factor-rows-agree (length (flat (plan .lists))) (call .lent))
+      ▸ λ p. of-plan-agree _ _ (λ plan at e. repeat-agree (call .job) plan (steps e))
+      ▸ λ unrepeated. of-plan-agree _ _ (λ plan at e. list-agree (call .job) plan)
+      ▸ λ p. of-plan-agree _ _ (λ plan at e. subtree-agree (call .job) plan (steps e) (sym (of-plan-got _ e) ∙ unrepeated) (passed-below (call .job) (passes-iff (call .job) .0 job)))
+      ▸ λ p. of-plan-agree _ _ (λ plan at e. pops-agree (call .job) plan)
+      ▸ λ p. of-plan-agree _ _ (λ plan at e. declared-agree (call .job) plan)
+      ▸ λ p. of-plan-agree _ _ (λ plan at e. peak-agree (call .job .limit) (truePeak (call .job) plan))
+      ▸ λ p. tt)
 
   check-leaving : Leaving (first checkTests call)
   unfolding checkTests keyTest repeatTest listTest subtreeTest popsTest declaredTest
   check-leaving =
       leaving-behind (λ call. call .job) jobTests _ call (job-leaving (call .job))
-      (first-each Leaving _ call tt (
-        lengths-leaving (call .job .n) (call .lent),
-        (
-          leaving-at 11 _ 0 (omega arith),
-          (
-            read-leaving call,
-            (
-              of-plan-leaving _ (λ plan. factor-rows-leaving (length (flat (plan .lists))) (call .lent)),
-              (
-                of-plan-leaving _ (λ plan. leaving-at 16 _ 0 (omega arith)),
-                (
-                  of-plan-leaving _ (λ plan. leaving-at 17 _ 0 (omega arith)),
-                  (
-                    of-plan-leaving _ (λ plan. leaving-at 18 _ 0 (omega arith)),
-                    (
-                      of-plan-leaving _ (λ plan. leaving-at 19 _ 0 (omega arith)),
-                      (
-                        of-plan-leaving _ (λ plan. leaving-if _ _ zeroed (omega arith)),
-                        (of-plan-leaving _ (λ plan. peak-leaving (call .job .limit) (truePeak (call .job) plan)), tt),
-                      ),
-                    ),
-                  ),
-                ),
-              ),
-            ),
-          ),
-        ),
-      ))
+      (first-each Leaving _ call tt
+      (lengths-leaving (call .job .n) (call .lent)
+      & leaving-at 11 _ 0 (omega arith)
+      & read-leaving call
+      & of-plan-leaving _ (λ plan. factor-rows-leaving (length (flat (plan .lists))) (call .lent))
+      & of-plan-leaving _ (λ plan. leaving-at 16 _ 0 (omega arith))
+      & of-plan-leaving _ (λ plan. leaving-at 17 _ 0 (omega arith))
+      & of-plan-leaving _ (λ plan. leaving-at 18 _ 0 (omega arith))
+      & of-plan-leaving _ (λ plan. leaving-at 19 _ 0 (omega arith))
+      & of-plan-leaving _ (λ plan. leaving-if _ _ zeroed (omega arith))
+      & of-plan-leaving _ (λ plan. peak-leaving (call .job .limit) (truePeak (call .job) plan))
+      & tt))
 
   -- a check that refuses nothing has read a plan
   done-zero : first checkTests call ≡ passed → checkDone call .answer .number ≡ 0

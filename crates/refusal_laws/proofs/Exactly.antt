@@ -26,6 +26,11 @@ Leaving passed = Unit {0}
 Leaving (refused a untouched) = (1 ≤ a .number) × (a .number ≤ 7)
 Leaving (refused a zeroed) = 7 < a .number
 
+infixr 5 _&_
+-- the verdict of one test, and those of the tests behind it
+abbrev pub _&_ : {A B : Type 0} → A → B → A × B
+a & b = (a, b)
+
 pub leaving-if : (b : Bool) (a : Answer) (l : Leaves) → Leaving (refused a l) → Leaving (refusedIf b a l)
 unfolding refusedIf
 leaving-if true a l h = h

@@ -18,7 +18,7 @@ use Rattle.papers.specs.Conditions.{Columns, columns, jobConditions, Least, Col
 use Rattle.list_laws.proofs.Leasts.{least-zero-iff}
 use Rattle.job_laws.proofs.Untouched.{Early, job-untouched}
 use Rattle.job_laws.proofs.Starts.{falls-false-iff, starts-few, starts-from, starts-fall, starts-end, starts-pass}
-use Rattle.refusal_laws.proofs.Agreements.{Agree, agree-by, AgreeEach}
+use Rattle.refusal_laws.proofs.Agreements.{Agree, agree-by, AgreeEach, _▸_}
 use Rattle.refusal_laws.proofs.Exactly.{Leaving}
 use Rattle.refusal_laws.proofs.Tests.{below-iff, agree-if, found-iff}
 use Rattle.refusal_laws.proofs.Rows.{rows-agree}
@@ -90,7 +90,12 @@ module _ (c : Columns) where
 pub job-agree : (job : Job) → AgreeEach jobTests jobConditions job
 unfolding jobTests
 job-agree job =
-    (columns-agree (job .n), λ p. (mark-agree job, λ p. (limit-agree job, λ p. (starts-agree (columns job), λ p. (rows-agree (columns job), λ p. tt)))))
+    columns-agree (job .n)
+    ▸ λ p. mark-agree job
+    ▸ λ p. limit-agree job
+    ▸ λ p. starts-agree (columns job)
+    ▸ λ p. rows-agree (columns job)
+    ▸ λ p. tt
 
 -- a refusal of 1 to 6 leaves what it must
 pub early-leaving : (v : Verdict) → Early v → Leaving v

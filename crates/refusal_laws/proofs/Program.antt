@@ -18,8 +18,8 @@ use Rattle.papers.specs.Conditions.{Answered, Unrefused, analysisConditions, te
 use Rattle.job_laws.proofs.Firsts.{refused-passed, first-append-passed, first-append-refused, first-map, first-each}
 use Rattle.refusal_laws.specs.Exactly.{Exactly}
 use Rattle.refusal_laws.specs.Program.{programAnalysis, programConditions, programListing, ListingShort}
-use Rattle.refusal_laws.proofs.Agreements.{Refuses, one-answer, AgreeEach, answered-iff, passed-iff, append-agree, part-agree}
-use Rattle.refusal_laws.proofs.Exactly.{Leaving, leaving-if, outcome-exactly}
+use Rattle.refusal_laws.proofs.Agreements.{Refuses, one-answer, AgreeEach, _▸_, answered-iff, passed-iff, append-agree, part-agree}
+use Rattle.refusal_laws.proofs.Exactly.{Leaving, _&_, leaving-if, outcome-exactly}
 use Rattle.refusal_laws.proofs.Tests.{below-iff, agree-if}
 use Rattle.refusal_laws.proofs.Analysis.{analysis-agree, analysis-leaving, analyse-exactly}
 use Rattle.refusal_laws.proofs.Text.{text-agree}
@@ -109,6 +109,6 @@ module _ (input : Input) where
 pub listing-exactly : (call : ListingCall) → Exactly (ListingShort ∷ []) call (call .bytes) (zeros (call .bytes)) (listingDone call) (listed (call .input) (call .bytes))
 unfolding listed listingDone listingTests
 listing-exactly call =
-    outcome-exactly listingTests listingDone zeros call (call .bytes) (ListingShort ∷ []) (agree-if _ _ untouched (below-iff (length (call .bytes)) listingBytes), λ p. tt)
-    (first-each Leaving listingTests call tt (leaving-if _ _ untouched (omega arith, omega arith), tt))
+    outcome-exactly listingTests listingDone zeros call (call .bytes) (ListingShort ∷ []) (agree-if _ _ untouched (below-iff (length (call .bytes)) listingBytes) ▸ λ p. tt)
+    (first-each Leaving listingTests call tt (leaving-if _ _ untouched (omega arith, omega arith) & tt))
     (λ p. refl)

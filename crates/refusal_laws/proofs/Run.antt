@@ -22,8 +22,8 @@ use Rattle.job_laws.proofs.Firsts.{first-each}
 use Rattle.job_laws.proofs.Faults.{faults-each}
 use Rattle.job_laws.proofs.Untouched.{starts-early, rows-early}
 use Rattle.refusal_laws.specs.Exactly.{Exactly}
-use Rattle.refusal_laws.proofs.Agreements.{Agree, AgreeEach}
-use Rattle.refusal_laws.proofs.Exactly.{Leaving, leaving-if, outcome-exactly}
+use Rattle.refusal_laws.proofs.Agreements.{Agree, AgreeEach, _▸_}
+use Rattle.refusal_laws.proofs.Exactly.{Leaving, _&_, leaving-if, outcome-exactly}
 use Rattle.refusal_laws.proofs.Tests.{below-iff, either-iff, agree-if, fails-iff, Faults, agree-faults}
 use Rattle.refusal_laws.proofs.Job.{columns-agree, starts-agree, early-leaving}
 use Rattle.refusal_laws.proofs.Rows.{rows-agree}
@@ -125,10 +125,14 @@ left-agree call = agree-if _ _ zeroed (below-iff 0 (length (stateAfter call (cal
 
 run-agree : (call : RunCall) → AgreeEach runTests runConditions call
 unfolding runTests
-run-agree call = (
-  columns-agree (call .n),
-  λ p. (starts-agree (runColumns call), λ p. (rows-agree (runColumns call), λ p. (run-lengths-agree call, λ p. (steps-agree call, λ p. (left-agree call, λ p. tt))))),
-)
+run-agree call =
+    columns-agree (call .n)
+    ▸ λ p. starts-agree (runColumns call)
+    ▸ λ p. rows-agree (runColumns call)
+    ▸ λ p. run-lengths-agree call
+    ▸ λ p. steps-agree call
+    ▸ λ p. left-agree call
+    ▸ λ p. tt
 
 steps-leaving : (call : RunCall) → Leaving (stepsTest call)
 unfolding stepsTest
@@ -148,16 +152,14 @@ steps-leaving call =
 run-leaving : (call : RunCall) → Leaving (first runTests call)
 unfolding runTests columnsTest runLengthsTest leftTest
 run-leaving call =
-    first-each Leaving runTests call tt (
-      leaving-if _ _ untouched (omega arith, omega arith),
-      (
-        early-leaving (startsTest (call .n) (call .starts) (call .rows)) (starts-early (call .n) (call .starts) (call .rows)),
-        (
-          early-leaving (rowsTest (call .n) (call .starts) (call .rows)) (rows-early (call .n) (call .starts) (call .rows)),
-          (leaving-if _ _ untouched (omega arith, omega arith), (steps-leaving call, (leaving-if _ _ zeroed (omega arith), tt))),
-        ),
-      ),
-    )
+    first-each Leaving runTests call tt
+    (leaving-if _ _ untouched (omega arith, omega arith)
+    & early-leaving (startsTest (call .n) (call .starts) (call .rows)) (starts-early (call .n) (call .starts) (call .rows))
+    & early-leaving (rowsTest (call .n) (call .starts) (call .rows)) (rows-early (call .n) (call .starts) (call .rows))
+    & leaving-if _ _ untouched (omega arith, omega arith)
+    & steps-leaving call
+    & leaving-if _ _ zeroed (omega arith)
+    & tt)
 
 -- a run is done, or refused, exactly by its conditions
 pub run-exactly : (call : RunCall) → Exactly runConditions call (call .stack) (zeros (call .stack)) (runDone call) (ran call)

@@ -17,7 +17,7 @@ use Rattle.papers.specs.Text.{numbersAt, headOf, isRowLine, afterLines, textHea
 use Rattle.papers.specs.Conditions.{HeadLine, two, three, RowLine, rows, InputOver, BadHead, bad-head, columns-over, BadLine, bad-line, rows-over, LineBad, TextAfter, textConditions}
 use Rattle.list_laws.proofs.Tests.{Test, passes, fails, test, true-false}
 use Rattle.job_laws.proofs.Firsts.{refused-if, passed-if}
-use Rattle.refusal_laws.proofs.Agreements.{Refuses, Agree, agree-by, AgreeEach}
+use Rattle.refusal_laws.proofs.Agreements.{Refuses, Agree, agree-by, AgreeEach, _▸_}
 use Rattle.refusal_laws.proofs.Tests.{below-iff, fails-iff, either-iff, agree-if, Faults, agree-faults}
 
 -- ---- lines
@@ -131,4 +131,4 @@ end-agree input = agree-if _ _ untouched (below-iff 0 (length (afterLines (suc (
 -- a text is refused by just the numbers and lines of its conditions
 pub text-agree : (input : Input) → AgreeEach textTests textConditions input
 unfolding textTests
-text-agree input = (input-agree input, λ p. (head-agree input, λ p. (lines-agree input, λ p. (end-agree input, λ p. tt))))
+text-agree input = input-agree input ▸ λ p. head-agree input ▸ λ p. lines-agree input ▸ λ p. end-agree input ▸ λ p. tt
