@@ -1,7 +1,6 @@
 pub mod Factor
 pub mod States
 pub mod Fronts
-pub mod StepFaults
 pub mod Rooms
 pub mod Completes
 pub mod StepRules
