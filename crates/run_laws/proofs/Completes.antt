@@ -19,7 +19,7 @@ use Rattle.refusal_laws.proofs.Agreements.{agree-passed-iff}
 use Rattle.refusal_laws.proofs.Job.{starts-agree}
 use Rattle.refusal_laws.proofs.Rows.{rows-agree}
 use Rattle.refusal_laws.proofs.Run.{run-exactly}
-use Rattle.run_laws.specs.Runs.{IsStep, roomUsed, Runs}
+use Rattle.run_laws.specs.Runs.{IsStep, roomUsed, Runs, LacksRoom}
 use Rattle.run_laws.specs.Follows.{Follows}
 use Rattle.run_laws.proofs.Factor.{lists-pass, columns-long}
 use Rattle.run_laws.proofs.Fronts.{step-known, step-held, step-popped, popped-fit, pattern-fit, front-only}
@@ -87,22 +87,18 @@ module _ {A : Pattern} {call : RunCall} (f : Follows A call) where
   none-bad : ((b : Answer) → ¬ StepBad call b) → (s : ℕ) → IsStep call s → (m : ℕ) → ¬ BadStep call s m
   none-bad none = strong (λ s. IsStep call s → (m : ℕ) → ¬ BadStep call s m) (λ s ih i m bad. none _ (s, m, i, bad, λ k m l h b. ih k h (l, omega arith) m b, refl))
 
-  -- a run with less is refused with 23, at the first step that needs more
-  pub less-refused : call .room < peak (call .n) A (call .columns)
-      → (s : ℕ) × IsStep call s × (ran call ≡ record { answer = answer 23 s (stateAfter call (s - 1) .greatest); lent = zeros (call .stack) })
+  -- a run with less is refused with 23
+  pub less-refused : call .room < peak (call .n) A (call .columns) → LacksRoom call
   less-refused h = go (ran call .answer .number) refl
     where
-      Refused : Type 0
-      Refused = (s : ℕ) × IsStep call s × (ran call ≡ record { answer = answer 23 s (stateAfter call (s - 1) .greatest); lent = zeros (call .stack) })
-
-      by-room : StepBad call (ran call .answer) → Refused
+      by-room : StepBad call (ran call .answer) → LacksRoom call
       by-room (s, m, i, bad, earlier, e) =
           let (q, r) = lacks-room s i bad in
           let a : ran call .answer ≡ answer 23 s (stateAfter call (s - 1) .greatest) = rw q at e in
           let left = run-exactly call .zeroed (rw a (omega arith)) in
-          (s, i, λ t. record { answer = a t; lent = left t })
+          record { step = s; is = i; over = r; refused = λ t. record { answer = a t; lent = left t } }
 
-      by : Answered runConditions call (ran call .answer) → Refused
+      by : Answered runConditions call (ran call .answer) → LacksRoom call
       by (inl k) = absurd (columns-few _ k)
       by (inr (_, inl k)) = absurd (starts-fine _ k)
       by (inr (_, inr (_, inl k))) = absurd (rows-fine _ k)
@@ -111,7 +107,7 @@ module _ {A : Pattern} {call : RunCall} (f : Follows A call) where
       by (inr (_, inr (_, inr (_, inr (_, inr (_, inl k)))))) = absurd (nothing-left _ k)
       by (inr (_, inr (_, inr (_, inr (_, inr (_, inr (_, k))))))) = absurd k
 
-      go : (number : ℕ) → ran call .answer .number ≡ number → Refused
+      go : (number : ℕ) → ran call .answer .number ≡ number → LacksRoom call
       go zero e =
           let (s, i, r) = room-reached f (peak-step f (omega arith)) in
           let none = none-bad (run-exactly call .done-iff .0 e .1 .1 .1 .1 .0) s i 23 in

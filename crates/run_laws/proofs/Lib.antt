@@ -5,3 +5,4 @@ pub mod Rooms
 pub mod Completes
 pub mod StepRules
 pub mod SoundRuns
+pub mod HandedOn

@@ -64,3 +64,10 @@ pub record Runs (A : Pattern) (peak : ℕ) (call : RunCall) : Type 0 where
   pub empty : stateAfter call (call .n) .held ≡ []
   -- all steps are done, with no refusal
   pub completes : ran call ≡ record { answer = answer 0 0 peak; lent = zeros (call .stack) }
+
+-- A run is refused with 23 at a step that needs more room than there is.
+pub record LacksRoom (call : RunCall) : Type 0 where
+  pub step : ℕ
+  pub is : IsStep call step
+  pub over : call .room < roomUsed call step
+  pub refused : ran call ≡ record { answer = answer 23 step (stateAfter call (step - 1) .greatest); lent = zeros (call .stack) }
