@@ -1,14 +1,14 @@
 -- The outcome of an entry point is decided by the first test that refuses, so where its tests agree with its conditions, and each refusal has a
 -- number and leaves what that number must, the outcome is exactly what the conditions say.
 -- Assumes nothing.
-use Prim.Native.Nat.{_<_, _≤_}
+use Prim.Native.Nat.{ℕ, zero, suc, _<_, _≤_}
 use mathlib.Core.Path.{_≡_, refl, sym, ap, _∙_}
 use mathlib.Core.Logic.{_↔_}
 use mathlib.Core.Bool.{Bool, true, false}
 use mathlib.Core.List.{List, _++_, map}
 use native.Mathlib.Omega.{arith}
 use Rattle.papers.specs.declared.Answer.{Answer}
-use Rattle.papers.specs.Refusals.{Leaves, untouched, zeroed, Verdict, passed, refused, first, refusedIf, Outcome, outcome}
+use Rattle.papers.specs.Refusals.{Leaves, untouched, zeroed, Verdict, passed, refused, first, refusedIf, refusedAt, Outcome, outcome}
 use Rattle.papers.specs.Conditions.{Condition, Answered, Unrefused}
 use Rattle.refusal_laws.specs.Exactly.{Exactly}
 use Rattle.job_laws.proofs.Firsts.{refused-passed, first-append-passed, first-append-refused, first-map}
@@ -30,6 +30,11 @@ pub leaving-if : (b : Bool) (a : Answer) (l : Leaves) → Leaving (refused a l) 
 unfolding refusedIf
 leaving-if true a l h = h
 leaving-if false a l h = tt
+
+pub leaving-at : (number place count : ℕ) → 7 < number → Leaving (refusedAt number place count zeroed)
+unfolding refusedAt
+leaving-at number zero count h = tt
+leaving-at number (suc p) count h = h
 
 -- tests of a part of the call, then others
 pub leaving-behind : {C D : Type 0} (part : C → D) (ts : List (D → Verdict)) (us : List (C → Verdict)) (call : C) → Leaving (first ts (part call)) → Leaving (first us call)
@@ -62,7 +67,7 @@ module _ {C S : Type 0} (tests : List (C → Verdict)) (done : C → Outcome S) 
     -- the outcome by the conditions, where a call that passes the tests is done
     pub outcome-exactly : Leaving (first tests call) → (first tests call ≡ passed → done call .answer .number ≡ 0)
         → Exactly conditions call lent (zeroing lent) (done call) (outcome tests done zeroing call lent)
-    outcome-exactly leaving zero = go (first tests call) refl
+    outcome-exactly leaving finished = go (first tests call) refl
       where
         given : (a : Answer) → Refuses (first tests call) a ↔ Answered conditions call a
         given a = answered-iff tests conditions call agree a
@@ -82,7 +87,7 @@ module _ {C S : Type 0} (tests : List (C → Verdict)) (done : C → Outcome S) 
 
         go : (v : Verdict) → first tests call ≡ v → Exactly conditions call lent (zeroing lent) (done call) (outcome tests done zeroing call lent)
         go passed q =
-            let z = zero q in
+            let z = finished q in
             rw (outcome-done q)
             (record {
               refused-iff = λ a h. (λ e. absurd (omega (arith, ap (λ (b : Answer). b .number) e)), λ r. absurd (refused-passed (given a .1 r .1) q));

@@ -7,3 +7,5 @@ pub mod Slices
 pub mod Analysis
 pub mod Run
 pub mod Text
+pub mod PlanTests
+pub mod Check

@@ -2,20 +2,19 @@
 -- Assumes nothing.
 use Prim.Native.Nat.{ℕ, zero, suc, _<_, _≤_}
 use mathlib.Core.Path.{_≡_, refl}
-use mathlib.Core.Logic.{_↔_, _⊎_, inl, inr}
-use mathlib.Core.Bool.{Bool, true, false, _||_}
+use mathlib.Core.Logic.{_↔_, _⊎_, inl, inr, _≢_}
+use mathlib.Core.Bool.{Bool, true, false, not, _||_}
 use native.Mathlib.Omega.{arith}
-use lib.Dec.{ltb}
-use borrow.Author.Tests.{ltb-true, lt-ltb}
+use lib.Dec.{ltb, eqb}
+use borrow.Author.Tests.{ltb-true, lt-ltb, eqb-true, eq-eqb}
 use Rattle.papers.specs.declared.Answer.{Answer}
 use Rattle.papers.specs.Lists.{least}
 use Rattle.papers.specs.Refusals.{answer, Leaves, Verdict, passed, refused, refusedIf, refusedAt}
 use Rattle.papers.specs.Conditions.{Least}
-use Rattle.list_laws.proofs.Tests.{Test, passes, fails, test, true-false}
-use Rattle.list_laws.proofs.Leasts.{least-found-iff}
-use Rattle.job_laws.proofs.Firsts.{refused-if, passed-if}
+use Rattle.list_laws.proofs.Tests.{Test, passes, fails, test, true-false, not-true}
+use Rattle.list_laws.proofs.Leasts.{least-zero-iff, least-found-iff}
+use Rattle.job_laws.proofs.Firsts.{refused-passed, refused-if, passed-if}
 use Rattle.refusal_laws.proofs.Agreements.{Refuses, Agree, agree-same, agree-by}
-use Rattle.refusal_laws.proofs.Exactly.{Leaving}
 
 -- ---- comparisons
 
@@ -26,6 +25,16 @@ below-iff x y = (ltb-true x y, lt-ltb x y)
 pub fails-iff : (b : Bool) {P : Type 0} → (b ≡ true) ↔ P → (b ≡ false) ↔ (¬ P)
 fails-iff true i = (λ e. absurd (true-false refl e), λ h. absurd (h (i .0 refl)))
 fails-iff false i = (λ e p. true-false (i .1 p) refl, λ h. refl)
+
+pub unless-iff : (b : Bool) {P : Type 0} → (b ≡ false) ↔ P → (b ≡ true) ↔ (¬ P)
+unless-iff true i = (λ e p. true-false refl (i .1 p), λ h. refl)
+unless-iff false i = (λ e. absurd (true-false e refl), λ h. absurd (h (i .0 refl)))
+
+pub not-iff : (b : Bool) {P : Type 0} → (b ≡ true) ↔ P → (not b ≡ true) ↔ (¬ P)
+not-iff b i = let k = fails-iff b i in (λ e. k .0 (not-true b e), λ h. rw (k .1 h))
+
+pub differ-iff : (x y : ℕ) → (not (eqb x y) ≡ true) ↔ (x ≢ y)
+differ-iff x y = not-iff (eqb x y) (eqb-true x y, eq-eqb x y)
 
 pub either-iff : (b c : Bool) {P Q : Type 0} → (b ≡ true) ↔ P → (c ≡ true) ↔ Q → ((b || c) ≡ true) ↔ (P ⊎ Q)
 either-iff true c p q = (λ e. inl (p .0 refl), λ h. refl)
@@ -82,6 +91,15 @@ module _ (f : ℕ → Bool) (n : ℕ) {P : ℕ → Type 0} (holds : (k : ℕ) �
   unfolding refusedAt
   agree-at number count leaves = agree-least _ (λ p. answer (number p) p (count p)) leaves (λ e. rw e) (λ p e. rw e)
 
+  -- it passes where P holds nowhere
+  pub at-passed : (number count : ℕ) (leaves : Leaves) → refusedAt number (least f n) count leaves ≡ passed → (k : ℕ) → 1 ≤ k → k ≤ n → ¬ P k
+  unfolding refusedAt
+  at-passed number count leaves e k l u x = go (least f n) refl e
+    where
+      go : (m : ℕ) → least f n ≡ m → refusedAt number m count leaves ≡ passed → ⊥
+      go zero z p = true-false (holds k l u .1 x) (least-zero-iff f n .0 z k l u)
+      go (suc m) z p = refused-passed refl p
+
 -- ---- refused with the fault of the least place that has one
 
 -- the fault of place k: none, or m just where `Bad k m`
@@ -107,8 +125,3 @@ module _ {fault : ℕ → ℕ} {Bad : ℕ → ℕ → Type 0} (faults : Faults f
         λ (k, (r, (m, b), none), q). (k, m, r, b, λ i m l h x. none i l h (m, x), let e = faults .is k m b .0 in rw (← e) q),
         λ (k, m, r, b, none, q). (k, (r, (m, b), λ i l h x. none i (x .0) l h (x .1)), let e = faults .is k m b .0 in rw e q),
       ))
-
-pub leaving-at : (number p count : ℕ) (leaves : Leaves) → ((q : ℕ) → p ≡ suc q → Leaving (refused (answer number (suc q) count) leaves)) → Leaving (refusedAt number p count leaves)
-unfolding refusedAt
-leaving-at number zero count leaves h = tt
-leaving-at number (suc p) count leaves h = h p refl
