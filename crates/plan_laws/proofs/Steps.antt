@@ -2,7 +2,8 @@
 -- Assumes nothing.
 use Prim.Native.Nat.{ℕ, zero, suc, _-_, _<_, _≤_}
 use mathlib.Core.Path.{_≡_, refl, ap}
-use mathlib.Core.List.{List, [], _∷_, map, List·Memᴰ·head, List·Memᴰ·tail}
+use mathlib.Core.Logic.{_⊎_, inl, inr}
+use mathlib.Core.List.{List, [], _∷_, map, List·Memᴰ·head, List·Memᴰ·tail, List·Memᴰ·not-nil, List·Memᴰ·cases-cons}
 use native.Mathlib.Omega.{arith}
 use lib.ListN.{length, getD}
 use Rattle.papers.specs.Lists.{_∈_}
@@ -33,3 +34,12 @@ steps-fit n pops (x ∷ xs) h e =
     let own : x .1 ≡ pops (x .0) = cc in
     let rest : popsIn xs ≡ map pops (columnsIn xs) = cc in
     ((l, u, omega arith), steps-fit n pops xs (λ j m. h j (List·Memᴰ·tail m)) rest)
+
+-- the columns of steps that lie in their ranges
+pub columns-within : (n : ℕ) (steps : List (ℕ × ℕ)) → StepsFit n steps → (j : ℕ) → j ∈ columnsIn steps → (1 ≤ j) × (j ≤ n)
+columns-within n [] f j m = absurd (List·Memᴰ·not-nil m)
+columns-within n (x ∷ xs) f j m = go (List·Memᴰ·cases-cons m) (λ k. columns-within n xs (f .1) j k)
+  where
+    go : (j ≡ x .0) ⊎ (j ∈ columnsIn xs) → (j ∈ columnsIn xs → (1 ≤ j) × (j ≤ n)) → (1 ≤ j) × (j ≤ n)
+    go (inl e) ih = rw e (f .0 .0, f .0 .1)
+    go (inr k) ih = ih k
