@@ -1,9 +1,9 @@
 -- All tests of the check pass just where the bytes are those of a sound plan of a valid job and the slices are long enough: 11 to 15 make the bytes
 -- those of a plan, 16 to 20 and 9 make it sound.
 -- Assumes nothing.
-use Prim.Native.Nat.{ℕ, _*_, _^_, _<_, _≤_}
+use Prim.Native.Nat.{ℕ, _*_, _^_, _<_}
 use mathlib.Core.Path.{_≡_, refl, sym, ap, _∙_}
-use mathlib.Core.Logic.{_↔_, inl, inr}
+use mathlib.Core.Logic.{_↔_}
 use native.Mathlib.Omega.{arith}
 use lib.ListN.{length, getD, take}
 use lib.Seq.{take-at}
@@ -14,8 +14,6 @@ use Rattle.papers.specs.Key.{keyOf}
 use Rattle.papers.specs.Plan.{Plan, planNumbers, planBytes, Read, got, bad}
 use Rattle.papers.specs.Refusals.{answer, zeroed, Verdict, passed, refused, first, jobTests, lengthsTest, factorRowsTest}
 use Rattle.papers.specs.Check.{CheckCall, keyTest, planRead, readTest, ofPlan, checkTests}
-use Rattle.papers.specs.Conditions.{Short, RowsExceed}
-use Rattle.papers.specs.declared.Answer.{Answer}
 use Rattle.bytes_laws.proofs.Fields.{spans-end}
 use Rattle.bytes_laws.proofs.Plans.{Fit, plan-back}
 use Rattle.bytes_laws.proofs.Begins.{key-passed-iff, plan-bytes-iff}
@@ -24,6 +22,7 @@ use Rattle.job_laws.proofs.Passed.{passes-iff, passed-below}
 use Rattle.refusal_laws.proofs.Agreements.{agree-passed-iff}
 use Rattle.refusal_laws.proofs.Slices.{lengths-agree, factor-rows-agree}
 use Rattle.plan_laws.specs.Passing.{Long, Passing}
+use Rattle.plan_laws.proofs.Slices.{long-iff}
 use Rattle.plan_laws.proofs.Sounds.{sound-fits}
 use Rattle.plan_laws.proofs.PlanSound.{sound-iff}
 
@@ -43,39 +42,12 @@ module _ (call : CheckCall) where
       there p (bad number place) e = let r : readTest call ≡ refused (answer number place 0) zeroed = rw (e, readTest) in absurd (refused-passed r p)
 
   -- 7 and 8 pass just where the slices are long enough
-  long-iff : (rows : ℕ) → ((lengthsTest (call .job .n) (call .lent) ≡ passed) × (factorRowsTest rows (call .lent) ≡ passed)) ↔ Long (call .job .n) rows (call .lent)
-  long-iff rows = (from, into)
-    where
-      lengths : (lengthsTest (call .job .n) (call .lent) ≡ passed) ↔ ((a : Answer) → ¬ Short (call .job .n) (call .lent) a)
-      lengths = agree-passed-iff _ _ (lengths-agree (call .job .n) (call .lent))
-
-      factor : (factorRowsTest rows (call .lent) ≡ passed) ↔ ((a : Answer) → ¬ RowsExceed rows (call .lent) a)
-      factor = agree-passed-iff _ _ (factor-rows-agree rows (call .lent))
-
-      at-least : (a b : ℕ) → ¬ (a < b) → b ≤ a
-      at-least a b h = omega arith
-
-      from : (lengthsTest (call .job .n) (call .lent) ≡ passed) × (factorRowsTest rows (call .lent) ≡ passed) → Long (call .job .n) rows (call .lent)
-      from (p, q) =
-          let none = lengths .0 p (answer 7 0 0) in
-          record {
-            parents = at-least _ _ (λ l. none (inl l, refl));
-            order = at-least _ _ (λ l. none (inr (inl l), refl));
-            pops = at-least _ _ (λ l. none (inr (inr (inl l)), refl));
-            starts = at-least _ _ (λ l. none (inr (inr (inr (inl l))), refl));
-            work = at-least _ _ (λ l. none (inr (inr (inr (inr l))), refl));
-            rows = at-least _ _ (λ l. factor .0 q (answer 8 0 rows) (l, refl));
-          }
-
-      none-short : Long (call .job .n) rows (call .lent) → (a : Answer) → ¬ Short (call .job .n) (call .lent) a
-      none-short long a (inl l, q) = omega (arith, long .parents)
-      none-short long a (inr (inl l), q) = omega (arith, long .order)
-      none-short long a (inr (inr (inl l)), q) = omega (arith, long .pops)
-      none-short long a (inr (inr (inr (inl l))), q) = omega (arith, long .starts)
-      none-short long a (inr (inr (inr (inr l))), q) = omega (arith, long .work)
-
-      into : Long (call .job .n) rows (call .lent) → (lengthsTest (call .job .n) (call .lent) ≡ passed) × (factorRowsTest rows (call .lent) ≡ passed)
-      into long = (lengths .1 (none-short long), factor .1 (λ a (l, q). omega (arith, long .rows)))
+  slices-iff : (rows : ℕ) → ((lengthsTest (call .job .n) (call .lent) ≡ passed) × (factorRowsTest rows (call .lent) ≡ passed)) ↔ Long (call .job .n) rows (call .lent)
+  slices-iff rows =
+      let lengths = agree-passed-iff _ _ (lengths-agree (call .job .n) (call .lent)) in
+      let factor = agree-passed-iff _ _ (factor-rows-agree rows (call .lent)) in
+      let long = long-iff (call .job .n) rows (call .lent) in
+      (λ (p, q). long .0 (lengths .0 p, factor .0 q), λ l. let (p, q) = long .1 l in (lengths .1 p, factor .1 q))
 
   fits : first jobTests (call .job) ≡ passed → call .job .n < 2 ^ (7 * maxGroups)
   fits valid = let h = passes-iff (call .job) .0 valid .few in omega arith
@@ -92,7 +64,7 @@ module _ (call : CheckCall) where
       )
 
   -- what passes is such a plan
-  pub passes-passing : ((i : ℕ) → getD (call .plan) i 0 < 256) → first checkTests call ≡ passed → Passing (call .job) (call .plan) (call .lent)
+  pub passes-passing : ((i : ℕ) → getD (call .plan) i 0 < 256) → first checkTests call ≡ passed → (plan : Plan) × Passing (call .job) plan (call .plan) (call .lent)
   unfolding checkTests jobTests
   passes-passing bytes p =
       let job = first-passed-iff checkTests call .0 p in
@@ -101,24 +73,29 @@ module _ (call : CheckCall) where
       let valid = first-passed-iff jobTests (call .job) .1 (job .0, (job .1 .0, (job .1 .1 .0, (job .1 .1 .1 .0, (job .1 .1 .1 .1 .0, tt))))) in
       let (plan, at, e) = read-iff .0 (bytes-on .1 .1 .0) in
       let (fit, whole, last) = plan-bytes-iff call plan at (fits valid) bytes .0 (bytes-on .1 .0, e) in
-      let of : (test : CheckCall → Plan → Verdict) → ofPlan test call ≡ passed → test call plan ≡ passed = λ test q. sym (of-plan test plan at e) ∙ q in
-      record {
-        valid = valid;
-        plan = plan;
-        whole = whole;
-        sound = sound-iff (call .job) plan fit (passed-below (call .job) (passes-iff (call .job) .0 valid)) .0 (of _ (plan-on .1 .0), of _ (plan-on .1 .1 .0), of _ (plan-on .1 .1 .1 .0), of _ (plan-on .1 .1 .1 .1 .0), of _ (plan-on .1 .1 .1 .1 .1 .0), of _ (plan-on .1 .1 .1 .1 .1 .1 .0));
-        long = long-iff (length (flat (plan .lists))) .0 (bytes-on .0, of _ (plan-on .0));
-      }
+      let of : (test : CheckCall → Plan → Verdict) → ofPlan test call ≡ passed → test call plan ≡ passed = λ test q. sym (of-plan test plan at e) ∙ q in (
+        plan,
+        record {
+          valid = valid;
+          whole = whole;
+          sound = sound-iff (call .job) plan fit (passed-below (call .job) (passes-iff (call .job) .0 valid)) .0 (of _ (plan-on .1 .0), of _ (plan-on .1 .1 .0), of _ (plan-on .1 .1 .1 .0), of _ (plan-on .1 .1 .1 .1 .0), of _ (plan-on .1 .1 .1 .1 .1 .0), of _ (plan-on .1 .1 .1 .1 .1 .1 .0));
+          long = slices-iff (length (flat (plan .lists))) .0 (bytes-on .0, of _ (plan-on .0));
+        },
+      )
 
-  -- and such a plan passes
-  pub passing-passes : Passing (call .job) (call .plan) (call .lent) → first checkTests call ≡ passed
+  -- such a plan is read
+  pub passing-read : (plan : Plan) → Passing (call .job) plan (call .plan) (call .lent) → planRead call ≡ got plan (length (call .plan))
+  passing-read plan q = whole-read plan (fits (q .valid)) (sound-fits (call .job) (q .valid) plan (q .sound)) (q .whole) .1
+
+  -- and it passes
+  pub passing-passes : (plan : Plan) → Passing (call .job) plan (call .plan) (call .lent) → first checkTests call ≡ passed
   unfolding checkTests jobTests
-  passing-passes q =
+  passing-passes plan q =
       let job = first-passed-iff jobTests (call .job) .0 (q .valid) in
-      let fit = sound-fits (call .job) (q .valid) (q .plan) (q .sound) in
-      let (key, e) = whole-read (q .plan) (fits (q .valid)) fit (q .whole) in
-      let of : (test : CheckCall → Plan → Verdict) → test call (q .plan) ≡ passed → ofPlan test call ≡ passed = λ test p. of-plan test (q .plan) (length (call .plan)) e ∙ p in
-      let (lengths, factor) = long-iff (length (flat (q .plan .lists))) .1 (q .long) in
-      let (repeats, lists, subtrees, pops, declared, within) = sound-iff (call .job) (q .plan) fit (passed-below (call .job) (passes-iff (call .job) .0 (q .valid))) .1 (q .sound) in
+      let fit = sound-fits (call .job) (q .valid) plan (q .sound) in
+      let (key, e) = whole-read plan (fits (q .valid)) fit (q .whole) in
+      let of : (test : CheckCall → Plan → Verdict) → test call plan ≡ passed → ofPlan test call ≡ passed = λ test p. of-plan test plan (length (call .plan)) e ∙ p in
+      let (lengths, factor) = slices-iff (length (flat (plan .lists))) .1 (q .long) in
+      let (repeats, lists, subtrees, pops, declared, within) = sound-iff (call .job) plan fit (passed-below (call .job) (passes-iff (call .job) .0 (q .valid))) .1 (q .sound) in
       first-passed-iff checkTests call .1
-      (job .0, (job .1 .0, (job .1 .1 .0, (job .1 .1 .1 .0, (job .1 .1 .1 .1 .0, (lengths, (key, (read-iff .1 (q .plan, length (call .plan), e), (of _ factor, (of _ repeats, (of _ lists, (of _ subtrees, (of _ pops, (of _ declared, (of _ within, tt)))))))))))))))
+      (job .0, (job .1 .0, (job .1 .1 .0, (job .1 .1 .1 .0, (job .1 .1 .1 .1 .0, (lengths, (key, (read-iff .1 (plan, length (call .plan), e), (of _ factor, (of _ repeats, (of _ lists, (of _ subtrees, (of _ pops, (of _ declared, (of _ within, tt)))))))))))))))

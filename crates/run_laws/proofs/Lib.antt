@@ -6,3 +6,4 @@ pub mod Completes
 pub mod StepRules
 pub mod SoundRuns
 pub mod HandedOn
+pub mod CheckedRuns
