@@ -22,7 +22,7 @@ use Rattle.refusal_laws.proofs.Run.{run-exactly}
 use Rattle.run_laws.specs.Runs.{IsStep, roomUsed, Runs, LacksRoom}
 use Rattle.run_laws.specs.Follows.{Follows}
 use Rattle.run_laws.proofs.Factor.{lists-pass, columns-long}
-use Rattle.run_laws.proofs.Fronts.{step-known, step-held, step-popped, popped-fit, pattern-fit, front-only}
+use Rattle.run_laws.proofs.Fronts.{step-known, step-held, step-popped, step-once, popped-fit, pattern-fit, front-only}
 use Rattle.run_laws.proofs.Rooms.{room-bound, room-reached, peak-step, greatest-peak, ends-empty}
 
 module _ {A : Pattern} {call : RunCall} (f : Follows A call) where
@@ -72,6 +72,7 @@ module _ {A : Pattern} {call : RunCall} (f : Follows A call) where
   follows-runs h = record {
     steps = f .ordered;
     popped = step-popped f;
+    once = step-once f;
     pattern-placed = λ s i j m. pattern-fit f s j m;
     popped-placed = popped-fit f;
     nothing-else = front-only f;

@@ -1,3 +1,4 @@
+pub mod Once
 pub mod Factor
 pub mod States
 pub mod Fronts

@@ -5,7 +5,7 @@ use mathlib.Core.Path.{_≡_}
 use mathlib.Core.Logic.{_⊎_, _↔_, _≢_}
 use mathlib.Core.List.{List, [], _∷_, map}
 use lib.ListN.{length, take, drop}
-use Rattle.papers.specs.Lists.{_∈_, flat, startsFrom, zeros}
+use Rattle.papers.specs.Lists.{_∈_, Distinct, flat, startsFrom, zeros}
 use Rattle.papers.specs.Job.{Job, Pattern, pattern}
 use Rattle.papers.specs.Tree.{t, parent}
 use Rattle.papers.specs.Room.{roomAt}
@@ -51,8 +51,9 @@ pub record StepRule (call : RunCall) (s : ℕ) : Type 0 where
 pub record Runs (A : Pattern) (peak : ℕ) (call : RunCall) : Type 0 where
   -- each column has its step, each subtree its consecutive steps
   pub steps : Ordered (parent A) (call .n) (call .columns)
-  -- each step pops the updates of its column's children, and no others
+  -- each step pops the updates of its column's children, and no others; each once
   pub popped : (s : ℕ) → IsStep call s → (x : ℕ) → (x ∈ poppedAt call s) ↔ (parent A x ≡ stepColumn call s)
+  pub once : (s : ℕ) → IsStep call s → Distinct (poppedAt call s)
   -- every pattern row, and every popped row, has a place in the front
   pub pattern-placed : (s : ℕ) → IsStep call s → (i : ℕ) → i ∈ A (stepColumn call s) → i ∈ frontAt call s
   pub popped-placed : (s : ℕ) → IsStep call s → (x i : ℕ) → x ∈ poppedAt call s → i ∈ rowsIn call x → i ∈ frontAt call s
