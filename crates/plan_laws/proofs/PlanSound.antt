@@ -35,6 +35,11 @@ use Rattle.refusal_laws.proofs.Tests.{fails-iff, at-passed}
 use Rattle.refusal_laws.proofs.PlanTests.{Steps, repeat-agree, once, all}
 use Rattle.plan_laws.proofs.Steps.{map-at, columns-within}
 
+-- a plan passes 16, 17, 18, 19, 20 and 9
+abbrev pub PlanPasses : Job → Plan → Type 0
+PlanPasses job plan =
+    (repeatTest job plan ≡ passed) × (listTest job plan ≡ passed) × (subtreeTest job plan ≡ passed) × (popsTest job plan ≡ passed) × (declaredTest job plan ≡ passed) × (peakTest (job .limit) (truePeak job plan) ≡ passed)
+
 -- a test that refuses at the least place passes just where no place is at fault
 at-iff : (f : ℕ → Bool) (n number : ℕ) → (refusedAt number (least f n) 0 zeroed ≡ passed) ↔ ((k : ℕ) → 1 ≤ k → k ≤ n → f k ≡ false)
 unfolding refusedAt
@@ -116,11 +121,11 @@ module _ (job : Job) (plan : Plan) (fit : Fit (job .n) plan) where
         (λ e s l u. t s l u .0 (i .0 e s l (omega (arith, read .0))), λ h. i .1 (λ s l u. t s l (omega (arith, read .0)) .1 (h s l (omega (arith, read .0)))))
 
     -- a plan that was read passes 16 to 20 and 9 just where it is sound
-    pub sound-iff : ((repeatTest job plan ≡ passed) × (listTest job plan ≡ passed) × (subtreeTest job plan ≡ passed) × (popsTest job plan ≡ passed) × (declaredTest job plan ≡ passed) × (peakTest (job .limit) (truePeak job plan) ≡ passed)) ↔ Sound job plan
+    pub sound-iff : PlanPasses job plan ↔ Sound job plan
     unfolding truePeak
     sound-iff = (from, into)
       where
-        from : (repeatTest job plan ≡ passed) × (listTest job plan ≡ passed) × (subtreeTest job plan ≡ passed) × (popsTest job plan ≡ passed) × (declaredTest job plan ≡ passed) × (peakTest (job .limit) (truePeak job plan) ≡ passed) → Sound job plan
+        from : PlanPasses job plan → Sound job plan
         from (repeats, lists, subtrees, pops, declared, within) =
             let each : (j : ℕ) → (j ∈ order) ↔ ((1 ≤ j) × (j ≤ job .n)) = λ j. (read .1 j, λ (l, u). all job plan read repeats j l u) in
             let once = repeat-iff .0 repeats in
@@ -133,7 +138,7 @@ module _ (job : Job) (plan : Plan) (fit : Fit (job .n) plan) where
               within = rw greatest (within-iff .0 within);
             }
 
-        into : Sound job plan → (repeatTest job plan ≡ passed) × (listTest job plan ≡ passed) × (subtreeTest job plan ≡ passed) × (popsTest job plan ≡ passed) × (declaredTest job plan ≡ passed) × (peakTest (job .limit) (truePeak job plan) ≡ passed)
+        into : Sound job plan → PlanPasses job plan
         into s = (
           repeat-iff .1 (s .ordered .once),
           list-iff .1 (s .rows),
