@@ -107,11 +107,11 @@ module _ (job : Job) (plan : Plan) (read : Steps (job .n) (job .n) (columnsIn (p
   repeat-agree = agree-at _ (job .n) repeats (λ p. 16) (λ p. 0) zeroed
 
   module _ (pass : repeatTest job plan ≡ passed) where
-    once : Distinct (columnsIn (plan .steps))
+    pub once : Distinct (columnsIn (plan .steps))
     unfolding repeatTest
     once = unrepeated-distinct (columnsIn (plan .steps)) (λ s l u. at-passed _ (job .n) repeats 16 0 zeroed pass s l (omega (arith, read .0)))
 
-    all : (j : ℕ) → 1 ≤ j → j ≤ job .n → j ∈ columnsIn (plan .steps)
+    pub all : (j : ℕ) → 1 ≤ j → j ≤ job .n → j ∈ columnsIn (plan .steps)
     all j l u = go (test (member j (columnsIn (plan .steps))))
       where
         within : (i : ℕ) → (i ≡ j) ⊎ (i ∈ columnsIn (plan .steps)) → i ∈ upTo (job .n)

@@ -8,11 +8,12 @@ use mathlib.Core.List.{_∷_, List·Memᴰ·head, List·Memᴰ·tail}
 use native.Mathlib.Omega.{arith}
 use native.Mathlib.Nat.{eq-or-lt-of-le}
 use lib.ListN.{length}
-use Rattle.papers.specs.Lists.{_∈_}
+use lib.Seq.{length-take-le}
+use Rattle.papers.specs.Lists.{_∈_, Distinct}
 use Rattle.papers.specs.Job.{Pattern}
 use Rattle.papers.specs.Fill.{R}
 use Rattle.papers.specs.Tree.{parent}
-use Rattle.papers.specs.Order.{popsOf}
+use Rattle.papers.specs.Order.{kidsOf, popsOf}
 use Rattle.papers.specs.Run.{RunCall, rowsIn, popsAt, stateAfter}
 use Rattle.papers.specs.Conditions.{stepColumn, heldAt, Known, AllFit}
 use Rattle.list_laws.proofs.Ascending.{drop-head}
@@ -20,11 +21,13 @@ use Rattle.fill_laws.proofs.Fill.{R-pattern}
 use Rattle.fill_laws.proofs.Parents.{parent-least, hands-on}
 use Rattle.fill_laws.proofs.Children.{FromChild, R-children}
 use Rattle.order_laws.specs.Stack.{heldColumns}
+use Rattle.order_laws.proofs.Subtrees.{children-of, children-distinct}
 use Rattle.order_laws.proofs.Patterns.{tree-of}
 use Rattle.order_laws.proofs.Steps.{column-in}
 use Rattle.order_laws.proofs.Takes.{step-enough, step-takes}
 use Rattle.run_laws.specs.Runs.{IsStep, poppedAt, frontAt}
 use Rattle.run_laws.specs.Follows.{Follows}
+use Rattle.run_laws.proofs.Once.{distinct-by-count}
 use Rattle.run_laws.proofs.Factor.{rows-in, columns-long}
 use Rattle.run_laws.proofs.States.{pops-at, held-in}
 
@@ -36,6 +39,10 @@ module _ {A : Pattern} {call : RunCall} (f : Follows A call) where
   pub step-known : (s : ℕ) → IsStep call s → Known call s
   step-known s i = f .ordered .each (stepColumn call s) .0 (column-in (call .columns) s (i .0) (omega (arith, columns-long f)))
 
+  step-pops : (s : ℕ) → IsStep call s → popsAt call s ≡ popsOf (call .n) A (stepColumn call s)
+  step-pops zero i = absurd (omega arith)
+  step-pops (suc s) i = pops-at f s (i .1)
+
   pub step-held : (s : ℕ) → IsStep call s → popsAt call s ≤ length (heldAt call s)
   step-held zero i = absurd (omega arith)
   step-held (suc s) i = rw (pops-at f s (i .1), held-at s (i .1)) (step-enough (tree-of (f .below)) (call .columns) (f .ordered) s (omega (arith, columns-long f)))
@@ -44,6 +51,14 @@ module _ {A : Pattern} {call : RunCall} (f : Follows A call) where
   pub step-popped : (s : ℕ) → IsStep call s → (x : ℕ) → (x ∈ poppedAt call s) ↔ (parent A x ≡ stepColumn call s)
   step-popped zero i x = absurd (omega arith)
   step-popped (suc s) i x = rw (pops-at f s (i .1), held-at s (i .1)) (step-takes (tree-of (f .below)) (call .columns) (f .ordered) s (omega (arith, columns-long f)) x)
+
+  -- each once, since it pops no more than there are children
+  pub step-once : (s : ℕ) → IsStep call s → Distinct (poppedAt call s)
+  step-once s i =
+      let j = stepColumn call s in
+      distinct-by-count (poppedAt call s) (kidsOf (call .n) A j) (children-distinct (parent A) (call .n) j)
+      (λ x m. step-popped s i x .1 (children-of (tree-of (f .below)) j x (step-known s i .0) .0 m))
+      (omega (arith, length-take-le (popsAt call s) (heldAt call s) (step-held s i), step-pops s i))
 
   -- every popped row has a place in the front
   pub popped-fit : (s : ℕ) → IsStep call s → AllFit call s

@@ -1,17 +1,16 @@
 -- A sound plan runs in its declared peak: its lists are R, its order has whole subtrees, and its pops are the numbers of children.
 -- Assumes nothing.
-use Prim.Native.Nat.{ℕ, _-_, _<_, _≤_}
+use Prim.Native.Nat.{ℕ, _<_, _≤_}
 use mathlib.Core.Path.{_≡_, ap}
 use mathlib.Core.List.{List}
 use lib.ListN.{length}
-use Rattle.papers.specs.Lists.{flat, startsFrom, zeros}
+use Rattle.papers.specs.Lists.{flat, startsFrom}
 use Rattle.papers.specs.Job.{Job, pattern}
 use Rattle.papers.specs.Plan.{Plan}
-use Rattle.papers.specs.Refusals.{answer, passed, first, jobTests}
-use Rattle.papers.specs.Run.{stateAfter, ran}
+use Rattle.papers.specs.Refusals.{passed, first, jobTests}
 use Rattle.papers.specs.Sound.{Sound}
 use Rattle.job_laws.proofs.Passed.{passes-iff, passed-below}
-use Rattle.run_laws.specs.Runs.{planRun, IsStep, Runs}
+use Rattle.run_laws.specs.Runs.{planRun, Runs, LacksRoom}
 use Rattle.run_laws.specs.Follows.{Follows}
 use Rattle.run_laws.proofs.Completes.{follows-runs, less-refused}
 
@@ -34,6 +33,5 @@ module _ (job : Job) (plan : Plan) (valid : first jobTests job ≡ passed) (soun
   sound-plan-runs h = rw (sound .greatest) (follows-runs follows (rw (← sound .greatest) h))
 
   -- with less room it is refused with 23
-  pub less-room-refused : room < plan .peak
-      → (s : ℕ) × IsStep (planRun (job .n) plan room stack) s × (ran (planRun (job .n) plan room stack) ≡ record { answer = answer 23 s (stateAfter (planRun (job .n) plan room stack) (s - 1) .greatest); lent = zeros stack })
+  pub less-room-refused : room < plan .peak → LacksRoom (planRun (job .n) plan room stack)
   less-room-refused h = less-refused follows (rw (← sound .greatest) h)

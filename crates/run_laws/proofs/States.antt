@@ -22,7 +22,7 @@ use Rattle.order_laws.proofs.Steps.{column-at}
 use Rattle.order_laws.proofs.Waiting.{pushed-root, pushed-update}
 use Rattle.order_laws.proofs.Entries.{held-entries}
 use Rattle.order_laws.proofs.Peaks.{peak-next}
-use Rattle.plan_laws.proofs.Columns.{map-at}
+use Rattle.plan_laws.proofs.Steps.{map-at}
 use Rattle.run_laws.specs.Follows.{Follows}
 use Rattle.run_laws.proofs.Factor.{rows-in, columns-long}
 

@@ -5,14 +5,16 @@ use mathlib.Core.Path.{_≡_}
 use mathlib.Core.Logic.{_⊎_, _↔_, _≢_}
 use mathlib.Core.List.{List, [], _∷_, map}
 use lib.ListN.{length, take, drop}
-use Rattle.papers.specs.Lists.{_∈_, flat, startsFrom, zeros}
-use Rattle.papers.specs.Job.{Pattern}
+use Rattle.papers.specs.Lists.{_∈_, Distinct, flat, startsFrom, zeros}
+use Rattle.papers.specs.Job.{Job, Pattern, pattern}
 use Rattle.papers.specs.Tree.{t, parent}
 use Rattle.papers.specs.Room.{roomAt}
 use Rattle.papers.specs.Order.{Ordered}
-use Rattle.papers.specs.Plan.{Plan, columnsIn, popsIn}
-use Rattle.papers.specs.Refusals.{answer}
+use Rattle.papers.specs.Plan.{Plan, columnsIn, popsIn, planBytes}
+use Rattle.papers.specs.Refusals.{answer, Lent}
+use Rattle.papers.specs.Check.{checked}
 use Rattle.papers.specs.Run.{RunCall, rowsIn, popsAt, roomIn, stateAfter, ran}
+use Rattle.papers.specs.Sound.{handedOn}
 use Rattle.papers.specs.Conditions.{stepColumn, heldAt}
 
 -- the run of a plan's own lists
@@ -49,8 +51,9 @@ pub record StepRule (call : RunCall) (s : ℕ) : Type 0 where
 pub record Runs (A : Pattern) (peak : ℕ) (call : RunCall) : Type 0 where
   -- each column has its step, each subtree its consecutive steps
   pub steps : Ordered (parent A) (call .n) (call .columns)
-  -- each step pops the updates of its column's children, and no others
+  -- each step pops the updates of its column's children, and no others; each once
   pub popped : (s : ℕ) → IsStep call s → (x : ℕ) → (x ∈ poppedAt call s) ↔ (parent A x ≡ stepColumn call s)
+  pub once : (s : ℕ) → IsStep call s → Distinct (poppedAt call s)
   -- every pattern row, and every popped row, has a place in the front
   pub pattern-placed : (s : ℕ) → IsStep call s → (i : ℕ) → i ∈ A (stepColumn call s) → i ∈ frontAt call s
   pub popped-placed : (s : ℕ) → IsStep call s → (x i : ℕ) → x ∈ poppedAt call s → i ∈ rowsIn call x → i ∈ frontAt call s
@@ -64,3 +67,22 @@ pub record Runs (A : Pattern) (peak : ℕ) (call : RunCall) : Type 0 where
   pub empty : stateAfter call (call .n) .held ≡ []
   -- all steps are done, with no refusal
   pub completes : ran call ≡ record { answer = answer 0 0 peak; lent = zeros (call .stack) }
+
+-- A run is refused with 23 at a step that needs more room than there is.
+pub record LacksRoom (call : RunCall) : Type 0 where
+  pub step : ℕ
+  pub is : IsStep call step
+  pub over : call .room < roomUsed call step
+  pub refused : ran call ≡ record { answer = answer 23 step (stateAfter call (step - 1) .greatest); lent = zeros (call .stack) }
+
+-- Lists in lent slices, handed on with a declared peak as room, run; with any less room they are refused.
+pub record RunsInPeak (job : Job) (lent : Lent) (peak : ℕ) (stack : List ℕ) : Type 0 where
+  pub runs : Runs (pattern job) peak (handedOn (job .n) lent peak stack)
+  pub less : (room : ℕ) → room < peak → LacksRoom (handedOn (job .n) lent room stack)
+
+-- Plan bytes that passed the check: the plan that they are, and the run of the checked lists with its declared peak as room.
+pub record CheckedRun (job : Job) (bytes : List ℕ) (lent : Lent) (stack : List ℕ) : Type 0 where
+  pub plan : Plan
+  pub declared : bytes ≡ planBytes job plan
+  pub counted : checked job bytes lent .answer ≡ answer 0 0 (plan .peak)
+  pub in-peak : RunsInPeak job (checked job bytes lent .lent) (plan .peak) stack
