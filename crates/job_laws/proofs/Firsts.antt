@@ -1,14 +1,16 @@
 -- The first test that refuses. Tests that pass may be left out in front, tests behind one that refuses do not matter, and what holds of each
 -- test's verdict holds of the first's.
 -- Assumes nothing.
-use Prim.Native.Nat.{ℕ}
+use Prim.Native.Nat.{ℕ, _<_, _≤_}
 use mathlib.Core.Path.{_≡_, refl, sym, _∙_}
-use mathlib.Core.Logic.{_↔_}
+use mathlib.Core.Logic.{_↔_, _≢_}
 use mathlib.Core.Bool.{Bool, true, false}
 use mathlib.Core.List.{List, [], _∷_, _++_, map}
 use native.Mathlib.Omega.{arith}
+use lib.Dec.{ltb}
+use borrow.Author.Tests.{ltb-false, lt-ltb, le-ltb}
 use Rattle.papers.specs.declared.Answer.{Answer}
-use Rattle.papers.specs.Refusals.{Leaves, Verdict, passed, refused, first, refusedIf}
+use Rattle.papers.specs.Refusals.{answer, Leaves, Verdict, passed, refused, answerOf, first, refusedIf}
 
 pub refused-passed : {v : Verdict} {a : Answer} {l : Leaves} → v ≡ refused a l → v ≡ passed → ⊥
 refused-passed r p = let z : _≡_ {A = ℕ} 0 1 = cc in omega arith
@@ -97,3 +99,40 @@ passed-if-iff b a l = (there b refl, passed-if b a l)
     there : (t : Bool) → b ≡ t → refusedIf b a l ≡ passed → b ≡ false
     there true e p = absurd (refused-passed (refused-if b a l e) p)
     there false e p = e
+
+-- a test that x is over a bound refuses just where it is
+pub over-refuses : (bound x : ℕ) (a : Answer) (l : Leaves) → bound < x → refusedIf (ltb bound x) a l ≡ refused a l
+over-refuses bound x a l h = refused-if (ltb bound x) a l (lt-ltb bound x h)
+
+pub over-passes-iff : (bound x : ℕ) (a : Answer) (l : Leaves) → (refusedIf (ltb bound x) a l ≡ passed) ↔ (x ≤ bound)
+over-passes-iff bound x a l =
+    let i = passed-if-iff (ltb bound x) a l in
+    (λ e. ltb-false bound x (i .0 e), λ h. i .1 (le-ltb bound x h))
+
+-- ---- the answer of a verdict
+
+pub answer-refused : {v : Verdict} {a r : Answer} {l : Leaves} → v ≡ refused a l → r ≡ a → r ≡ answerOf v
+unfolding answerOf
+answer-refused e q = rw e q
+
+pub answer-passed : {v : Verdict} {r : Answer} → v ≡ passed → r ≡ answer 0 0 0 → r ≡ answerOf v
+unfolding answerOf
+answer-passed e q = rw e q
+
+-- a test that answers another number than 0 refuses, so it decides before those behind it
+pub first-answers : {C : Type 0} (test : C → Verdict) (tests : List (C → Verdict)) (c : C) → answerOf (test c) .number ≢ 0 → first (test ∷ tests) c ≡ test c
+unfolding answerOf
+first-answers test tests c h = go (test c) refl
+  where
+    go : (v : Verdict) → test c ≡ v → first (test ∷ tests) c ≡ test c
+    go passed e = absurd (h (rw e))
+    go (refused a l) e = first-refuses test tests c e ∙ sym e
+
+-- the last test has the last word
+pub first-last : {C : Type 0} (test : C → Verdict) (c : C) → first (test ∷ []) c ≡ test c
+unfolding first
+first-last test c = go (test c) refl
+  where
+    go : (v : Verdict) → test c ≡ v → first (test ∷ []) c ≡ test c
+    go passed e = first-passes test [] c e ∙ sym e
+    go (refused a l) e = first-refuses test [] c e ∙ sym e
