@@ -30,6 +30,15 @@ pub fn triangle(rows: u64) -> u64
     rows * (rows + 1) / 2
 }
 
+// The entries of a column's update.
+pub fn entries_of(n: u64, starts: &[u64], rows: &[u32], column: u64) -> u64
+    requires factor { ⌜ Factor n (now starts) (now rows) ⌝ }
+    requires column { ⌜ Column n column ⌝ }
+    ensures { λ r. ⌜ r ≡ t (length (columnOf (now (starts .entry)) (now (rows .entry)) column)) ⌝ }
+{
+    triangle(rows_of(n, starts, rows, column).len() as u64)
+}
+
 // The place of a row among ascending rows, known to lie from lo on and no later than hi. Each turn halves what lies between.
 fn bisect(rows: &[u32], row: u32, lo: usize, hi: usize) -> usize
     requires ascending { ⌜ Asc 0 (now rows) ⌝ }
