@@ -99,6 +99,10 @@ module _ {whole d₀ : List ℕ} {at : ℕ} where
       → k + length (encode zs) ≤ length d
   room-numbers zs ys s e h = room-bytes (encode zs) ys s (ap encode e ∙ encode-append zs ys) h
 
+  -- there is room for all that is left
+  pub room-last : {xs d : List ℕ} {k : ℕ} → Writes whole d₀ at xs d k → at + length (encode whole) ≤ length d₀ → k + length (encode xs) ≤ length d
+  room-last s h = let p = s .left .place in let q = s .long in omega arith
+
   -- nothing is left
   pub writes-none : {xs d : List ℕ} {k : ℕ} → Writes whole d₀ at xs d k → xs ≡ [] → (k ≡ at + length (encode whole)) × (d ≡ sets d₀ at (encode whole))
   unfolding encode

@@ -1,8 +1,8 @@
 -- The numbers of the lists, column by column: the rows between two starts that pass are a list that can be written, its numbers come next, and behind
 -- them those of the columns after it.
 -- Assumes nothing.
-use Prim.Native.Nat.{ℕ, suc, _+_, _-_, _*_, _<_, _≤_}
-use mathlib.Core.Path.{_≡_, refl, sym, ap, _∙_}
+use Prim.Native.Nat.{ℕ, suc, _+_, _*_, _<_, _≤_}
+use mathlib.Core.Path.{_≡_}
 use mathlib.Core.List.{List, [], _∷_, _++_}
 use native.Mathlib.Omega.{arith}
 use native.Mathlib.Numerals.{add-one}
@@ -14,7 +14,7 @@ use Rattle.papers.specs.Job.{columnOf}
 use Rattle.papers.specs.Key.{listNumbers, listsNumbers, listsOf}
 use Rattle.list_laws.proofs.Ascending.{asc-length}
 use Rattle.bytes_laws.proofs.Gaps.{ListsFit}
-use Rattle.bytes_laws.proofs.Writing.{encode-short, Left, left-all, left-numbers, left-none, left-short, Writes, writes-all, writes-numbers, room-numbers, writes-none}
+use Rattle.bytes_laws.proofs.Writing.{encode-short, Left, left-numbers, left-none, left-short, Writes, writes-numbers, room-numbers, writes-none}
 use Rattle.job_laws.proofs.Starts.{start-at, start-within, column-at}
 use Rattle.job_laws.proofs.Passed.{PassedLists, lists-below}
 use Rattle.job_laws.proofs.Laid.{length-lists, lists-at, column-length}
@@ -72,6 +72,9 @@ module _ {n : ℕ} {starts rows : List ℕ} (few : n ≤ maxColumns) (p : Passed
       let below = lists-below n starts rows p in
       let fit = lists-fit n (columnOf starts rows) (λ j. (below .ascending j, λ i m. below .within i j m)) n in
       omega (arith, numbers-few 1 (listsOf n (columnOf starts rows)) fit, length-lists (columnOf starts rows) n)
+
+  pub lists-short : length (encode (listsNumbers 1 (listsOf n (columnOf starts rows)))) ≤ maxGroups * ((maxColumns + 1) * maxColumns)
+  lists-short = omega (arith, encode-short (listsNumbers 1 (listsOf n (columnOf starts rows))), lists-few)
 
 -- ---- counted
 

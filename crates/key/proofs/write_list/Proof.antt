@@ -1,14 +1,11 @@
-use Rattle.key.proofs.Rows.{count-room}
+-- The invariant: storing the gaps of the rows from i on at next leaves what storing all of them behind the count leaves. The measure is the rows left.
+-- Assumes nothing.
 use Prim.Native.Nat.{_-_}
 use native.Mathlib.Omega.{arith}
 use borrow.Author.Needs.{needs}
-use Rattle.key.proofs.Rows.{WritesRows, row-above, write-start, write-room, write-turn, write-stop}
+use Rattle.key.proofs.Rows.{count-room, WritesRows, row-above, write-start, write-room, write-turn, write-stop}
 use Rattle.key.proofs.write_list.Statement.{statement}
 use Rattle.key.proofs.write_list.Tie as tie
-use Rattle.key.proofs.write_list.Reads as reads
-use Rattle.key.proofs.write_list.Lts as lts
-use Rattle.groups.proofs.put.Reads as put-reads
-use Rattle.key.proofs.wide.Reads as wide-reads
 
 abbrev Inv-loop : tie.InvT-loop
 Inv-loop rows from to j bytes₀ at next₀ before₀ i₀ bytes next before i = WritesRows j rows from to bytes₀ next₀ bytes next before i
@@ -16,55 +13,46 @@ Inv-loop rows from to j bytes₀ at next₀ before₀ i₀ bytes next before i =
 abbrev μ-loop : tie.MeasureT-loop
 μ-loop rows from to j bytes₀ at next₀ before₀ i₀ bytes next before i = to - i
 
--- src/lib.rt:66:44
 sub-put : tie.Need-sub-put Inv-loop μ-loop
 sub-put c = search needs
 
--- src/lib.rt:66:9
 put-requires : tie.Need-put-requires Inv-loop μ-loop
-put-requires c κs = (let few = c .before .before .before .pre .0 .few in omega arith, count-room (c .before .before .before .args .bytes .now) (c .before .before .before .args .at) (c .before .before .before .pre .0) (c .before .before .before .pre .1))
+put-requires c κs =
+    let entry = c .before .before .before in
+    (let few = entry .pre .0 .few in omega arith, count-room (entry .args .bytes .now) (entry .args .at) (entry .pre .0) (entry .pre .1))
 
--- src/lib.rt:69:5
 loop-holds : tie.Need-loop-holds Inv-loop μ-loop
-loop-holds c = write-start _ _ (c .before .before .before .before .before .before .pre .0) (c .before .before .put .ensures .0) (c .before .before .put .ensures .1) (c .before .before .before .before .before .before .pre .1)
+loop-holds c =
+    let entry = c .before .before .before .before .before .before in
+    write-start _ _ (entry .pre .0) (c .before .before .put .ensures .0) (c .before .before .put .ensures .1) (entry .pre .1)
 
--- src/lib.rt:70:24
 mul-wide : tie.Need-mul-wide Inv-loop μ-loop
 mul-wide c = search needs
 
--- src/lib.rt:70:24
 shared-slice-read-wide : tie.Need-shared-slice-read-wide Inv-loop μ-loop
 shared-slice-read-wide c = search needs
 
--- src/lib.rt:70:13
 wide-requires : tie.Need-wide-requires Inv-loop μ-loop
 wide-requires c κs = search needs
 
--- src/lib.rt:71:41
 sub-put-2 : tie.Need-sub-put-2 Inv-loop μ-loop
 sub-put-2 c = omega (arith, row-above (c .before .before .before .before .loop .inv .rows-left) (c .before .before .before .loop-test .taken) (c .before .wide .ensures .0))
 
--- src/lib.rt:71:9
 put-requires-2 : tie.Need-put-requires-2 Inv-loop μ-loop
 put-requires-2 c κs = (search needs, write-room (c .before .before .before .before .loop .inv) (c .before .before .before .loop-test .taken) (c .before .wide .ensures .0))
 
--- src/lib.rt:73:9
 add-i : tie.Need-add-i Inv-loop μ-loop
 add-i c = search needs
 
--- src/lib.rt:69:5
 loop-less : tie.Need-loop-less Inv-loop μ-loop
 loop-less c = search needs
 
--- src/lib.rt:69:5
 loop-again : tie.Need-loop-again Inv-loop μ-loop
 loop-again c = write-turn (c .before .before .before .before .before .before .before .loop .inv) (c .before .before .before .before .before .before .loop-test .taken) (c .before .before .before .before .wide .ensures .0) (c .before .before .put2 .ensures .0) (c .before .before .put2 .ensures .1)
 
--- src/lib.rt:61:1
 same-length : tie.Need-same-length Inv-loop μ-loop
 same-length c = search needs
 
--- src/lib.rt:61:1
 returns : tie.Need-returns Inv-loop μ-loop
 returns c = write-stop _ _ (c .before .before .before .before .before .before .before .before .pre .0) (c .before .before .before .before .put .ensures .0) (c .before .before .before .before .put .ensures .1) (c .before .loop .inv) (c .loop-test .left)
 

@@ -1,3 +1,5 @@
+-- The invariant: storing the lists of the columns behind the first `done` at next leaves what storing all of them leaves. The measure is the columns left.
+-- Assumes nothing.
 use Prim.Native.Nat.{_-_}
 use native.Mathlib.Omega.{arith}
 use borrow.Author.Needs.{needs}
@@ -6,9 +8,6 @@ use Rattle.job_laws.proofs.Passed.{lists-iff}
 use Rattle.key.proofs.Columns.{WritesColumns, column-list, column-room, lists-turn, lists-stop}
 use Rattle.key.proofs.write_lists.Statement.{statement}
 use Rattle.key.proofs.write_lists.Tie as tie
-use Rattle.key.proofs.write_lists.Reads as reads
-use Rattle.key.proofs.write_lists.Lts as lts
-use Rattle.key.proofs.write_list.Reads as write-list-reads
 
 abbrev Inv-loop : tie.InvT-loop
 Inv-loop n starts rows bytes₀ at next₀ done₀ bytes next done = WritesColumns n starts rows bytes₀ next₀ bytes next done
@@ -16,55 +15,44 @@ Inv-loop n starts rows bytes₀ at next₀ done₀ bytes next done = WritesColum
 abbrev μ-loop : tie.MeasureT-loop
 μ-loop n starts rows bytes₀ at next₀ done₀ bytes next done = n - done
 
--- src/lib.rt:89:5
 loop-holds : tie.Need-loop-holds Inv-loop μ-loop
-loop-holds c = record { few = c .before .before .before .pre .0; lists = lists-iff _ _ _ .0 (c .before .before .before .pre .1 .0, c .before .before .before .pre .1 .1 .0); high = omega arith; written = writes-all; room = c .before .before .before .pre .1 .1 .1 }
+loop-holds c =
+    let entry = c .before .before .before in
+    record { few = entry .pre .0; lists = lists-iff _ _ _ .0 (entry .pre .1 .0, entry .pre .1 .1 .0); high = omega arith; written = writes-all; room = entry .pre .1 .1 .1 }
 
--- src/lib.rt:93:13
 mul-write-list : tie.Need-mul-write-list Inv-loop μ-loop
 mul-write-list c = search needs
 
--- src/lib.rt:93:13
 shared-slice-read-write-list : tie.Need-shared-slice-read-write-list Inv-loop μ-loop
 shared-slice-read-write-list c = search needs
 
--- src/lib.rt:94:20
 add-write-list : tie.Need-add-write-list Inv-loop μ-loop
 add-write-list c = search needs
 
--- src/lib.rt:94:13
 mul-write-list-2 : tie.Need-mul-write-list-2 Inv-loop μ-loop
 mul-write-list-2 c = search needs
 
--- src/lib.rt:94:13
 shared-slice-read-write-list-2 : tie.Need-shared-slice-read-write-list-2 Inv-loop μ-loop
 shared-slice-read-write-list-2 c = search needs
 
--- src/lib.rt:95:13
 add-write-list-2 : tie.Need-add-write-list-2 Inv-loop μ-loop
 add-write-list-2 c = search needs
 
--- src/lib.rt:91:9
 write-list-requires : tie.Need-write-list-requires Inv-loop μ-loop
 write-list-requires c κs = (column-list (c .before .before .before .before .loop .inv .few) (c .before .before .before .before .loop .inv .lists) (c .before .before .before .loop-test .taken), column-room (c .before .before .before .before .loop .inv) (c .before .before .before .loop-test .taken))
 
--- src/lib.rt:99:9
 add-done : tie.Need-add-done Inv-loop μ-loop
 add-done c = search needs
 
--- src/lib.rt:89:5
 loop-less : tie.Need-loop-less Inv-loop μ-loop
 loop-less c = search needs
 
--- src/lib.rt:89:5
 loop-again : tie.Need-loop-again Inv-loop μ-loop
 loop-again c = lists-turn (c .before .before .before .before .before .before .before .loop .inv) (c .before .before .before .before .before .before .loop-test .taken) (c .before .before .write-list .ensures .0) (c .before .before .write-list .ensures .1)
 
--- src/lib.rt:79:1
 same-length : tie.Need-same-length Inv-loop μ-loop
 same-length c = search needs
 
--- src/lib.rt:79:1
 returns : tie.Need-returns Inv-loop μ-loop
 returns c = lists-stop (c .before .loop .inv) (c .loop-test .left)
 
