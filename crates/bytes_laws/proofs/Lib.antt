@@ -6,3 +6,4 @@ pub mod Gaps
 pub mod Plans
 pub mod Begins
 pub mod Reaches
+pub mod Writing

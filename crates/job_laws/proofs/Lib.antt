@@ -7,3 +7,4 @@ pub mod Untouched
 pub mod Laid
 pub mod Keys
 pub mod Readable
+pub mod Outcomes

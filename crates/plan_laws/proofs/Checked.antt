@@ -7,9 +7,12 @@ use mathlib.Core.List.{List}
 use lib.ListN.{getD}
 use Rattle.papers.specs.Job.{Job}
 use Rattle.papers.specs.Plan.{Plan}
-use Rattle.papers.specs.Refusals.{answer, passed, first, Outcome, outcome, Lent}
+use Rattle.papers.specs.Refusals.{answer, Outcome, outcome, Lent}
 use Rattle.papers.specs.Analysis.{holdingPlan}
 use Rattle.papers.specs.Check.{CheckCall, checkTests, checkDone, checked}
+use Rattle.papers.specs.Conditions.{checkConditions}
+use Rattle.refusal_laws.proofs.Agreements.{passed-iff}
+use Rattle.refusal_laws.proofs.Check.{check-agree, check-exactly}
 use Rattle.plan_laws.specs.Passing.{Passing}
 use Rattle.plan_laws.proofs.Passing.{passing-read, passing-passes, passes-passing}
 
@@ -23,5 +26,8 @@ module _ (job : Job) (bytes : List ℕ) (lent : Lent) where
   check-holds plan p = rw (passing-passes call plan p, outcome, passing-read call plan p, checkDone)
 
   -- the check is done just where they pass
-  pub check-passes-iff : ((call : CheckCall) → checked (call .job) (call .plan) (call .lent) .answer .number ≡ 0 → first checkTests call ≡ passed) → ((i : ℕ) → getD bytes i 0 < 256) → (checked job bytes lent .answer .number ≡ 0) ↔ ((plan : Plan) × Passing job plan bytes lent)
-  check-passes-iff zero-passes are-bytes = (λ e. passes-passing call are-bytes (zero-passes call e), λ (plan, p). ap (λ (o : Outcome Lent). o .answer .number) (check-holds plan p))
+  pub check-passes-iff : ((i : ℕ) → getD bytes i 0 < 256) → (checked job bytes lent .answer .number ≡ 0) ↔ ((plan : Plan) × Passing job plan bytes lent)
+  check-passes-iff are-bytes = (
+    λ done. passes-passing call are-bytes (passed-iff checkTests checkConditions call (check-agree call) .1 (check-exactly call .done-iff .0 done)),
+    λ (plan, p). ap (λ (o : Outcome Lent). o .answer .number) (check-holds plan p),
+  )

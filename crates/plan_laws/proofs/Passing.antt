@@ -12,7 +12,7 @@ use Rattle.papers.specs.Lists.{flat}
 use Rattle.papers.specs.Numbers.{encode}
 use Rattle.papers.specs.Key.{keyOf}
 use Rattle.papers.specs.Plan.{Plan, planNumbers, planBytes, Read, got, bad}
-use Rattle.papers.specs.Refusals.{answer, zeroed, Verdict, passed, refused, first, jobTests, lengthsTest, factorRowsTest}
+use Rattle.papers.specs.Refusals.{Verdict, passed, first, jobTests, lengthsTest, factorRowsTest}
 use Rattle.papers.specs.Check.{CheckCall, keyTest, planRead, readTest, ofPlan, checkTests}
 use Rattle.bytes_laws.proofs.Fields.{spans-end}
 use Rattle.bytes_laws.proofs.Plans.{Fit, plan-back}
@@ -21,17 +21,15 @@ use Rattle.job_laws.proofs.Firsts.{refused-passed, first-passed-iff}
 use Rattle.job_laws.proofs.Passed.{passes-iff, passed-below}
 use Rattle.refusal_laws.proofs.Agreements.{agree-passed-iff}
 use Rattle.refusal_laws.proofs.Slices.{lengths-agree, factor-rows-agree}
+use Rattle.refusal_laws.proofs.Exactly.{_&_}
+use Rattle.refusal_laws.proofs.PlanBytes.{read-bad}
+use Rattle.refusal_laws.proofs.Check.{of-plan-got}
 use Rattle.plan_laws.specs.Passing.{Long, Passing}
 use Rattle.plan_laws.proofs.Slices.{long-iff}
 use Rattle.plan_laws.proofs.Sounds.{sound-fits}
 use Rattle.plan_laws.proofs.PlanSound.{sound-iff}
 
 module _ (call : CheckCall) where
-  -- a test of the plan that was read
-  of-plan : (test : CheckCall → Plan → Verdict) (plan : Plan) (at : ℕ) → planRead call ≡ got plan at → ofPlan test call ≡ test call plan
-  unfolding ofPlan
-  of-plan test plan at e = rw (e, ofPlan)
-
   -- 12 to 15 pass just where a plan is read
   read-iff : (readTest call ≡ passed) ↔ ((plan : Plan) × (at : ℕ) × (planRead call ≡ got plan at))
   unfolding readTest
@@ -39,7 +37,7 @@ module _ (call : CheckCall) where
     where
       there : readTest call ≡ passed → (x : Read Plan) → planRead call ≡ x → (plan : Plan) × (at : ℕ) × (planRead call ≡ got plan at)
       there p (got plan at) e = (plan, at, e)
-      there p (bad number place) e = let r : readTest call ≡ refused (answer number place 0) zeroed = rw (e, readTest) in absurd (refused-passed r p)
+      there p (bad number place) e = absurd (refused-passed (read-bad call e) p)
 
   -- 7 and 8 pass just where the slices are long enough
   slices-iff : (rows : ℕ) → ((lengthsTest (call .job .n) (call .lent) ≡ passed) × (factorRowsTest rows (call .lent) ≡ passed)) ↔ Long (call .job .n) rows (call .lent)
@@ -70,10 +68,10 @@ module _ (call : CheckCall) where
       let job = first-passed-iff checkTests call .0 p in
       let bytes-on = job .1 .1 .1 .1 .1 in
       let plan-on = bytes-on .1 .1 .1 in
-      let valid = first-passed-iff jobTests (call .job) .1 (job .0, (job .1 .0, (job .1 .1 .0, (job .1 .1 .1 .0, (job .1 .1 .1 .1 .0, tt))))) in
+      let valid = first-passed-iff jobTests (call .job) .1 (job .0 & job .1 .0 & job .1 .1 .0 & job .1 .1 .1 .0 & job .1 .1 .1 .1 .0 & tt) in
       let (plan, at, e) = read-iff .0 (bytes-on .1 .1 .0) in
       let (fit, whole, last) = plan-bytes-iff call plan at (fits valid) bytes .0 (bytes-on .1 .0, e) in
-      let of : (test : CheckCall → Plan → Verdict) → ofPlan test call ≡ passed → test call plan ≡ passed = λ test q. sym (of-plan test plan at e) ∙ q in (
+      let of : (test : CheckCall → Plan → Verdict) → ofPlan test call ≡ passed → test call plan ≡ passed = λ test q. sym (of-plan-got call test e) ∙ q in (
         plan,
         record {
           valid = valid;
@@ -94,8 +92,23 @@ module _ (call : CheckCall) where
       let job = first-passed-iff jobTests (call .job) .0 (q .valid) in
       let fit = sound-fits (call .job) (q .valid) plan (q .sound) in
       let (key, e) = whole-read plan (fits (q .valid)) fit (q .whole) in
-      let of : (test : CheckCall → Plan → Verdict) → test call plan ≡ passed → ofPlan test call ≡ passed = λ test p. of-plan test plan (length (call .plan)) e ∙ p in
+      let of : (test : CheckCall → Plan → Verdict) → test call plan ≡ passed → ofPlan test call ≡ passed = λ test p. of-plan-got call test e ∙ p in
       let (lengths, factor) = slices-iff (length (flat (plan .lists))) .1 (q .long) in
       let (repeats, lists, subtrees, pops, declared, within) = sound-iff (call .job) plan fit (passed-below (call .job) (passes-iff (call .job) .0 (q .valid))) .1 (q .sound) in
       first-passed-iff checkTests call .1
-      (job .0, (job .1 .0, (job .1 .1 .0, (job .1 .1 .1 .0, (job .1 .1 .1 .1 .0, (lengths, (key, (read-iff .1 (plan, length (call .plan), e), (of _ factor, (of _ repeats, (of _ lists, (of _ subtrees, (of _ pops, (of _ declared, (of _ within, tt)))))))))))))))
+      (job .0
+      & job .1 .0
+      & job .1 .1 .0
+      & job .1 .1 .1 .0
+      & job .1 .1 .1 .1 .0
+      & lengths
+      & key
+      & read-iff .1 (plan, length (call .plan), e)
+      & of _ factor
+      & of _ repeats
+      & of _ lists
+      & of _ subtrees
+      & of _ pops
+      & of _ declared
+      & of _ within
+      & tt)

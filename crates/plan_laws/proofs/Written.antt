@@ -12,6 +12,7 @@ use Rattle.papers.specs.Analysis.{holdingPlan, PlanLent, PlanCall, planDone, pl
 use Rattle.papers.specs.Conditions.{jobConditions, planConditions, Unrefused}
 use Rattle.list_laws.proofs.Stores.{take-then-zeros}
 use Rattle.refusal_laws.proofs.Agreements.{passed-iff}
+use Rattle.refusal_laws.proofs.Exactly.{_&_}
 use Rattle.refusal_laws.proofs.Job.{job-agree}
 use Rattle.refusal_laws.proofs.Analysis.{write-plan-exactly}
 use Rattle.plan_laws.specs.Passing.{Long, Passing, GivesBack}
@@ -34,7 +35,7 @@ module _ (job : Job) (slices : PlanLent) (done : planWritten job slices .answer 
   pub written-valid : first jobTests job ≡ passed
   written-valid =
       let u = unrefused in
-      passed-iff jobTests jobConditions job (job-agree job) .1 (u .0, (u .1 .0, (u .1 .1 .0, (u .1 .1 .1 .0, (u .1 .1 .1 .1 .0, tt)))))
+      passed-iff jobTests jobConditions job (job-agree job) .1 (u .0 & u .1 .0 & u .1 .1 .0 & u .1 .1 .1 .0 & u .1 .1 .1 .1 .0 & tt)
 
   pub written-within : planOf job .peak ≤ job .limit
   written-within = let h = unrefused .1 .1 .1 .1 .1 .1 .1 .0 (answer 9 0 (planOf job .peak)) in at-least (λ l. h (l, refl))

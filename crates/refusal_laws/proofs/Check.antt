@@ -24,7 +24,7 @@ use Rattle.refusal_laws.proofs.PlanBytes.{begins-agree, read-bad, read-
 module _ (call : CheckCall) where
   -- ---- the plan that was read
 
-  of-plan-got : (test : CheckCall → Plan → Verdict) {plan : Plan} {at : ℕ} → planRead call ≡ got plan at → ofPlan test call ≡ test call plan
+  pub of-plan-got : (test : CheckCall → Plan → Verdict) {plan : Plan} {at : ℕ} → planRead call ≡ got plan at → ofPlan test call ≡ test call plan
   unfolding ofPlan
   of-plan-got test e = rw (e, ofPlan)
 
@@ -53,7 +53,8 @@ module _ (call : CheckCall) where
   unfolding planRead
   steps {plan} {at} e = plan-steps (call .job .n) (call .plan) (length (keyOf (call .job))) plan at e
 
-  check-agree : AgreeEach checkTests checkConditions call
+  -- test by test
+  pub check-agree : AgreeEach checkTests checkConditions call
   unfolding checkTests
   check-agree =
       agree-behind (λ call. call .job) jobTests _ jobConditions _ call (job-agree (call .job))

@@ -9,7 +9,7 @@ use Rattle.papers.specs.Job.{Job}
 use Rattle.papers.specs.Plan.{Plan, planOf}
 use Rattle.papers.specs.Refusals.{passed, first, jobTests, Outcome, Lent}
 use Rattle.papers.specs.Analysis.{holdingPlan, PlanLent, planWritten}
-use Rattle.papers.specs.Check.{CheckCall, checkTests, checked}
+use Rattle.papers.specs.Check.{checked}
 use Rattle.papers.specs.Sound.{Sound}
 use Rattle.plan_laws.proofs.Sounds.{sound-fits, planned-sound}
 use Rattle.plan_laws.proofs.Checked.{check-holds, check-passes-iff}
@@ -29,9 +29,9 @@ module _ (job : Job) (stack : List ℕ) (long : job .n ≤ length stack) where
       }
 
   -- any plan bytes that the check passes for a job run on the checked lists, with the declared peak as room, and with no less
-  pub checked-plan-runs : ((call : CheckCall) → checked (call .job) (call .plan) (call .lent) .answer .number ≡ 0 → first checkTests call ≡ passed) → (bytes : List ℕ) → ((i : ℕ) → getD bytes i 0 < 256) → (lent : Lent) → checked job bytes lent .answer .number ≡ 0 → CheckedRun job bytes lent stack
-  checked-plan-runs zero-passes bytes are-bytes lent done =
-      let (plan, p) = check-passes-iff job bytes lent zero-passes are-bytes .0 done in
+  pub checked-plan-runs : (bytes : List ℕ) → ((i : ℕ) → getD bytes i 0 < 256) → (lent : Lent) → checked job bytes lent .answer .number ≡ 0 → CheckedRun job bytes lent stack
+  checked-plan-runs bytes are-bytes lent done =
+      let (plan, p) = check-passes-iff job bytes lent are-bytes .0 done in
       let holds = check-holds job bytes lent plan p in
       record {
         plan = plan;

@@ -16,6 +16,7 @@ use Rattle.papers.specs.Conditions.{ColumnsOver, StartsBad, BadRow, RunShort, B
 use Rattle.list_laws.proofs.Tests.{strong}
 use Rattle.job_laws.proofs.Passed.{lists-iff}
 use Rattle.refusal_laws.proofs.Agreements.{agree-passed-iff}
+use Rattle.refusal_laws.proofs.Exactly.{_&_}
 use Rattle.refusal_laws.proofs.Job.{starts-agree}
 use Rattle.refusal_laws.proofs.Rows.{rows-agree}
 use Rattle.refusal_laws.proofs.Run.{run-exactly}
@@ -58,7 +59,7 @@ module _ {A : Pattern} {call : RunCall} (f : Follows A call) where
   -- ---- with a room of the peak, or more
 
   unrefused : ((b : Answer) → ¬ StepBad call b) → Unrefused runConditions call
-  unrefused h = (columns-few, (starts-fine, (rows-fine, (slices-long, (h, (nothing-left, tt))))))
+  unrefused h = columns-few & starts-fine & rows-fine & slices-long & h & nothing-left & tt
 
   done : peak (call .n) A (call .columns) ≤ call .room → ran call ≡ record { answer = answer 0 0 (peak (call .n) A (call .columns)); lent = zeros (call .stack) }
   unfolding runDone
