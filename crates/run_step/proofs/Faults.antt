@@ -2,6 +2,7 @@
 -- Assumes nothing.
 use Prim.Native.Nat.{ℕ, suc, _-_, _<_, _≤_}
 use mathlib.Core.Path.{_≡_, ap, _∙_, sym}
+use mathlib.Core.Logic.{_⊎_, inl, inr}
 use mathlib.Core.Bool.{Bool, true, false, _&&_}
 use mathlib.Core.List.{List, []}
 use native.Mathlib.Omega.{arith}
@@ -12,6 +13,7 @@ use Rattle.papers.specs.Job.{columnOf}
 use Rattle.papers.specs.Order.{columnAt}
 use Rattle.papers.specs.Room.{roomAt}
 use Rattle.papers.specs.Run.{RunCall, State, entries, rowsIn, popsAt, roomIn, fits, stepFault}
+use Rattle.list_laws.proofs.Tests.{below-or}
 use Rattle.order_laws.proofs.Steps.{column-at}
 use Rattle.held.specs.declared.Held.{Held}
 use Rattle.front.specs.Factor.{Column}
@@ -91,3 +93,13 @@ module _ (n : ℕ) (starts rows columns pops : List ℕ) (room : ℕ) (stack : L
         pub fault-none : u ≤ room → 0 ≡ fault
         unfolding stepFault
         fault-none h = rw (known, plenty, fits-is, sym e ∙ f, used-is, ← g, le-ltb room u h, stepFault)
+
+  -- a step without fault has a column of 1 to n and pops no more than is held
+  pub fault-zero : fault ≡ 0 → Column n c × (off ≤ held .count)
+  fault-zero z = go (below-or c 1) (below-or n c) (below-or (held .count) off)
+    where
+      go : (c < 1) ⊎ (1 ≤ c) → (n < c) ⊎ (c ≤ n) → (held .count < off) ⊎ (off ≤ held .count) → Column n c × (off ≤ held .count)
+      go (inl a) b d = absurd (omega (arith, fault-low a, z))
+      go (inr a) (inl b) d = absurd (omega (arith, fault-high b, z))
+      go (inr a) (inr b) (inl d) = absurd (omega (arith, fault-few (a, b) d, z))
+      go (inr a) (inr b) (inr d) = ((a, b), d)
