@@ -58,11 +58,11 @@ module _ (n : ℕ) (starts rows stack : List ℕ) where
     pub looked-end : {popped : List ℕ} {end all top : ℕ} → Looked popped end all top → top ≤ end → true ≡ fit popped
     looked-end {popped} {end} {all} {top} l h = sym fit-none ∙ (rw (popped-none stack end top h) at (l .same))
 
-    module _ {popped : List ℕ} {end all top : ℕ} (l : Looked popped end all top) (h : end < top) {front update : List ℕ} {r : Bool}
-        (e : front ≡ columnOf starts rows column) (f : update ≡ columnOf starts rows (getD stack (top - 1) 0))
+    module _ {popped : List ℕ} {end all top : ℕ} (l : Looked popped end all top) (h : end < top) {front update : List ℕ} {u : ℕ} {r : Bool}
+        (e : front ≡ columnOf starts rows column) (i : u ≡ getD stack (top - 1) 0) (f : update ≡ columnOf starts rows u)
         (g : r ≡ every (λ i. member i (column ∷ front)) update) where
       told : standsIn (getD stack (top - 1) 0) ≡ r
-      told = rw (← e, ← f) (sym g)
+      told = rw (← e, ← i, ← f) (sym g)
 
       pub looked-next : r ≡ true → Looked popped end all (top - 1)
       looked-next q =
@@ -85,8 +85,8 @@ module _ (n : ℕ) (starts rows stack : List ℕ) where
   pub added-end : {popped : List ℕ} {end all top sum : ℕ} → Added popped end all top sum → top ≤ end → sum ≡ total n starts rows popped
   added-end {popped} {end} {all} {top} a h = let q = a .same in omega (arith, total-none n starts rows, ap (total n starts rows) (popped-none stack end top h))
 
-  module _ {popped : List ℕ} {end all top sum : ℕ} (a : Added popped end all top sum) (h : end < top) {more : ℕ}
-      (e : more ≡ t (length (columnOf starts rows (getD stack (top - 1) 0)))) where
+  module _ {popped : List ℕ} {end all top sum : ℕ} (a : Added popped end all top sum) (h : end < top) {u more : ℕ}
+      (i : u ≡ getD stack (top - 1) 0) (e : more ≡ t (length (columnOf starts rows u))) where
     pub added-next : Added popped end all (top - 1) (sum + more)
     added-next =
         let w = a .within in
@@ -94,7 +94,7 @@ module _ (n : ℕ) (starts rows stack : List ℕ) where
         record {
           behind = omega arith;
           within = omega arith;
-          same = omega (arith, e, total-cons n starts rows (getD stack (top - 1) 0) (left end (top - 1)), ap (total n starts rows) (popped-next stack end top h));
+          same = omega (arith, rw i at e, total-cons n starts rows (getD stack (top - 1) 0) (left end (top - 1)), ap (total n starts rows) (popped-next stack end top h));
         }
 
     -- the sum so far is no more than the whole

@@ -43,8 +43,8 @@ module _ {n : ℕ} {starts rows stack : List ℕ} {held : Held} (factor : Factor
   total-top h = kept .entries-are ∙ (rw (held-top stack (held .count) h) (total-cons n starts rows top rest))
 
   -- no more is taken off than is held
-  pub top-within : {update : ℕ} → 0 < held .count → update ≡ t (length (columnOf starts rows top)) → update ≤ held .entries
-  top-within h e = omega (arith, e, total-top h)
+  pub top-within : {u update : ℕ} → 0 < held .count → u ≡ top → update ≡ t (length (columnOf starts rows u)) → update ≤ held .entries
+  top-within h i e = omega (arith, rw i at e, total-top h)
 
   module _ {c : ℕ} (column : Column n c) {rs : List ℕ} (e : rs ≡ columnOf starts rows c) where
     -- a front has at most all columns
@@ -64,8 +64,8 @@ module _ {n : ℕ} {starts rows stack : List ℕ} {held : Held} (factor : Factor
       room-above z = rw z (omega (arith, front-is, kept .entries-are, room-none (length (columnOf starts rows c)) these))
 
       -- with pops, over the top update
-      pub room-on-top : {pops update : ℕ} → 0 < pops → pops ≤ held .count → update ≡ t (length (columnOf starts rows top))
+      pub room-on-top : {pops u update : ℕ} → 0 < pops → pops ≤ held .count → u ≡ top → update ≡ t (length (columnOf starts rows u))
           → held .entries - update + front ≡ roomAt pops (length (columnOf starts rows c)) these
-      room-on-top {pops} {update} h l g =
+      room-on-top {pops} h l i g =
           rw (these-top (omega arith))
-          (omega (arith, front-is, g, total-top (omega arith), room-over pops (length (columnOf starts rows c)) (t (length (columnOf starts rows top))) (entries (factorOf n starts rows) rest) h))
+          (omega (arith, front-is, rw i at g, total-top (omega arith), room-over pops (length (columnOf starts rows c)) (t (length (columnOf starts rows top))) (entries (factorOf n starts rows) rest) h))

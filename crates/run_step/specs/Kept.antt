@@ -27,11 +27,15 @@ factorOf n starts rows = callOf n starts rows [] [] 0 []
 abbrev pub stateOf : Held → List ℕ → State
 stateOf held stack = record { held = heldIn (held .count) stack; greatest = held .greatest }
 
+-- the first k of the stack list are columns of 1 to n
+abbrev pub Columns : ℕ → ℕ → List ℕ → Type 0
+Columns n k stack = (i : ℕ) → i < k → Column n (getD stack i 0)
+
 -- the stack list holds columns of 1 to n, at most n of them, and the record has the entries of their updates
 pub record Kept (n : ℕ) (starts rows stack : List ℕ) (held : Held) : Type 0 where
   pub few : held .count ≤ n
   pub listed : n ≤ length stack
-  pub columns : (i : ℕ) → i < held .count → Column n (getD stack i 0)
+  pub columns : Columns n (held .count) stack
   pub entries-are : held .entries ≡ sum (entries (factorOf n starts rows) (heldIn (held .count) stack))
 
 -- the step behind `done` steps can be taken: it is listed, its column is one, it pops no more than is held, and there is a place for its update

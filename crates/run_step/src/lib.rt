@@ -2,14 +2,24 @@
 use held::Held;
 ghost use mathlib.Core.Path.{_≡_};
 ghost use mathlib.Core.List.{[]};
-ghost use Prim.Native.Nat.{ℕ, suc, _+_, _<_, _≤_};
-ghost use lib.ListN.{length, take};
+ghost use Prim.Native.Nat.{ℕ, suc, _+_, _-_, _<_, _≤_};
+ghost use lib.ListN.{length, getD, take};
 ghost use Rattle.papers.specs.Lists.{sum};
 ghost use Rattle.papers.specs.Job.{columnOf};
 ghost use Rattle.papers.specs.Room.{roomAt};
 ghost use Rattle.papers.specs.Run.{State, entries, fits, stepFault, stepped};
 ghost use Rattle.front.specs.Factor.{Factor, Column};
-ghost use Rattle.run_step.specs.Kept.{heldIn, callOf, factorOf, stateOf, Kept, Ready};
+ghost use Rattle.run_step.specs.Kept.{heldIn, callOf, factorOf, stateOf, Columns, Kept, Ready};
+
+// The column of an update held, by its place from the bottom, counted from 1.
+fn held_column(n: u64, stack: &[u32], place: u64) -> u64
+    requires columns { ⌜ Columns n place (now stack) ⌝ }
+    requires listed { ⌜ (1 ≤ place) × (place ≤ length (now stack)) ⌝ }
+    ensures is { λ r. ⌜ r ≡ getD (now (stack .entry)) (place - 1) 0 ⌝ }
+    ensures column { λ r. ⌜ Column n r ⌝ }
+{
+    stack[place as usize - 1] as u64
+}
 
 // Whether every row of every popped update stands in the front of the column. The updates before `top` are not looked at yet.
 fn popped_fit(
@@ -28,10 +38,11 @@ fn popped_fit(
     ensures { λ r. ⌜ r ≡ fits (factorOf n (now (starts .entry)) (now (rows .entry))) column (take pops (heldIn (held .count) (now (stack .entry)))) ⌝ }
 {
     let front = front::rows_of(n, starts, rows, column);
-    let end = held.count - pops;
-    let mut top = held.count;
+    let count = held.count;
+    let end = count - pops;
+    let mut top = count;
     while end < top {
-        let update = front::rows_of(n, starts, rows, stack[top as usize - 1] as u64);
+        let update = front::rows_of(n, starts, rows, held_column(n, stack, top));
         if front::stands_in(column, front, update) {
             top -= 1;
         } else {
@@ -48,11 +59,12 @@ fn popped_entries(n: u64, starts: &[u64], rows: &[u32], stack: &[u32], held: Hel
     requires enough { ⌜ pops ≤ held .count ⌝ }
     ensures { λ r. ⌜ r ≡ sum (entries (factorOf n (now (starts .entry)) (now (rows .entry))) (take pops (heldIn (held .count) (now (stack .entry))))) ⌝ }
 {
-    let end = held.count - pops;
-    let mut top = held.count;
+    let count = held.count;
+    let end = count - pops;
+    let mut top = count;
     let mut total = 0;
     while end < top {
-        total += front::entries_of(n, starts, rows, stack[top as usize - 1] as u64);
+        total += front::entries_of(n, starts, rows, held_column(n, stack, top));
         top -= 1;
     }
     total
@@ -78,7 +90,7 @@ fn room_in_use(
     if pops == 0 {
         return held.entries + front;
     }
-    let top = front::entries_of(n, starts, rows, stack[held.count as usize - 1] as u64);
+    let top = front::entries_of(n, starts, rows, held_column(n, stack, held.count));
     held.entries - top + front
 }
 

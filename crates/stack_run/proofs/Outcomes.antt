@@ -74,9 +74,9 @@ module _ (call : RunCall) where
   refuses e = sym (outcome-untouched runTests runDone zeros call (call .stack) e)
 
   -- 1
-  pub run-many : maxColumns < n → left (answer 1 0 0) ≡ ran call
+  pub run-many : {r : Answer} → maxColumns < n → r ≡ answer 1 0 0 → left r ≡ ran call
   unfolding runTests columnsTest
-  run-many h = refuses (first-refuses _ _ call (over-refuses maxColumns n (answer 1 0 0) untouched h))
+  run-many h e = ap left e ∙ refuses (first-refuses _ _ call (over-refuses maxColumns n (answer 1 0 0) untouched h))
 
   module _ (few : n ≤ maxColumns) where
     columns-pass : columnsTest n ≡ passed
@@ -119,10 +119,11 @@ module _ (call : RunCall) where
 
             -- 7
             module _ {b : Bool} (d : b ≡ short) where
-              pub run-short : b ≡ true → left (answer 7 0 0) ≡ ran call
+              pub run-short : {a : Answer} → b ≡ true → a ≡ answer 7 0 0 → left a ≡ ran call
               unfolding runLengthsTest
-              run-short h =
-                  refuses (lists-pass ∙ first-refuses runLengthsTest (stepsTest ∷ leftTest ∷ []) call (refused-if short (answer 7 0 0) untouched (sym d ∙ h)))
+              run-short h e =
+                  ap left e
+                  ∙ refuses (lists-pass ∙ first-refuses runLengthsTest (stepsTest ∷ leftTest ∷ []) call (refused-if short (answer 7 0 0) untouched (sym d ∙ h)))
 
               -- the steps decide
               pub run-steps : b ≡ false → {a : Answer} {after : List ℕ} → a ≡ stepsAnswer call → after ≡ zeros (call .stack)

@@ -3,13 +3,16 @@
 use mathlib.Core.Path.{ap, _∙_}
 use lib.ListN.{replicate}
 use borrow.Author.Needs.{needs}
-use Rattle.stack_run.proofs.Outcomes.{run-many, run-starts, starts-pass, run-rows, factor-is, all-long, run-short, run-steps}
 use Rattle.run_step.specs.Kept.{callOf}
+use Rattle.stack_run.proofs.Outcomes.{run-many, run-starts, starts-pass, run-rows, factor-is, all-long, run-short, run-steps}
 use Rattle.stack_run.proofs.run.Statement.{statement}
 use Rattle.stack_run.proofs.run.Tie as tie
 
+answered-requires : tie.Need-answered-requires
+answered-requires c κs = search needs
+
 returns : tie.Need-returns
-returns c = run-many _ (c .if1 .taken)
+returns c = run-many _ (c .before .if1 .taken) (c .answered .ensures)
 
 starts-fault-requires : tie.Need-starts-fault-requires
 starts-fault-requires c κs = search needs
@@ -26,11 +29,14 @@ returns-3 c = run-rows _ (c .before .before .before .before .before .before .if1
 too-short-requires : tie.Need-too-short-requires
 too-short-requires c κs = search needs
 
+answered-requires-2 : tie.Need-answered-requires-2
+answered-requires-2 c κs = search needs
+
 same-length : tie.Need-same-length
 same-length c = search needs
 
 returns-4 : tie.Need-returns-4
-returns-4 c = run-short _ (c .before .before .before .before .before .before .before .before .before .if1 .left) (c .before .before .before .before .before .before .before .before .starts-fault .ensures) (c .before .before .before .before .before .before .if2 .left) (c .before .before .before .before .before .rows-fault .ensures) (c .before .before .before .if3 .left) (c .before .too-short .ensures) (c .if4 .taken)
+returns-4 c = run-short _ (c .before .before .before .before .before .before .before .before .before .before .if1 .left) (c .before .before .before .before .before .before .before .before .before .starts-fault .ensures) (c .before .before .before .before .before .before .before .if2 .left) (c .before .before .before .before .before .before .rows-fault .ensures) (c .before .before .before .before .if3 .left) (c .before .before .too-short .ensures) (c .before .if4 .taken) (c .answered2 .ensures)
 
 steps-requires : tie.Need-steps-requires
 steps-requires c κs =
@@ -49,12 +55,14 @@ pub run-spec : {M : Type 1} → statement M
 run-spec =
     tie.close
     (tie.spec
+    answered-requires
     returns
     starts-fault-requires
     returns-2
     rows-fault-requires
     returns-3
     too-short-requires
+    answered-requires-2
     same-length
     returns-4
     steps-requires
