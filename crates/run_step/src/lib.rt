@@ -21,7 +21,8 @@ fn held_column(n: u64, stack: &[u32], place: u64) -> u64
     stack[place as usize - 1] as u64
 }
 
-// Whether every row of every popped update stands in the front of the column. The updates before `top` are not looked at yet.
+// Whether every row of every popped update stands in the front of the column. From the top down: the updates up to place `top` are not looked
+// at yet.
 fn popped_fit(
     n: u64,
     starts: &[u64],
@@ -52,7 +53,7 @@ fn popped_fit(
     true
 }
 
-// The entries of the popped updates. Those before `top` are not added yet.
+// The entries of the popped updates. From the top down: those up to place `top` are not added yet.
 fn popped_entries(n: u64, starts: &[u64], rows: &[u32], stack: &[u32], held: Held, pops: u64) -> u64
     requires factor { ⌜ Factor n (now starts) (now rows) ⌝ }
     requires kept { ⌜ Kept n (now starts) (now rows) (now stack) held ⌝ }
