@@ -6,3 +6,5 @@ pub mod Keeps
 pub mod Counts
 pub mod UpTo
 pub mod Stores
+pub mod Sorts
+pub mod Leasts
