@@ -1,7 +1,7 @@
 -- Columns listed by links: where the list ends, what comes next, and that a list does not change where its own links do not.
 -- Assumes nothing.
 use Prim.Native.Nat.{ℕ, suc, _+_, _<_, _≤_}
-use mathlib.Core.Path.{_≡_, refl}
+use mathlib.Core.Path.{_≡_, refl, sym}
 use mathlib.Core.Logic.{_≢_}
 use mathlib.Core.List.{List, [], _∷_, List·Memᴰ·head, List·Memᴰ·tail}
 use native.Mathlib.Omega.{arith}
@@ -23,6 +23,15 @@ pub record Linked (w : List ℕ) (o c : ℕ) (l : List ℕ) : Type 0 where
 pub chain-on : (w : List ℕ) (o c : ℕ) (l : List ℕ) → Chain w o c l → c ≢ 0 → Linked w o c l
 chain-on w o c [] h e = absurd (e h)
 chain-on w o c (x ∷ xs) h e = rw (h .0) (record { rest = xs; is = refl; positive = h .1 .0; chain = h .1 .1 })
+
+-- the links fix the list
+pub chain-only : (w : List ℕ) (o c : ℕ) (l k : List ℕ) → Chain w o c l → Chain w o c k → l ≡ k
+chain-only w o c [] k h g = sym (chain-end w o c k g h)
+chain-only w o c (x ∷ xs) [] h g = absurd (omega (arith, h .0, h .1 .0))
+chain-only w o c (x ∷ xs) (y ∷ ys) h g =
+    let heads : x ≡ y = omega (arith, h .0, g .0) in
+    let tails = chain-only w o (getD w (o + x) 0) xs ys (h .1 .1) (rw heads (g .1 .1)) in
+    cc
 
 -- another work with the same links
 pub chain-ext : (w w′ : List ℕ) (o c : ℕ) (l : List ℕ) → ((x : ℕ) → x ∈ l → getD w′ (o + x) 0 ≡ getD w (o + x) 0) → Chain w o c l → Chain w′ o c l
