@@ -63,7 +63,7 @@ module _ {n j c len : ℕ} {fs fr w₀ x₀ y₀ w x y : List ℕ} {d turn count
     next : Further n d fs w (s .left)
     next = further (s .siblings) h
 
-    pub child-at : Child n fs d
+    pub child-at : Child fs d
     child-at = next .child
 
     pub falls : getD w (n + d) 0 < d
@@ -76,7 +76,7 @@ module _ {n j c len : ℕ} {fs fr w₀ x₀ y₀ w x y : List ℕ} {d turn count
     ends = s .begun .ends d (s .left-in d here)
 
     pub link : n + d < length w
-    link = omega (arith, s .siblings .links, child-at .most)
+    link = omega (arith, s .siblings .links, next .most)
 
     pub link-first : n + d < length w₀
     link-first = rw (← s .long-w) link
@@ -130,7 +130,7 @@ module _ {n j c len : ℕ} {fs fr w₀ x₀ y₀ w x y : List ℕ} {d turn count
       change w′ f = rw f (changed-marked n j more w (λ i m. positive i (rw e at m)))
 
       next-link : (w′ : List ℕ) → w′ ≡ marked n j more w → getD w′ (n + d) 0 ≡ getD w (n + d) 0
-      next-link w′ f = change w′ f .links (n + d) (omega (arith, child-at .most))
+      next-link w′ f = change w′ f .links (n + d) (omega (arith, next .most))
 
       pub falls-marked : (w′ : List ℕ) → w′ ≡ marked n j more w → getD w′ (n + d) 0 < d
       falls-marked w′ f = rw (next-link w′ f) falls
@@ -163,9 +163,10 @@ module _ {n j c len : ℕ} {fs fr w₀ x₀ y₀ w x y : List ℕ} {d turn count
           siblings′ =
               let g = next .siblings in
               record {
-                chain = chain-ext w w′ n (getD w (n + d) 0) (next .rest) (λ k m. change w′ f .links (n + k) (omega (arith, g .each k m .most))) (g .chain);
+                chain = chain-ext w w′ n (getD w (n + d) 0) (next .rest) (λ k m. change w′ f .links (n + k) (omega (arith, g .most k m))) (g .chain);
                 desc = g .desc;
                 each = g .each;
+                most = g .most;
                 links = rw lw (g .links);
               }
 

@@ -15,7 +15,8 @@ use Rattle.child_lists.specs.Children.{rowsOf, Child, Siblings, Linked, 
 pub record Further (n c : ℕ) (fs w children : List ℕ) : Type 0 where
   pub rest : List ℕ
   pub is : children ≡ c ∷ rest
-  pub child : Child n fs c
+  pub child : Child fs c
+  pub most : c ≤ n
   pub siblings : Siblings n (getD w (n + c) 0) fs w rest
   pub falls : getD w (n + c) 0 < c
 
@@ -28,7 +29,8 @@ further {n} {c} {fs} {w} {children} s h =
       rest = l .rest;
       is = l .is;
       child = s .each c (rw (l .is) (List·Memᴰ·head refl));
-      siblings = record { chain = l .chain; desc = f .1; each = λ x m. s .each x (rw (l .is) (List·Memᴰ·tail m)); links = s .links };
+      most = s .most c (rw (l .is) (List·Memᴰ·head refl));
+      siblings = record { chain = l .chain; desc = f .1; each = λ x m. s .each x (rw (l .is) (List·Memᴰ·tail m)); most = λ x m. s .most x (rw (l .is) (List·Memᴰ·tail m)); links = s .links };
       falls = f .0;
     }
 
@@ -61,8 +63,11 @@ module _ {n c : ℕ} {fs w : List ℕ} {best most d : ℕ} (p : Picking n c fs w
     next : Further n d fs w (p .left)
     next = further (p .siblings) h
 
-    pub child-at : Child n fs d
+    pub child-at : Child fs d
     child-at = next .child
+
+    pub link : n + d < length w
+    link = omega (arith, next .most, p .siblings .links)
 
     pub goes-down : getD w (n + d) 0 < d
     goes-down = next .falls

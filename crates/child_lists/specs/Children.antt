@@ -19,9 +19,8 @@ abbrev pub handedOn : List ℕ → List ℕ → ℕ → List ℕ
 handedOn fstarts frows c = part (getD fstarts (c - 1) 0 + 1) (getD fstarts c 0) frows
 
 -- a column with a list of at least one row
-pub record Child (n : ℕ) (fstarts : List ℕ) (c : ℕ) : Type 0 where
+pub record Child (fstarts : List ℕ) (c : ℕ) : Type 0 where
   pub first : 1 ≤ c
-  pub most : c ≤ n
   pub started : c < length fstarts
   pub begins : getD fstarts (c - 1) 0 < getD fstarts c 0
 
@@ -29,7 +28,8 @@ pub record Child (n : ℕ) (fstarts : List ℕ) (c : ℕ) : Type 0 where
 pub record Siblings (n c : ℕ) (fstarts work children : List ℕ) : Type 0 where
   pub chain : Chain work n c children
   pub desc : Desc (suc c) children
-  pub each : (d : ℕ) → d ∈ children → Child n fstarts d
+  pub each : (d : ℕ) → d ∈ children → Child fstarts d
+  pub most : (d : ℕ) → d ∈ children → d ≤ n
   pub links : n + n < length work
 
 -- some list of children is linked from c on

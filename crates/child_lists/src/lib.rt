@@ -15,8 +15,8 @@ pub struct Gathered {
 }
 
 // The rows that column c hands on to its parent: its list but the least row, which is the parent.
-pub fn handed_on<'a>(n: usize, c: usize, fstarts: &[u64], frows: &'a [u32]) -> &'a [u32]
-    requires child { ⌜ Child n (now fstarts) c ⌝ }
+pub fn handed_on<'a>(c: usize, fstarts: &[u64], frows: &'a [u32]) -> &'a [u32]
+    requires child { ⌜ Child (now fstarts) c ⌝ }
     requires stored { ⌜ getD (now fstarts) c 0 ≤ length (now frows) ⌝ }
     ensures { λ r. ⌜ now r ≡ handedOn (now (fstarts .entry)) (now (frows .entry)) c ⌝ }
 {
@@ -106,7 +106,7 @@ pub fn join_children(
     let mut turn = 0;
     let mut count = len;
     while d != 0 {
-        let more = handed_on(n, d, fstarts, frows);
+        let more = handed_on(d, fstarts, frows);
         if covered(n, j, more, work) {
             d = work[n + d] as usize;
         } else {

@@ -2,7 +2,7 @@
 -- Assumes nothing.
 use native.Mathlib.Omega.{arith}
 use borrow.Author.Needs.{needs}
-use Rattle.child_lists.proofs.Picking.{Picking, begin, child-at, goes-down, takes, keeps, picked}
+use Rattle.child_lists.proofs.Picking.{Picking, begin, child-at, link, goes-down, takes, keeps, picked}
 use Rattle.child_lists.proofs.longest.Statement.{statement}
 use Rattle.child_lists.proofs.longest.Tie as tie
 
@@ -34,13 +34,13 @@ sub-rows-2 : tie.Need-sub-rows-2 Inv-loop μ-loop
 sub-rows-2 c = let k = child-at (c .before .before .before .loop .inv) (c .before .before .loop-test .taken) in let b = k .begins in search needs
 
 add-d : tie.Need-add-d Inv-loop μ-loop
-add-d c = let k = child-at (c .before .before .before .before .loop .inv) (c .before .before .before .loop-test .taken) in let l = c .before .before .before .before .loop .inv .siblings .links in let g = c .before .before .before .before .before .good in search needs
+add-d c = let l = link (c .before .before .before .before .loop .inv) (c .before .before .before .loop-test .taken) in let g = c .before .before .before .before .before .good .1 .1 .1 .0 in omega arith
 
 mul-d : tie.Need-mul-d Inv-loop μ-loop
-mul-d c = let k = child-at (c .before .before .before .before .loop .inv) (c .before .before .before .loop-test .taken) in let l = c .before .before .before .before .loop .inv .siblings .links in let g = c .before .before .before .before .before .good in search needs
+mul-d c = let l = link (c .before .before .before .before .loop .inv) (c .before .before .before .loop-test .taken) in let g = c .before .before .before .before .before .good .1 .1 .1 .0 in omega arith
 
 shared-slice-read-d : tie.Need-shared-slice-read-d Inv-loop μ-loop
-shared-slice-read-d c = let k = child-at (c .before .before .before .before .before .loop .inv) (c .before .before .before .before .loop-test .taken) in let l = c .before .before .before .before .before .loop .inv .siblings .links in omega arith
+shared-slice-read-d c = link (c .before .before .before .before .before .loop .inv) (c .before .before .before .before .loop-test .taken)
 
 loop-less : tie.Need-loop-less Inv-loop μ-loop
 loop-less c = goes-down (c .before .before .before .before .before .loop .inv) (c .before .before .before .before .loop-test .taken)
@@ -49,13 +49,13 @@ loop-again : tie.Need-loop-again Inv-loop μ-loop
 loop-again c = takes (c .before .before .before .before .before .loop .inv) (c .before .before .before .before .loop-test .taken) (c .before .if1 .taken)
 
 add-d-2 : tie.Need-add-d-2 Inv-loop μ-loop
-add-d-2 c = let k = child-at (c .before .before .before .before .loop .inv) (c .before .before .before .loop-test .taken) in let l = c .before .before .before .before .loop .inv .siblings .links in let g = c .before .before .before .before .before .good in search needs
+add-d-2 c = let l = link (c .before .before .before .before .loop .inv) (c .before .before .before .loop-test .taken) in let g = c .before .before .before .before .before .good .1 .1 .1 .0 in omega arith
 
 mul-d-2 : tie.Need-mul-d-2 Inv-loop μ-loop
-mul-d-2 c = let k = child-at (c .before .before .before .before .loop .inv) (c .before .before .before .loop-test .taken) in let l = c .before .before .before .before .loop .inv .siblings .links in let g = c .before .before .before .before .before .good in search needs
+mul-d-2 c = let l = link (c .before .before .before .before .loop .inv) (c .before .before .before .loop-test .taken) in let g = c .before .before .before .before .before .good .1 .1 .1 .0 in omega arith
 
 shared-slice-read-d-2 : tie.Need-shared-slice-read-d-2 Inv-loop μ-loop
-shared-slice-read-d-2 c = let k = child-at (c .before .before .before .before .before .loop .inv) (c .before .before .before .before .loop-test .taken) in let l = c .before .before .before .before .before .loop .inv .siblings .links in omega arith
+shared-slice-read-d-2 c = link (c .before .before .before .before .before .loop .inv) (c .before .before .before .before .loop-test .taken)
 
 loop-less-2 : tie.Need-loop-less-2 Inv-loop μ-loop
 loop-less-2 c = goes-down (c .before .before .before .before .before .loop .inv) (c .before .before .before .before .loop-test .taken)
