@@ -11,13 +11,13 @@ use lib.Seq.{length-take-le}
 use Rattle.papers.specs.Lists.{_∈_, merge, every}
 use Rattle.list_laws.proofs.Ascending.{asc-above}
 use Rattle.list_laws.proofs.Merges.{merge-left, merge-right}
-use Rattle.column_laws.proofs.Chains.{chain-end, chain-only, chain-ext}
+use Rattle.column_laws.proofs.Chains.{chain-end, chain-only}
 use Rattle.child_lists.specs.Marks.{marked, isMarked, Markable, Sound, Changed}
 use Rattle.child_lists.specs.Buffers.{buffer, held, Roomy}
 use Rattle.child_lists.specs.Children.{handedOn, Child, Siblings, Makes, Begun, Joining, Joined}
 use Rattle.child_lists.proofs.Marks.{marks-sound, changed-none, changed-more, changed-marked, covered-in}
 use Rattle.child_lists.proofs.Buffers.{first-buffer}
-use Rattle.child_lists.proofs.Picking.{Further, further}
+use Rattle.child_lists.proofs.Picking.{Further, further, siblings-ext}
 use Rattle.child_lists.proofs.Making.{makes-join, makes-skip, makes-end, makes-only, makes-few}
 
 -- the children from d on are left
@@ -147,7 +147,7 @@ module _ {n j c len : ℕ} {fs fr w₀ x₀ y₀ w x y : List ℕ} {d turn count
             begun = s .begun;
             left = next .rest;
             left-in = λ k m. s .left-in k (rw (next .is) (List·Memᴰ·tail m));
-            siblings = rw (next-link w′ f) siblings′;
+            siblings = rw (next-link w′ f) (siblings-ext w′ (next .siblings) (change w′ f) lw);
             makes = rw (q .1, e) (makes-join makes);
             size = ap length (q .1) ∙ sym (q .0);
             sound = rw (q .1, f) (marks-sound n j more w (held turn count x y) (merge (held turn count x y) more) (s .sound)
@@ -158,17 +158,6 @@ module _ {n j c len : ℕ} {fs fr w₀ x₀ y₀ w x y : List ℕ} {d turn count
             long-x = lx ∙ s .long-x;
             long-y = ly ∙ s .long-y;
           }
-        where
-          siblings′ : Siblings n (getD w (n + d) 0) fs w′ (next .rest)
-          siblings′ =
-              let g = next .siblings in
-              record {
-                chain = chain-ext w w′ n (getD w (n + d) 0) (next .rest) (λ k m. change w′ f .links (n + k) (omega (arith, g .most k m))) (g .chain);
-                desc = g .desc;
-                each = g .each;
-                most = g .most;
-                links = rw lw (g .links);
-              }
 
   pub stop : d ≡ 0 → Joined n j c len fs fr w₀ x₀ y₀ turn count w x y
   stop z = record { list = λ children whole b. same children whole b; changed = s .changed }

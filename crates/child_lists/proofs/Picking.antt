@@ -8,7 +8,8 @@ use native.Mathlib.Omega.{arith}
 use lib.ListN.{length, getD}
 use Rattle.papers.specs.Lists.{_∈_}
 use Rattle.column_laws.specs.Chains.{Chain, Desc}
-use Rattle.column_laws.proofs.Chains.{chain-on, chain-end, chain-only, desc-first}
+use Rattle.column_laws.proofs.Chains.{chain-on, chain-end, chain-only, chain-ext, desc-first}
+use Rattle.child_lists.specs.Marks.{Changed}
 use Rattle.child_lists.specs.Children.{rowsOf, Child, Siblings, Linked, Longest}
 
 -- the next of linked children
@@ -32,6 +33,17 @@ further {n} {c} {fs} {w} {children} s h =
       most = s .most c (rw (l .is) (List·Memᴰ·head refl));
       siblings = record { chain = l .chain; desc = f .1; each = λ x m. s .each x (rw (l .is) (List·Memᴰ·tail m)); most = λ x m. s .most x (rw (l .is) (List·Memᴰ·tail m)); links = s .links };
       falls = f .0;
+    }
+
+-- marks do not change the links
+pub siblings-ext : {n j c : ℕ} {fs w children : List ℕ} (w′ : List ℕ) → Siblings n c fs w children → Changed n j w w′ → length w′ ≡ length w → Siblings n c fs w′ children
+siblings-ext {n} {j} {c} {fs} {w} {children} w′ s g l =
+    record {
+      chain = chain-ext w w′ n c children (λ d m. g .links (n + d) (omega (arith, s .most d m))) (s .chain);
+      desc = s .desc;
+      each = s .each;
+      most = s .most;
+      links = rw l (s .links);
     }
 
 -- best, with most rows, of the children before d

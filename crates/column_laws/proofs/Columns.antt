@@ -14,7 +14,7 @@ use Rattle.column_laws.specs.Chains.{part}
 use Rattle.column_laws.proofs.Parts.{part-slice}
 
 -- the rows of column m + 1 are the part between its two starts
-pub column-part : (starts rows : List ℕ) (m : ℕ) → part (getD starts m 0) (getD starts (m + 1) 0) rows ≡ columnOf starts rows (suc m)
+pub column-part : (starts rows : List ℕ) (m : ℕ) → part (getD starts m 0) (getD starts (m + 1) 0) rows ≡ columnOf starts rows (m + 1)
 unfolding columnOf
 column-part starts rows m = rw (add-one m, start-at starts m, start-at starts (suc m)) (part-slice (getD starts m 0) (getD starts (suc m) 0) rows)
 

@@ -1,0 +1,3 @@
+pub mod Hanging
+pub mod Gathering
+pub mod Begins
