@@ -7,10 +7,11 @@ use mathlib.Core.List.{List, [], _∷_, _++_, map, append-nil}
 use native.Mathlib.Omega.{arith}
 use native.Mathlib.Nat.{le-suc-iff}
 use native.Mathlib.Numerals.{add-one}
-use lib.ListN.{length, take, drop, length-append}
+use lib.ListN.{length, take, drop, length-append, length-map}
 use lib.Seq.{take-all, take-append-le, take-take, take-add, drop-at}
 use Rattle.papers.specs.Lists.{upTo, flat, startsFrom}
 use Rattle.papers.specs.Key.{listsOf}
+use Rattle.list_laws.proofs.UpTo.{length-upTo}
 use Rattle.list_laws.proofs.Stores.{flat-append, starts-more}
 use Rattle.column_laws.specs.Chains.{part}
 
@@ -26,6 +27,10 @@ module _ (B : ℕ → List ℕ) where
   pub lists-more : (m : ℕ) → listsOf (suc m) B ≡ listsOf m B ++ (B (suc m) ∷ [])
   unfolding listsOf
   lists-more m = map-upTo B m
+
+  pub length-lists : (m : ℕ) → length (listsOf m B) ≡ m
+  unfolding listsOf
+  length-lists m = length-map (upTo m) B ∙ length-upTo m
 
   pub flat-more : (m : ℕ) → flat (listsOf (suc m) B) ≡ flat (listsOf m B) ++ B (suc m)
   unfolding flat

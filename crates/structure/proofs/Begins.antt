@@ -13,7 +13,8 @@ use Rattle.papers.specs.Fill.{R}
 use Rattle.list_laws.proofs.Ascending.{asc-length, asc-above, drop-head}
 use Rattle.list_laws.proofs.Merges.{merge-asc, merge-left, merge-right, merge-from}
 use Rattle.fill_laws.proofs.Fill.{R-range, R-pattern}
-use Rattle.column_laws.specs.Chains.{Chain}
+use Rattle.column_laws.specs.Tested.{Tested}
+use Rattle.column_laws.proofs.Columns.{starts-long, starts-rise, starts-fit}
 use Rattle.column_laws.proofs.Parts.{front-stored}
 use Rattle.column_laws.proofs.Chains.{chain-end, chain-on}
 use Rattle.child_lists.specs.Marks.{marked, Markable, Sound, Changed}
@@ -24,8 +25,12 @@ use Rattle.child_lists.proofs.Picking.{siblings-ext}
 use Rattle.child_lists.proofs.Buffers.{first-buffer}
 use Rattle.child_lists.proofs.Making.{makes-skip, makes-end, makes-few}
 use Rattle.structure.specs.Hung.{hung}
-use Rattle.structure.specs.Stored.{Next, Gathers}
+use Rattle.structure.specs.Stored.{Part, Next, Gathers}
 use Rattle.structure.proofs.Gathering.{Found, found-child, chain, siblings, makes}
+
+-- the rows of a tested job's column have their part
+pub part-of : {n m : ℕ} {starts rows : List ℕ} → Tested n starts rows → m < n → Part m starts rows
+part-of {n} {m} t l = record { started = omega (arith, starts-long t); rises = starts-rise t m l; ends = starts-fit t (m + 1) (omega arith) }
 
 module _ {n m : ℕ} {A : Pattern} {fs fr w x y : List ℕ} (good : Below n A) (g : Next n m A fs fr w x y) (own : List ℕ) (o : own ≡ A (m + 1)) where
   few : (l : List ℕ) → Asc (m + 1) l → ((i : ℕ) → i ∈ l → i ∈ R A (m + 1)) → length l ≤ n

@@ -105,7 +105,6 @@ module _ (A : Pattern) where
       go (passes t) s = rw (hung-yes m j (eqb-true (parent A (suc m)) j t)) (omega arith, s)
       go (fails t) s = rw (hung-no m j (eqb-false (parent A (suc m)) j t)) (desc-weaken (suc m) (suc (suc m)) (hung A m j) (omega arith) s)
 
-
   -- the children of each column up to n, of the columns up to m, are linked
   abbrev pub Chains : ℕ → ℕ → List ℕ → Type 0
   Chains n m w = (j : ℕ) → 1 ≤ j → j ≤ n → Chain w n (getD w j 0) (hung A m j)

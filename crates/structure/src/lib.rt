@@ -41,7 +41,10 @@ pub fn gather<'a>(
     let c = work[m + 1] as usize;
     if c == 0 {
         joiner::copy_at(x, 0, own);
-        return Gathered { turn: 0, len: own.len() };
+        return Gathered {
+            turn: 0,
+            len: own.len(),
+        };
     }
     let d = child_lists::longest(n, c, fstarts, work);
     let more = child_lists::handed_on(d, fstarts, frows);
