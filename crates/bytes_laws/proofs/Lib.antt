@@ -7,5 +7,3 @@ pub mod Plans
 pub mod Begins
 pub mod Reaches
 pub mod Writing
-pub mod Remains
-pub mod Readings
