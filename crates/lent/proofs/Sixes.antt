@@ -1,7 +1,7 @@
 -- Six equations of slices are one.
 -- Assumes nothing.
 use Prim.Native.Nat.{ℕ}
-use mathlib.Core.Path.{_≡_}
+use mathlib.Core.Path.{_≡_, ap}
 use mathlib.Core.List.{List}
 use Rattle.papers.specs.Lists.{zeros}
 use Rattle.papers.specs.Refusals.{Lent, allZero}
@@ -14,3 +14,24 @@ pub all-cleared : (p o q s r w : List ℕ) {p′ o′ q′ s′ r′ w′ : List
     → six p′ o′ q′ s′ r′ w′ ≡ allZero (six p o q s r w)
 unfolding allZero
 all-cleared p o q s r w a b c d e f = sixes a b c d e f
+
+-- what is cleared, slice by slice
+pub record EachZero (before lent : Lent) : Type 0 where
+  pub parents : lent .parents ≡ zeros (before .parents)
+  pub order : lent .order ≡ zeros (before .order)
+  pub pops : lent .pops ≡ zeros (before .pops)
+  pub starts : lent .factorStarts ≡ zeros (before .factorStarts)
+  pub rows : lent .factorRows ≡ zeros (before .factorRows)
+  pub work : lent .work ≡ zeros (before .work)
+
+pub each-zero : (before lent : Lent) → lent ≡ allZero before → EachZero before lent
+unfolding allZero
+each-zero before lent e =
+    record {
+      parents = ap (λ (l : Lent). l .parents) e;
+      order = ap (λ (l : Lent). l .order) e;
+      pops = ap (λ (l : Lent). l .pops) e;
+      starts = ap (λ (l : Lent). l .factorStarts) e;
+      rows = ap (λ (l : Lent). l .factorRows) e;
+      work = ap (λ (l : Lent). l .work) e;
+    }
