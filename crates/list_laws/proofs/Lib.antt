@@ -5,3 +5,4 @@ pub mod Members
 pub mod Keeps
 pub mod Counts
 pub mod UpTo
+pub mod Sorts

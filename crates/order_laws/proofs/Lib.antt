@@ -1,0 +1,14 @@
+pub mod Triangles
+pub mod Rooms
+pub mod Trees
+pub mod Subtrees
+pub mod Reversed
+pub mod Forests
+pub mod Steps
+pub mod Pieces
+pub mod Ordering
+pub mod Arranged
+pub mod Orders
+pub mod Patterns
+pub mod Greatest
+pub mod Peaks

@@ -1,0 +1,30 @@
+-- The peak of an order is the greatest room in use of its steps.
+-- Assumes nothing.
+use Prim.Native.Nat.{ℕ, _<_, _≤_}
+use mathlib.Core.Path.{_≡_, refl}
+use mathlib.Core.List.{List, []}
+use native.Mathlib.Omega.{arith}
+use lib.ListN.{length}
+use Rattle.papers.specs.Lists.{_∈_, greatest}
+use Rattle.papers.specs.Job.{Pattern}
+use Rattle.papers.specs.Tree.{rowCount}
+use Rattle.papers.specs.Room.{rooms, peakOf}
+use Rattle.papers.specs.Order.{popsOf, roomsOf, peak}
+use Rattle.order_laws.proofs.Rooms.{rooms-length}
+use Rattle.order_laws.proofs.Greatest.{greatest-bound, greatest-in}
+
+module _ (n : ℕ) (A : Pattern) where
+  -- no step uses more room than the peak
+  pub room-under-peak : (order : List ℕ) (r : ℕ) → r ∈ roomsOf n A order → r ≤ peak n A order
+  unfolding roomsOf peak peakOf
+  room-under-peak order r m = greatest-bound (rooms (rowCount A) (popsOf n A) [] order) r m
+
+  -- some step uses as much
+  pub peak-reached : (order : List ℕ) → 0 < length order → peak n A order ∈ roomsOf n A order
+  unfolding roomsOf peak peakOf
+  peak-reached order h = greatest-in (rooms (rowCount A) (popsOf n A) [] order) (omega (arith, rooms-length (rowCount A) (popsOf n A) [] order))
+
+  -- no step, no room
+  pub peak-empty : peak n A [] ≡ 0
+  unfolding peak peakOf rooms greatest
+  peak-empty = refl
