@@ -14,3 +14,4 @@ pub mod Check
 pub mod Run
 pub mod Text
 pub mod Call
+pub mod Conditions

@@ -1,0 +1,386 @@
+-- The conditions of the refusals as propositions, each with the answer that it gives; and what it means that an entry point answers by the first.
+-- The tests of the other modules compute; crate refusal_laws proves that they agree with what stands here.
+-- Assumes nothing.
+use Prim.Native.Nat.{ℕ, zero, suc, _+_, _-_, _*_, _<_, _≤_}
+use mathlib.Core.Path.{_≡_}
+use mathlib.Core.Logic.{_⊎_, _≢_}
+use mathlib.Core.Bool.{Bool, true, false}
+use mathlib.Core.List.{List, [], _∷_, _++_}
+use lib.Dec.{leb}
+use lib.ListN.{length, getD, take}
+use Rattle.papers.specs.Bounds.{maxColumns, maxLimit, workLength, maxGroups, maxPeak, textBytes, textColumns, textRows}
+use Rattle.papers.specs.Lists.{_∈_, flat}
+use Rattle.papers.specs.Numbers.{readNumber}
+use Rattle.papers.specs.Job.{Job, pattern, start, columnOf}
+use Rattle.papers.specs.Fill.{R}
+use Rattle.papers.specs.Tree.{parent}
+use Rattle.papers.specs.Order.{columnAt, Together, popsOf}
+use Rattle.papers.specs.Key.{keyOf}
+use Rattle.papers.specs.Plan.{Plan, columnsIn, popsIn, planOf, planBytes, got}
+use Rattle.papers.specs.Refusals.{answer, Lent}
+use Rattle.papers.specs.Analysis.{KeyCall, AnalysisCall, PlanCall}
+use Rattle.papers.specs.Check.{CheckCall, planRead, truePeak}
+use Rattle.papers.specs.Run.{RunCall, rowsIn, popsAt, roomIn, stateAfter}
+use Rattle.papers.specs.Text.{Input, numbersAt, textHead, textLists, afterLines}
+use Rattle.papers.specs.Call.{Readable, SolverCall}
+use Rattle.papers.specs.declared.Answer.{Answer}
+use Rattle.papers.specs.declared.Number.{Number}
+use Rattle.papers.specs.declared.Number.the-variants.{Value, Ended, TooLong, NotShortest}
+
+-- a condition: the answers that it gives to a call
+abbrev pub Condition : Type 0 → Type 1
+Condition C = C → Answer → Type 0
+
+-- a is answered: a condition gives it, and no condition listed before that one gives any answer
+abbrev pub Answered : {C : Type 0} → List (Condition C) → C → Answer → Type 0
+Answered [] call a = ⊥
+Answered (K ∷ Ks) call a = K call a ⊎ (((b : Answer) → ¬ K call b) × Answered Ks call a)
+
+-- no condition gives any answer
+abbrev pub Unrefused : {C : Type 0} → List (Condition C) → C → Type 0
+Unrefused [] call = Unit {0}
+Unrefused (K ∷ Ks) call = ((b : Answer) → ¬ K call b) × Unrefused Ks call
+
+-- the conditions of a part of a call
+abbrev pub of : {C D : Type 0} → (C → D) → List (Condition D) → List (Condition C)
+of part [] = []
+of part (K ∷ Ks) = (λ call a. K (part call) a) ∷ of part Ks
+
+-- ---- 1 to 6: a job
+
+-- 1
+abbrev pub ColumnsOver : Condition ℕ
+ColumnsOver n a = (maxColumns < n) × (a ≡ answer 1 0 0)
+
+-- 2
+abbrev pub MarkUnknown : Condition Job
+MarkUnknown job a = ((job .mark ≢ 0) × (job .mark ≢ 1) × (job .mark ≢ 2)) × (a ≡ answer 2 0 0)
+
+-- 3
+abbrev pub LimitOver : Condition Job
+LimitOver job a = (maxLimit < job .limit) × (a ≡ answer 3 0 0)
+
+-- n, starts and rows: what a job and a run have in common
+pub record Columns : Type 0 where
+  pub n : ℕ
+  pub starts : List ℕ
+  pub rows : List ℕ
+
+abbrev pub columns : Job → Columns
+columns job = record { n = job .n; starts = job .starts; rows = job .rows }
+
+-- the start behind column j lies before the one in front of it
+abbrev pub Falls : List ℕ → ℕ → Type 0
+Falls starts j = start starts (suc j) < start starts j
+
+-- 4, with its place: conditions go as listed, and the lowest column decides
+pub data BadStarts (c : Columns) : ℕ → Type 0 where
+  miscounted : length (c .starts) ≢ c .n + 1 → BadStarts c 0
+  not-zero : length (c .starts) ≡ c .n + 1 → start (c .starts) 1 ≢ 0 → BadStarts c 0
+  falls : {j : ℕ} → length (c .starts) ≡ c .n + 1 → start (c .starts) 1 ≡ 0
+      → 1 ≤ j → j ≤ c .n → Falls (c .starts) j → ((k : ℕ) → 1 ≤ k → k < j → ¬ Falls (c .starts) k) → BadStarts c j
+  last : length (c .starts) ≡ c .n + 1 → start (c .starts) 1 ≡ 0
+      → ((k : ℕ) → 1 ≤ k → k ≤ c .n → ¬ Falls (c .starts) k) → start (c .starts) (suc (c .n)) ≢ length (c .rows) → BadStarts c (c .n)
+
+abbrev pub StartsBad : Condition Columns
+StartsBad c a = (p : ℕ) × BadStarts c p × (a ≡ answer 4 p 0)
+
+-- row k of column j, the rows of a column counted from 0
+abbrev pub rowOf : Columns → ℕ → ℕ → ℕ
+rowOf c j k = getD (columnOf (c .starts) (c .rows) j) k 0
+
+abbrev pub IsRow : Columns → ℕ → ℕ → Type 0
+IsRow c j k = (1 ≤ j) × (j ≤ c .n) × (k < length (columnOf (c .starts) (c .rows) j))
+
+-- not above its column, or over n
+abbrev pub Outside : Columns → ℕ → ℕ → Type 0
+Outside c j k = (rowOf c j k ≤ j) ⊎ (c .n < rowOf c j k)
+
+-- not above the one before it
+abbrev pub NotAbove : Columns → ℕ → ℕ → Type 0
+NotAbove c j k = (0 < k) × (rowOf c j k ≤ rowOf c j (k - 1))
+
+-- row k of column j has no fault
+abbrev pub RowFine : Columns → ℕ → ℕ → Type 0
+RowFine c j k = (¬ Outside c j k) × (¬ NotAbove c j k)
+
+-- every row read before row k of column j has none
+abbrev pub FineBefore : Columns → ℕ → ℕ → Type 0
+FineBefore c j k = ((j′ k′ : ℕ) → j′ < j → IsRow c j′ k′ → RowFine c j′ k′) × ((k′ : ℕ) → k′ < k → RowFine c j k′)
+
+-- 5 and 6: the first faulty row in reading order; a row with both is 5
+pub data BadRow (c : Columns) : Answer → Type 0 where
+  five : {j k : ℕ} → IsRow c j k → FineBefore c j k → Outside c j k → BadRow c (answer 5 j 0)
+  six : {j k : ℕ} → IsRow c j k → FineBefore c j k → ¬ Outside c j k → NotAbove c j k → BadRow c (answer 6 j 0)
+
+abbrev pub jobConditions : List (Condition Job)
+jobConditions = (λ job. ColumnsOver (job .n)) ∷ MarkUnknown ∷ LimitOver ∷ (λ job. StartsBad (columns job)) ∷ (λ job. BadRow (columns job)) ∷ []
+
+-- ---- 7 to 10: lent slices, limit
+
+-- 7
+abbrev pub Short : ℕ → Condition Lent
+Short n lent a =
+    ((length (lent .parents) < n) ⊎ ((length (lent .order) < n) ⊎ ((length (lent .pops) < n) ⊎ ((length (lent .factorStarts) < n + 1) ⊎ (length (lent .work) < workLength n))))) × (a ≡ answer 7 0 0)
+
+-- 8: so many rows are needed
+abbrev pub RowsExceed : ℕ → Condition Lent
+RowsExceed needed lent a = (length (lent .factorRows) < needed) × (a ≡ answer 8 0 needed)
+
+-- 9
+abbrev pub PeakOver : ℕ → Condition ℕ
+PeakOver limit peak a = (limit < peak) × (a ≡ answer 9 0 peak)
+
+-- 10
+abbrev pub BytesShort : List ℕ → Condition (List ℕ)
+BytesShort written bytes a = (length bytes < length written) × (a ≡ answer 10 0 (length written))
+
+abbrev pub keyConditions : List (Condition KeyCall)
+keyConditions = of (λ call. call .job) jobConditions ++ ((λ call. BytesShort (keyOf (call .job)) (call .bytes)) ∷ [])
+
+abbrev pub analysisConditions : List (Condition AnalysisCall)
+analysisConditions =
+    of (λ call. call .job) jobConditions
+    ++ ((λ call. Short (call .job .n) (call .lent))
+    ∷ (λ call. RowsExceed (length (flat (planOf (call .job) .lists))) (call .lent))
+    ∷ (λ call. PeakOver (call .job .limit) (planOf (call .job) .peak))
+    ∷ [])
+
+abbrev pub planConditions : List (Condition PlanCall)
+planConditions =
+    of (λ call. record { job = call .job; lent = call .slices .lent }) analysisConditions
+    ++ ((λ call. BytesShort (planBytes (call .job) (planOf (call .job))) (call .slices .bytes)) ∷ [])
+
+-- ---- 11 to 15: the bytes of a plan
+
+-- byte p, counted from 1, is the key's
+abbrev pub Agrees : List ℕ → List ℕ → ℕ → Type 0
+Agrees key plan p = (p ≤ length plan) × (getD key (p - 1) 0 ≡ getD plan (p - 1) 0)
+
+-- 11: the first byte that differs, or the one at which the plan has ended
+abbrev pub KeyDiffers : Condition CheckCall
+KeyDiffers call a =
+    (p : ℕ) × ((1 ≤ p) × (p ≤ length (keyOf (call .job)))) × (¬ Agrees (keyOf (call .job)) (call .plan) p) × ((k : ℕ) → 1 ≤ k → k < p → Agrees (keyOf (call .job)) (call .plan) k) × (a ≡ answer 11 p 0)
+
+-- ---- 12 to 15: reading, number by number
+
+-- the first k groups from `at` on have the high bit
+abbrev pub Continues : List ℕ → ℕ → ℕ → Type 0
+Continues s at k = (i : ℕ) → i < k → 128 ≤ getD s (at + i) 0
+
+-- the value of k + 1 groups, the last without the high bit
+unfoldable pub groupsValue : List ℕ → ℕ → ℕ → ℕ
+groupsValue s at zero = getD s at 0
+groupsValue s at (suc k) = getD s at 0 - 128 + 128 * groupsValue s (at + 1) k
+
+-- the number that starts at `at`: the bytes end inside it; it has more groups than six; its last of several groups is 0; or its value
+pub data Stands (s : List ℕ) (at : ℕ) : Number → Type 0 where
+  ended : {k : ℕ} → k ≤ maxGroups → length s ≤ at + k → Continues s at k → Stands s at Ended
+  long : at + maxGroups < length s → Continues s at maxGroups → Stands s at TooLong
+  longer : {k : ℕ} → 0 < k → k < maxGroups → at + k < length s → Continues s at k → getD s (at + k) 0 ≡ 0 → Stands s at NotShortest
+  value : {k : ℕ} → k < maxGroups → at + k < length s → Continues s at k → getD s (at + k) 0 < 128
+      → (k ≡ 0) ⊎ (0 < getD s (at + k) 0) → Stands s at (Value (groupsValue s at k) (at + k + 1))
+
+-- what stands next in a plan: a step's column, or its pops, with k steps left after it; column j's count; a gap behind row b of column j,
+-- with k gaps left after it; the peak; nothing
+pub data Field : Type 0 where
+  column : ℕ → Field
+  pops : ℕ → Field
+  count : ℕ → Field
+  gap : ℕ → ℕ → ℕ → Field
+  peak : Field
+  nothing : Field
+
+-- the range of a field: column 1..n, pops 0..n−1, count 0..n−j, gap from 1 with the row at most n, peak 0..2^40
+unfoldable pub low : Field → ℕ
+low (column k) = 1
+low (pops k) = 0
+low (count j) = 0
+low (gap j b k) = 1
+low peak = 0
+low nothing = 0
+
+unfoldable pub high : ℕ → Field → ℕ
+high n (column k) = n
+high n (pops k) = n - 1
+high n (count j) = n - j
+high n (gap j b k) = n - b
+high n peak = maxPeak
+high n nothing = 0
+
+-- the next field: of the lists from column j on; of k more gaps behind row b of column j; of k more steps
+unfoldable pub fromList : ℕ → ℕ → Field
+fromList n j = elim (leb j n) [ true ↦ count j | false ↦ peak ]
+
+unfoldable pub fromGap : ℕ → ℕ → ℕ → ℕ → Field
+fromGap n j b zero = fromList n (suc j)
+fromGap n j b (suc k) = gap j b k
+
+unfoldable pub fromStep : ℕ → ℕ → Field
+fromStep n zero = fromList n 1
+fromStep n (suc k) = column k
+
+-- the field that follows one with the value v
+unfoldable pub following : ℕ → Field → ℕ → Field
+following n (column k) v = pops k
+following n (pops k) v = fromStep n k
+following n (count j) v = fromGap n j j v
+following n (gap j b k) v = fromGap n j (b + v) k
+following n peak v = nothing
+following n nothing v = nothing
+
+-- reading from `from` on comes to a field at a place: each number before it is there, in shortest form, and in its range
+pub data Reaches (n : ℕ) (s : List ℕ) (from : ℕ) : Field → ℕ → Type 0 where
+  begin : Reaches n s from (fromStep n n) from
+  next : {x : Field} {at v to : ℕ} → Reaches n s from x at → x ≢ nothing
+      → readNumber s at ≡ Value v to → low x ≤ v → v ≤ high n x → Reaches n s from (following n x v) to
+
+-- 12, 13, 14 of the first number at fault, at the byte where it starts; 15 at the first byte after the peak
+pub data BadPlan (n : ℕ) (s : List ℕ) (from : ℕ) : Answer → Type 0 where
+  twelve : {x : Field} {at : ℕ} → Reaches n s from x at → x ≢ nothing → readNumber s at ≡ Ended → BadPlan n s from (answer 12 (at + 1) 0)
+  thirteen : {x : Field} {at : ℕ} → Reaches n s from x at → x ≢ nothing → (readNumber s at ≡ TooLong) ⊎ (readNumber s at ≡ NotShortest)
+      → BadPlan n s from (answer 13 (at + 1) 0)
+  fourteen : {x : Field} {at v to : ℕ} → Reaches n s from x at → x ≢ nothing → readNumber s at ≡ Value v to → (v < low x) ⊎ (high n x < v)
+      → BadPlan n s from (answer 14 (at + 1) 0)
+  fifteen : {at : ℕ} → Reaches n s from nothing at → at < length s → BadPlan n s from (answer 15 (at + 1) 0)
+
+abbrev pub PlanBad : Condition CheckCall
+PlanBad call = BadPlan (call .job .n) (call .plan) (length (keyOf (call .job)))
+
+-- ---- 8 and 16 to 20: the plan that was read
+
+-- a condition of the plan that the bytes hold
+abbrev pub ofRead : (CheckCall → Plan → Answer → Type 0) → Condition CheckCall
+ofRead K call a = (plan : Plan) × (at : ℕ) × (planRead call ≡ got plan at) × K call plan a
+
+-- the least place from 1 to n at which P holds
+abbrev pub Least : (ℕ → Type 0) → ℕ → ℕ → Type 0
+Least P n p = ((1 ≤ p) × (p ≤ n)) × P p × ((k : ℕ) → 1 ≤ k → k < p → ¬ P k)
+
+-- 16: the column of step s stands at an earlier step
+abbrev pub Repeated : List ℕ → ℕ → Type 0
+Repeated order s = (k : ℕ) × ((1 ≤ k) × (k < s)) × (columnAt order k ≡ columnAt order s)
+
+-- 17: the plan's list of column j is not R(j)
+abbrev pub NotR : Job → Plan → ℕ → Type 0
+NotR job plan j = ¬ (getD (plan .lists) (j - 1) [] ≡ R (pattern job) j)
+
+-- 18: the subtree whose top is done at step s does not take consecutive steps, its top last
+abbrev pub Faulty : Job → Plan → ℕ → Type 0
+Faulty job plan s = ¬ Together (parent (pattern job)) (columnsIn (plan .steps)) s
+
+-- 19: the pops of step s are not its column's number of children
+abbrev pub PopsWrong : Job → Plan → ℕ → Type 0
+PopsWrong job plan s = getD (popsIn (plan .steps)) (s - 1) 0 ≢ popsOf (job .n) (pattern job) (columnAt (columnsIn (plan .steps)) s)
+
+-- a condition that is given at the least step or column of the plan
+abbrev pub atLeast : ℕ → (Job → Plan → ℕ → Type 0) → Condition CheckCall
+atLeast number P = ofRead (λ call plan a. (p : ℕ) × Least (P (call .job) plan) (call .job .n) p × (a ≡ answer number p 0))
+
+-- 20
+abbrev pub PeakWrong : Condition CheckCall
+PeakWrong = ofRead (λ call plan a. (plan .peak ≢ truePeak (call .job) plan) × (a ≡ answer 20 0 (truePeak (call .job) plan)))
+
+abbrev pub checkConditions : List (Condition CheckCall)
+checkConditions =
+    of (λ call. call .job) jobConditions
+    ++ ((λ call. Short (call .job .n) (call .lent))
+    ∷ KeyDiffers
+    ∷ PlanBad
+    ∷ ofRead (λ call plan. RowsExceed (length (flat (plan .lists))) (call .lent))
+    ∷ atLeast 16 (λ job plan. Repeated (columnsIn (plan .steps)))
+    ∷ atLeast 17 NotR
+    ∷ atLeast 18 Faulty
+    ∷ atLeast 19 PopsWrong
+    ∷ PeakWrong
+    ∷ ofRead (λ call plan. PeakOver (call .job .limit) (truePeak (call .job) plan))
+    ∷ [])
+
+-- ---- the run
+
+-- 7
+abbrev pub RunShort : Condition RunCall
+RunShort call a = ((length (call .columns) < call .n) ⊎ ((length (call .pops) < call .n) ⊎ (length (call .stack) < call .n))) × (a ≡ answer 7 0 0)
+
+-- the column of step s, and the columns whose updates it finds held
+abbrev pub stepColumn : RunCall → ℕ → ℕ
+stepColumn call s = columnAt (call .columns) s
+
+abbrev pub heldAt : RunCall → ℕ → List ℕ
+heldAt call s = stateAfter call (s - 1) .held
+
+abbrev pub Known : RunCall → ℕ → Type 0
+Known call s = (1 ≤ stepColumn call s) × (stepColumn call s ≤ call .n)
+
+-- every popped row stands in the front
+abbrev pub AllFit : RunCall → ℕ → Type 0
+AllFit call s = (u i : ℕ) → u ∈ take (popsAt call s) (heldAt call s) → i ∈ rowsIn call u → i ∈ (stepColumn call s ∷ rowsIn call (stepColumn call s))
+
+-- the fault of step s, the steps before it done, in the order tested
+pub data BadStep (call : RunCall) (s : ℕ) : ℕ → Type 0 where
+  unknown-column : ¬ Known call s → BadStep call s 14
+  too-many-pops : Known call s → length (heldAt call s) < popsAt call s → BadStep call s 21
+  row-outside : Known call s → popsAt call s ≤ length (heldAt call s) → ¬ AllFit call s → BadStep call s 22
+  over-room : Known call s → popsAt call s ≤ length (heldAt call s) → AllFit call s → call .room < roomIn call s (stateAfter call (s - 1)) → BadStep call s 23
+
+-- 14, 21, 22, 23: the first step at fault, with the greatest room in use of the steps before it
+abbrev pub StepBad : Condition RunCall
+StepBad call a =
+    (s number : ℕ) × ((1 ≤ s) × (s ≤ call .n)) × BadStep call s number × ((k m : ℕ) → 1 ≤ k → k < s → ¬ BadStep call k m) × (a ≡ answer number s (stateAfter call (s - 1) .greatest))
+
+-- 24
+abbrev pub UpdatesLeft : Condition RunCall
+UpdatesLeft call a = (0 < length (stateAfter call (call .n) .held)) × (a ≡ answer 24 (call .n) (stateAfter call (call .n) .greatest))
+
+abbrev pub runColumns : RunCall → Columns
+runColumns call = record { n = call .n; starts = call .starts; rows = call .rows }
+
+abbrev pub runConditions : List (Condition RunCall)
+runConditions = (λ call. ColumnsOver (call .n)) ∷ (λ call. StartsBad (runColumns call)) ∷ (λ call. BadRow (runColumns call)) ∷ RunShort ∷ StepBad ∷ UpdatesLeft ∷ []
+
+-- ---- 25 to 27: the job text, and the solver's call
+
+-- a line 1 of n and limit, or of n, limit and mark
+pub data HeadLine : List ℕ → Type 0 where
+  two : {n limit : ℕ} → HeadLine (n ∷ limit ∷ [])
+  three : {n limit mark : ℕ} → HeadLine (n ∷ limit ∷ mark ∷ [])
+
+-- a row count and that many rows
+pub data RowLine : List ℕ → Type 0 where
+  rows : {l : List ℕ} → RowLine (length l ∷ l)
+
+-- 26 at 0
+abbrev pub InputOver : Condition Input
+InputOver input a = ((input .more ≡ true) ⊎ (textBytes < length (input .text))) × (a ≡ answer 26 0 0)
+
+-- line 1: 25, then 26
+pub data BadHead (input : Input) : Answer → Type 0 where
+  bad-head : ¬ HeadLine (numbersAt (input .text) 1) → BadHead input (answer 25 1 0)
+  columns-over : HeadLine (numbersAt (input .text) 1) → textColumns < textHead (input .text) .n → BadHead input (answer 26 1 0)
+
+-- the line of column j: 25, then 26 for the rows of the lines so far
+pub data BadLine (text : List ℕ) (j : ℕ) : ℕ → Type 0 where
+  bad-line : ¬ RowLine (numbersAt text (suc j)) → BadLine text j 25
+  rows-over : RowLine (numbersAt text (suc j)) → textRows < length (flat (textLists text j)) → BadLine text j 26
+
+abbrev pub LineBad : Condition Input
+LineBad input a =
+    (j number : ℕ) × ((1 ≤ j) × (j ≤ textHead (input .text) .n)) × BadLine (input .text) j number × ((k m : ℕ) → 1 ≤ k → k < j → ¬ BadLine (input .text) k m) × (a ≡ answer number (suc j) 0)
+
+-- text after the last row line
+abbrev pub TextAfter : Condition Input
+TextAfter input a = (0 < length (afterLines (suc (textHead (input .text) .n)) (input .text))) × (a ≡ answer 25 (textHead (input .text) .n + 2) 0)
+
+abbrev pub textConditions : List (Condition Input)
+textConditions = InputOver ∷ BadHead ∷ LineBad ∷ TextAfter ∷ []
+
+-- 27
+abbrev pub Unreadable : Condition SolverCall
+Unreadable call a = (¬ Readable (call .key)) × (a ≡ answer 27 0 0)
+
+-- 26
+abbrev pub SizesOver : Condition SolverCall
+SizesOver call a = (r : Readable (call .key)) × ((textColumns < r .job .n) ⊎ (textRows < length (r .job .rows))) × (a ≡ answer 26 0 0)
+
+abbrev pub callConditions : List (Condition SolverCall)
+callConditions = Unreadable ∷ SizesOver ∷ []
