@@ -6,3 +6,4 @@ pub mod Keeps
 pub mod Counts
 pub mod UpTo
 pub mod Sorts
+pub mod Stores

@@ -1,1 +1,47 @@
 // Lent slices: cleared, copied into, and handed on in part.
+ghost use mathlib.Core.Path.{_≡_};
+ghost use lib.ListN.{take};
+ghost use Rattle.papers.specs.Lists.{zeros};
+
+// Sets every byte of a lent slice to zero. The bytes before i are zero, the others as they were.
+pub fn clear8(bytes: &mut [u8])
+    ensures { λ _. ⌜ now (bytes .exit) ≡ zeros (now (bytes .entry)) ⌝ }
+{
+    let mut i = 0;
+    while i < bytes.len() {
+        bytes[i] = 0;
+        i += 1;
+    }
+}
+
+// The same for a slice of rows or columns.
+pub fn clear32(rows: &mut [u32])
+    ensures { λ _. ⌜ now (rows .exit) ≡ zeros (now (rows .entry)) ⌝ }
+{
+    let mut i = 0;
+    while i < rows.len() {
+        rows[i] = 0;
+        i += 1;
+    }
+}
+
+// The same for a slice of starts or of work.
+pub fn clear64(numbers: &mut [u64])
+    ensures { λ _. ⌜ now (numbers .exit) ≡ zeros (now (numbers .entry)) ⌝ }
+{
+    let mut i = 0;
+    while i < numbers.len() {
+        numbers[i] = 0;
+        i += 1;
+    }
+}
+
+// The first count bytes of a slice: how a written key or plan is handed on. A count past the end gives the whole slice.
+pub fn part(bytes: &[u8], count: usize) -> &[u8]
+    ensures { λ r. ⌜ now r ≡ take count (now (bytes .entry)) ⌝ }
+{
+    if count < bytes.len() {
+        return &bytes[..count];
+    }
+    bytes
+}

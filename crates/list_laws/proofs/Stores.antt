@@ -1,0 +1,63 @@
+-- Runs of stores into a lent slice: one run behind another, a run at the front of zeros, and lists laid one behind the other.
+-- A run of stores is what it replaces (sets-eq), so each law is one about take, drop and ++.
+-- Assumes nothing.
+use Prim.Native.Nat.{ℕ, zero, suc, _+_, _-_, _≤_}
+use mathlib.Core.Path.{_≡_, refl, sym}
+use mathlib.Core.List.{List, [], _∷_, _++_, append-assoc}
+use native.Mathlib.Omega.{arith}
+use lib.ListN.{length, set, take, drop, replicate, length-append, length-replicate}
+use lib.Seq.{sets, sets-eq, take-at}
+use Rattle.papers.specs.Lists.{zeros, thenZeros, flat, startsFrom}
+
+-- one list stored behind another is both stored at once
+pub sets-append : (x l : List ℕ) (i : ℕ) (y : List ℕ) → sets l i (x ++ y) ≡ sets (sets l i x) (i + length x) y
+sets-append [] l i y = let e : i + 0 ≡ i = omega arith in rw e
+sets-append (v ∷ x) l i y = let e : i + suc (length x) ≡ suc i + length x = omega arith in rw e (sets-append x (set l i v) (suc i) y)
+
+-- one store more: m holds x from i on, and v is stored behind it
+pub sets-more : (x l : List ℕ) (i v at : ℕ) {m m′ : List ℕ} → m ≡ sets l i x → m′ ≡ set m at v → at ≡ i + length x → m′ ≡ sets l i (x ++ (v ∷ []))
+sets-more x l i v at e f g = rw (sets-append x l i (v ∷ []), ← g, ← e) f
+
+drop-replicate : (i n v : ℕ) → drop i (replicate n v) ≡ replicate (n - i) v
+drop-replicate zero n v = let e : n - 0 ≡ n = omega arith in rw e
+drop-replicate (suc i) zero v = let e : 0 - suc i ≡ 0 = omega arith in rw e
+drop-replicate (suc i) (suc n) v = let e : suc n - suc i ≡ n - i = omega arith in rw e (drop-replicate i n v)
+
+-- a result stored at the front of a cleared slice: the result, then zeros
+pub sets-zeros : (xs l : List ℕ) → length xs ≤ length l → sets (zeros l) 0 xs ≡ thenZeros xs l
+unfolding thenZeros
+sets-zeros xs l h =
+    let f : 0 + length xs ≤ length (zeros l) = rw length-replicate (omega arith) in
+    let z : 0 + length xs ≡ length xs = omega arith in
+    rw (sets-eq xs (zeros l) 0 f, z, drop-replicate (length xs) (length l) 0)
+
+-- a lent slice keeps its length
+pub length-then-zeros : (xs l : List ℕ) → length xs ≤ length l → length (thenZeros xs l) ≡ length l
+unfolding thenZeros
+length-then-zeros xs l h = rw (length-append xs (replicate (length l - length xs) 0), length-replicate) (omega arith)
+
+-- the part that holds the result
+pub take-then-zeros : (xs l : List ℕ) → take (length xs) (thenZeros xs l) ≡ xs
+unfolding thenZeros
+take-then-zeros xs l = take-at xs (replicate (length l - length xs) 0) (length xs) refl
+
+-- ---- lists laid one behind the other
+
+pub flat-append : (a b : List (List ℕ)) → flat (a ++ b) ≡ flat a ++ flat b
+unfolding flat
+flat-append [] b = refl
+flat-append (l ∷ a) b = rw (flat-append a b) (sym (append-assoc l (flat a) (flat b)))
+
+-- one list more begins where the last one ended
+pub starts-more : (t : ℕ) (a : List (List ℕ)) (l : List ℕ) → startsFrom t (a ++ (l ∷ [])) ≡ startsFrom t a ++ ((t + length (flat a) + length l) ∷ [])
+unfolding startsFrom flat
+starts-more t [] l = let e : t + 0 + length l ≡ t + length l = omega arith in rw e
+starts-more t (k ∷ a) l =
+    let e : t + length (k ++ flat a) + length l ≡ t + length k + length (flat a) + length l = omega (arith, length-append k (flat a)) in
+    rw (e, starts-more (t + length k) a l)
+
+-- a start for each list, and the end
+pub length-starts : (t : ℕ) (a : List (List ℕ)) → length (startsFrom t a) ≡ length a + 1
+unfolding startsFrom
+length-starts t [] = refl
+length-starts t (k ∷ a) = let i = length-starts (t + length k) a in omega arith

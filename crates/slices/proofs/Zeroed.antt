@@ -1,0 +1,31 @@
+-- A list that is zeroed from the front: the invariant of each clearing loop, at every width. Where all places are passed, all is zero.
+-- Assumes nothing.
+use Prim.Native.Nat.{ℕ, _+_, _<_, _≤_}
+use mathlib.Core.Path.{_≡_, refl, ap, _∙_}
+use mathlib.Core.List.{List, _++_, append-nil}
+use native.Mathlib.Omega.{arith}
+use lib.ListN.{length, set, drop, replicate, length-set, drop-of-length-le}
+use borrow.Author.Fill.{fill-more}
+use Rattle.papers.specs.Lists.{zeros}
+
+-- of s₀, the first i places are zero in s
+pub record Zeroed (s₀ s : List ℕ) (i : ℕ) : Type 0 where
+  pub front : s ≡ replicate i 0 ++ drop i s₀
+  pub passed : i ≤ length s₀
+  pub long : length s ≡ length s₀
+
+pub start : (s : List ℕ) → Zeroed s s 0
+start s = record { front = refl; passed = omega arith; long = refl }
+
+pub turn : {s₀ s : List ℕ} {i : ℕ} → Zeroed s₀ s i → i < length s → Zeroed s₀ (set s i 0) (i + 1)
+turn {s₀} {s} {i} z h =
+    let l = z .long in
+    record { front = ap (λ (d : List ℕ). set d i 0) (z .front) ∙ fill-more i 0 s₀ (omega arith); passed = omega arith; long = length-set s i 0 ∙ l }
+
+pub stop : {s₀ s : List ℕ} {i : ℕ} → Zeroed s₀ s i → length s ≤ i → s ≡ zeros s₀
+stop {s₀} {s} {i} z h =
+    let l = z .long in
+    let p = z .passed in
+    let e : i ≡ length s₀ = omega arith in
+    let q : length s₀ ≤ i = omega arith in
+    z .front ∙ rw (drop-of-length-le s₀ q, append-nil, e)

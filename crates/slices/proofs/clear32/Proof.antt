@@ -1,0 +1,53 @@
+-- The loop's invariant: the places before i are zero. The measure is how many are left.
+-- Assumes nothing.
+use Prim.Native.Nat.{_-_}
+use lib.ListN.{length}
+use borrow.Author.Needs.{needs}
+use Rattle.slices.proofs.Zeroed.{Zeroed, start, turn, stop}
+use Rattle.slices.proofs.clear32.Statement.{statement}
+use Rattle.slices.proofs.clear32.Tie as tie
+
+abbrev Inv-loop : tie.InvT-loop
+Inv-loop rows₀ i₀ rows i = Zeroed rows₀ rows i
+
+abbrev μ-loop : tie.MeasureT-loop
+μ-loop rows₀ i₀ rows i = length rows₀ - i
+
+loop-holds : tie.Need-loop-holds Inv-loop μ-loop
+loop-holds c = start _
+
+mul-rows : tie.Need-mul-rows Inv-loop μ-loop
+mul-rows c = search needs
+
+slice-write-rows : tie.Need-slice-write-rows Inv-loop μ-loop
+slice-write-rows c = search needs
+
+add-i : tie.Need-add-i Inv-loop μ-loop
+add-i c = search needs
+
+loop-less : tie.Need-loop-less Inv-loop μ-loop
+loop-less c = search needs
+
+loop-again : tie.Need-loop-again Inv-loop μ-loop
+loop-again c = turn (c .before .loop .inv) (c .loop-test .taken)
+
+same-length : tie.Need-same-length Inv-loop μ-loop
+same-length c = search needs
+
+returns : tie.Need-returns Inv-loop μ-loop
+returns c = stop (c .before .loop .inv) (c .loop-test .left)
+
+pub clear32-spec : {M : Type 1} → statement M
+clear32-spec =
+    tie.close
+    (tie.spec
+    Inv-loop
+    μ-loop
+    loop-holds
+    mul-rows
+    slice-write-rows
+    add-i
+    loop-less
+    loop-again
+    same-length
+    returns)
