@@ -1,6 +1,6 @@
 -- The greatest number of a list is one of them and none is greater; sums and greatest numbers of lists joined or raised.
 -- Assumes nothing.
-use Prim.Native.Nat.{ℕ, suc, _+_, _*_, _<_, _≤_, max}
+use Prim.Native.Nat.{ℕ, _+_, _*_, _<_, _≤_, max}
 use mathlib.Core.Path.{_≡_, refl}
 use mathlib.Core.Logic.{_⊎_, inl, inr}
 use mathlib.Core.List.{List, [], _∷_, _++_, map, List·Memᴰ·head, List·Memᴰ·tail, List·Memᴰ·not-nil, List·Memᴰ·cases-cons, Memᴰ·cast}

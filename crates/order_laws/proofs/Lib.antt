@@ -12,3 +12,13 @@ pub mod Orders
 pub mod Patterns
 pub mod Greatest
 pub mod Peaks
+pub mod RoomBounds
+pub mod Frames
+pub mod Alone
+pub mod Needs
+pub mod Siblings
+pub mod Works
+pub mod TogetherTest
+pub mod Waiting
+pub mod Takes
+pub mod Entries

@@ -3,7 +3,7 @@
 use Prim.Native.Nat.{ℕ, suc, _+_, _-_, _<_, _≤_}
 use mathlib.Core.Path.{_≡_, refl, sym, ap, _∙_}
 use mathlib.Core.Logic.{_⊎_, inl, inr, _↔_, _≢_}
-use mathlib.Core.List.{List, [], _∷_, _++_, append-assoc, append-nil, reverse, reverseAux, reverse-append, reverse-reverse, List·Memᴰ·head, List·Memᴰ·tail, List·Memᴰ·not-nil, List·Memᴰ·cases-cons, List·Memᴰ·append-cases, Memᴰ·append-left, Memᴰ·append-right, Memᴰ·cast, List·Memᴰ·eq-of-singleton}
+use mathlib.Core.List.{List, [], _∷_, _++_, reverse, reverseAux, reverse-append, reverse-reverse, List·Memᴰ·head, List·Memᴰ·tail, List·Memᴰ·not-nil, List·Memᴰ·cases-cons, List·Memᴰ·append-cases, Memᴰ·append-left, Memᴰ·append-right, Memᴰ·cast, List·Memᴰ·eq-of-singleton}
 use native.Mathlib.Omega.{arith}
 use native.Mathlib.Numerals.{add-one}
 use lib.Dec.{eqb}
@@ -19,7 +19,7 @@ use Rattle.order_laws.specs.Parents.{Tree}
 use Rattle.order_laws.specs.Done.{Ready, Valid}
 use Rattle.order_laws.proofs.Trees.{under-range}
 use Rattle.order_laws.proofs.Reversed.{reversed-mem}
-use Rattle.order_laws.proofs.Steps.{column-at, column-in}
+use Rattle.order_laws.proofs.Steps.{column-at}
 use Rattle.order_laws.proofs.Pieces.{Piece, together-piece, piece-together}
 
 -- ---- one step: the order is pre, then j, then rest
@@ -84,7 +84,7 @@ module _ (par : ℕ → ℕ) (pre : List ℕ) (j : ℕ) (rest : List ℕ) where
 -- ---- all steps
 module _ (par : ℕ → ℕ) where
   -- no column is done twice
-  valid-distinct : (js done : List ℕ) → Valid par done js → Distinct js × ((x : ℕ) → x ∈ js → ¬ (x ∈ done))
+  pub valid-distinct : (js done : List ℕ) → Valid par done js → Distinct js × ((x : ℕ) → x ∈ js → ¬ (x ∈ done))
   valid-distinct [] done v = (tt, λ x m k. List·Memᴰ·not-nil m)
   valid-distinct (j ∷ js) done v = go (valid-distinct js (j ∷ done) (v .1))
     where
@@ -98,11 +98,6 @@ module _ (par : ℕ → ℕ) where
   valid-at : (pre : List ℕ) (j : ℕ) (rest done : List ℕ) → Valid par done (pre ++ (j ∷ rest)) → Ready par (reverseAux pre done) j
   valid-at [] j rest done v = v .0
   valid-at (x ∷ pre) j rest done v = valid-at pre j rest (x ∷ done) (v .1)
-
-  valid-from : (order : List ℕ) → ((pre : List ℕ) (j : ℕ) (rest : List ℕ) → pre ++ (j ∷ rest) ≡ order → Ready par (reverse pre) j)
-      → (js pre : List ℕ) → pre ++ js ≡ order → Valid par (reverse pre) js
-  valid-from order h [] pre e = tt
-  valid-from order h (j ∷ js) pre e = (h pre j js e, rw (reverse-append pre (j ∷ [])) at (valid-from order h js (pre ++ (j ∷ [])) (append-assoc pre (j ∷ []) js ∙ e)))
 
 module _ {par : ℕ → ℕ} {n : ℕ} (tree : Tree par n) (order : List ℕ) where
   -- steps that each find their column's subtree right before them make an order
@@ -122,11 +117,11 @@ module _ {par : ℕ → ℕ} {n : ℕ} (tree : Tree par n) (order : List ℕ) wh
           at pre j rest e q = piece-together par order s l u once (rw (e, q) at (ready-piece par pre j rest (valid-at par pre j rest [] (rw (← e) at v))))
 
   -- and in an order each step finds it there
-  pub ordered-valid : Ordered par n order → Valid par [] order
-  ordered-valid o = valid-from par order (λ pre j rest e. ready pre j rest e) order [] refl
+  pub ordered-ready : Ordered par n order → (s : ℕ) → s < length order → Ready par (reverse (take s order)) (columnAt order (suc s))
+  ordered-ready o s h = rw (column-at order s) (at (take s order) (getD order s 0) (drop (suc s) order) (sym (split-at order s 0 h)))
     where
-      ready : (pre : List ℕ) (j : ℕ) (rest : List ℕ) → pre ++ (j ∷ rest) ≡ order → Ready par (reverse pre) j
-      ready pre j rest e =
+      at : (pre : List ℕ) (j : ℕ) (rest : List ℕ) → pre ++ (j ∷ rest) ≡ order → Ready par (reverse pre) j
+      at pre j rest e =
           let v : Ordered par n (pre ++ (j ∷ rest)) = rw (← e) at o in
           let size : suc (length pre) ≤ length (pre ++ (j ∷ rest)) = omega (arith, length-append pre (j ∷ rest)) in
           let (l, u) = v .each j .0 (Memᴰ·append-right pre (List·Memᴰ·head refl)) in

@@ -1,10 +1,11 @@
--- A list reversed onto another has the elements of both.
+-- A list reversed has the same elements, each as often.
 -- Assumes nothing.
 use Prim.Native.Nat.{ℕ}
-use mathlib.Core.Path.{_≡_}
+use mathlib.Core.Path.{_≡_, sym}
 use mathlib.Core.Logic.{_⊎_, inl, inr, _↔_}
-use mathlib.Core.List.{List, [], _∷_, reverse, reverseAux, List·Memᴰ·head, List·Memᴰ·tail, List·Memᴰ·not-nil, List·Memᴰ·cases-cons}
-use Rattle.papers.specs.Lists.{_∈_}
+use mathlib.Core.List.{List, [], _∷_, reverse, reverseAux, reverse-cons, List·Memᴰ·head, List·Memᴰ·tail, List·Memᴰ·not-nil, List·Memᴰ·cases-cons, List·Memᴰ·eq-of-singleton, Memᴰ·cast}
+use Rattle.papers.specs.Lists.{_∈_, Distinct}
+use Rattle.list_laws.proofs.Counts.{distinct-join}
 
 pub reverse-from : (l r : List ℕ) {x : ℕ} → x ∈ reverseAux l r → (x ∈ l) ⊎ (x ∈ r)
 reverse-from [] r m = inr m
@@ -37,3 +38,9 @@ reversed-mem l {x} = (λ m. only (reverse-from l [] m), λ m. reverse-left l [] 
     only : (x ∈ l) ⊎ (x ∈ []) → x ∈ l
     only (inl m) = m
     only (inr m) = absurd (List·Memᴰ·not-nil m)
+
+pub reverse-distinct : (l : List ℕ) → Distinct l → Distinct (reverse l)
+reverse-distinct [] d = tt
+reverse-distinct (x ∷ l) d =
+    rw (reverse-cons x l)
+    (distinct-join (reverse l) (x ∷ []) (reverse-distinct l (d .1)) (λ m. List·Memᴰ·not-nil m, tt) (λ i m k. d .0 (Memᴰ·cast (sym (List·Memᴰ·eq-of-singleton k)) (reversed-mem l .0 m))))

@@ -23,6 +23,10 @@ unfolding roomAt topUpdate head0 sum
 room-over zero r top rest h = absurd (omega arith)
 room-over (suc p) r top rest h = omega arith
 
+pub room-at-most : (pops r : ℕ) (held : List ℕ) → roomAt pops r held ≤ sum held + t (suc r)
+unfolding roomAt
+room-at-most pops r held = omega arith
+
 -- a root leaves nothing
 pub held-root : (pops : ℕ) (held : List ℕ) → heldAfter pops 0 held ≡ drop pops held
 unfolding heldAfter

@@ -1,3 +1,5 @@
 pub mod Held
 pub mod Parents
 pub mod Done
+pub mod Subtrees
+pub mod Stack

@@ -1,0 +1,103 @@
+-- The test of refusal 18 finds whether a subtree's steps are consecutive, its top last: as many different columns of the subtree as it has are
+-- all of it.
+-- Assumes nothing.
+use Prim.Native.Nat.{ℕ, _-_, _<_, _≤_}
+use mathlib.Core.Path.{_≡_, refl}
+use mathlib.Core.Logic.{_⊎_, inl, inr, _↔_}
+use mathlib.Core.Bool.{Bool, true, false, _&&_}
+use mathlib.Core.List.{List, [], _∷_, List·Memᴰ·head, List·Memᴰ·tail, List·Memᴰ·not-nil, List·Memᴰ·cases-cons, Memᴰ·cast}
+use native.Mathlib.Omega.{arith}
+use lib.Dec.{leb}
+use lib.ListN.{length}
+use lib.Seq.{slice, length-slice}
+use borrow.Author.Tests.{leb-true, le-leb}
+use Rattle.papers.specs.Lists.{_∈_, Distinct, member, every}
+use Rattle.papers.specs.Tree.{Under, top, isUnder, subtreeOf}
+use Rattle.papers.specs.Order.{columnAt, Together}
+use Rattle.papers.specs.Check.{scattered}
+use Rattle.list_laws.proofs.Tests.{Test, passes, fails, test, true-false, not-false, and-both}
+use Rattle.list_laws.proofs.Members.{member-true, member-into}
+use Rattle.list_laws.proofs.Counts.{distinct-length, same-length}
+use Rattle.order_laws.specs.Parents.{Tree}
+use Rattle.order_laws.proofs.Trees.{under-range}
+use Rattle.order_laws.proofs.Subtrees.{under-test, subtree-is, subtree-distinct}
+use Rattle.order_laws.proofs.Steps.{column-in, slice-distinct}
+use Rattle.order_laws.proofs.Pieces.{Piece, together-piece, piece-together}
+
+pub every-all : (f : ℕ → Bool) (l : List ℕ) → (every f l ≡ true) ↔ ((x : ℕ) → x ∈ l → f x ≡ true)
+unfolding every
+every-all f [] = (λ e x m. absurd (List·Memᴰ·not-nil m), λ h. refl)
+every-all f (y ∷ l) = go (test (f y)) (every-all f l)
+  where
+    go : Test (f y) → (every f l ≡ true) ↔ ((x : ℕ) → x ∈ l → f x ≡ true) → (every f (y ∷ l) ≡ true) ↔ ((x : ℕ) → x ∈ (y ∷ l) → f x ≡ true)
+    go (passes e) ih = (λ q x m. at q x (List·Memᴰ·cases-cons m), λ h. rw (e, every) (ih .1 (λ x m. h x (List·Memᴰ·tail m))))
+      where
+        at : every f (y ∷ l) ≡ true → (x : ℕ) → (x ≡ y) ⊎ (x ∈ l) → f x ≡ true
+        at q x (inl p) = rw p e
+        at q x (inr m) = ih .0 (rw (e, every) at q) x m
+    go (fails e) ih = (λ q. absurd (true-false (rw (e, every) at q) refl), λ h. absurd (true-false (h y (List·Memᴰ·head refl)) e))
+
+-- as many different numbers of a list as it has are all of it
+all-there : (xs ys : List ℕ) → Distinct xs → ((i : ℕ) → i ∈ xs → i ∈ ys) → length ys ≤ length xs → (y : ℕ) → y ∈ ys → y ∈ xs
+all-there xs ys d h l y m = go (test (member y xs))
+  where
+    go : Test (member y xs) → y ∈ xs
+    go (passes e) = member-true y xs e
+    go (fails e) = absurd (omega (arith, distinct-length (y ∷ xs) ys (λ k. true-false (member-into y xs k) e, d) (λ i k. more i (List·Memᴰ·cases-cons k))))
+      where
+        more : (i : ℕ) → (i ≡ y) ⊎ (i ∈ xs) → i ∈ ys
+        more i (inl q) = Memᴰ·cast q m
+        more i (inr k) = h i k
+
+module _ {par : ℕ → ℕ} {n : ℕ} (tree : Tree par n) (order : List ℕ) (each : (j : ℕ) → (j ∈ order) ↔ ((1 ≤ j) × (j ≤ n))) (once : Distinct order)
+    (s : ℕ) (l : 1 ≤ s) (u : s ≤ length order) where
+  j : ℕ
+  j = columnAt order s
+
+  w : ℕ
+  w = length (subtreeOf par n j)
+
+  range : (1 ≤ j) × (j ≤ n)
+  unfolding j
+  range = each (columnAt order s) .0 (column-in order s l u)
+
+  in-subtree : (x : ℕ) → (x ∈ subtreeOf par n j) ↔ Under par j x
+  in-subtree x = subtree-is tree j x (range .0) (range .1)
+
+  test-piece : w ≤ s → every (isUnder par n j) (slice (s - w) s order) ≡ true → Piece par order s
+  unfolding j w
+  test-piece fits e = record { from = s - w; earlier = omega (arith, some); all = λ x. (inside x, λ v. all x (in-subtree x .1 v)) }
+    where
+      inside : (x : ℕ) → x ∈ slice (s - w) s order → Under par j x
+      inside x m = under-test tree j x .0 (every-all (isUnder par n j) (slice (s - w) s order) .0 e x m)
+
+      all : (x : ℕ) → x ∈ subtreeOf par n j → x ∈ slice (s - w) s order
+      all = all-there (slice (s - w) s order) (subtreeOf par n j) (slice-distinct order (s - w) s once) (λ i m. in-subtree i .1 (inside i m)) (omega (arith, fits, length-slice (s - w) s order u))
+
+      some : 0 < w
+      some = nonempty (subtreeOf par n j) (in-subtree j .1 top)
+        where
+          nonempty : (xs : List ℕ) → j ∈ xs → 0 < length xs
+          nonempty [] m = absurd (List·Memᴰ·not-nil m)
+          nonempty (x ∷ xs) m = omega arith
+
+  piece-test : Piece par order s → (w ≤ s) × (every (isUnder par n j) (slice (s - w) s order) ≡ true)
+  unfolding j w
+  piece-test p =
+      let part = slice (p .from) s order in
+      let count = same-length part (subtreeOf par n j) (slice-distinct order (p .from) s once) (subtree-distinct par n j) (λ i m. in-subtree i .1 (p .all i .0 m)) (λ i m. p .all i .1 (in-subtree i .0 m)) in
+      let long = length-slice (p .from) s order u in
+      let here : s - w ≡ p .from = omega (arith, count, long, p .earlier) in
+      (omega (arith, count, long), rw here (every-all (isUnder par n j) part .1 (λ x m. under-test tree j x .1 (p .all x .0 m))))
+
+  -- the steps of the subtree whose top is done at step s: the test and the rule agree
+  pub together-test : ((leb (length (subtreeOf par n (columnAt order s))) s && every (isUnder par n (columnAt order s)) (slice (s - length (subtreeOf par n (columnAt order s))) s order)) ≡ true) ↔ Together par order s
+  unfolding j w
+  together-test = (
+    λ e. let (a, b) = and-both (leb w s) (every (isUnder par n j) (slice (s - w) s order)) e in piece-together par order s l u once (test-piece (leb-true w s a) b),
+    λ t. let (a, b) = piece-test (together-piece par order s l u (λ x v. each x .1 (under-range tree j x (range .0) (range .1) v)) t) in rw (le-leb w s a) b,
+  )
+
+  pub scattered-test : (scattered par n order s ≡ false) ↔ Together par order s
+  unfolding scattered
+  scattered-test = (λ e. together-test .0 (not-false _ e), λ t. rw (together-test .1 t))

@@ -1,0 +1,145 @@
+-- One step of an order: the columns that wait for j are its children, and lie on top, since its subtree stands right before it; after the step
+-- they wait no more, and j does, unless it is a root.
+-- Assumes nothing.
+use Prim.Native.Nat.{ℕ, zero, suc, _<_, _≤_}
+use mathlib.Core.Path.{_≡_, refl, sym, ap, _∙_}
+use mathlib.Core.Logic.{_⊎_, inl, inr, _↔_, _≢_}
+use mathlib.Core.Bool.{Bool, true, false}
+use mathlib.Core.List.{List, [], _∷_, _++_, List·Memᴰ·head, List·Memᴰ·tail, List·Memᴰ·cases-cons, Memᴰ·append-left, Memᴰ·cast}
+use native.Mathlib.Omega.{arith}
+use lib.Dec.{eqb}
+use lib.ListN.{length, take, drop, length-append}
+use lib.Seq.{drop-at, take-at}
+use borrow.Author.Tests.{eqb-true, eqb-false, eq-eqb, ne-eqb}
+use Rattle.papers.specs.Lists.{_∈_, Distinct, member, keep}
+use Rattle.papers.specs.Tree.{children, Under}
+use Rattle.list_laws.proofs.Tests.{Test, passes, fails, test, true-false, not-true}
+use Rattle.list_laws.proofs.Members.{member-into, member-out}
+use Rattle.list_laws.proofs.Keeps.{keep-yes, keep-no, keep-append, keep-none, keep-from, keep-into, keep-distinct, keep-same}
+use Rattle.list_laws.proofs.Counts.{same-length, distinct-append}
+use Rattle.order_laws.specs.Parents.{Tree}
+use Rattle.order_laws.specs.Done.{Ready}
+use Rattle.order_laws.specs.Stack.{missing, waiting, pushedOn}
+use Rattle.order_laws.proofs.Trees.{under-cases, under-child}
+use Rattle.order_laws.proofs.Subtrees.{children-of, children-distinct}
+
+missing-done : (done : List ℕ) (p : ℕ) → p ∈ done → missing done p ≡ false
+unfolding missing
+missing-done done zero m = refl
+missing-done done (suc p) m = rw (member-into (suc p) done m)
+
+missing-yes : (done : List ℕ) (p : ℕ) → 0 < p → ¬ (p ∈ done) → missing done p ≡ true
+unfolding missing
+missing-yes done zero h m = absurd (omega arith)
+missing-yes done (suc p) h m = rw (member-out (suc p) done m)
+
+missing-from : (done : List ℕ) (p : ℕ) → missing done p ≡ true → (0 < p) × (¬ (p ∈ done))
+unfolding missing
+missing-from done zero e = absurd (true-false e refl)
+missing-from done (suc p) e = (omega arith, λ m. true-false (member-into (suc p) done m) (not-true (member (suc p) done) e))
+
+missing-more : (done : List ℕ) (p j : ℕ) → p ≢ j → missing (j ∷ done) p ≡ missing done p
+unfolding missing member
+missing-more done zero j h = refl
+missing-more done (suc p) j h = rw (ne-eqb (suc p) j h, member)
+
+pub waiting-none : (par : ℕ → ℕ) → waiting par [] ≡ []
+unfolding waiting keep
+waiting-none par = refl
+
+-- what waits: the columns done that have a parent, and it is not done
+pub waiting-are : (par : ℕ → ℕ) (done : List ℕ) (x : ℕ) → (x ∈ waiting par done) ↔ ((x ∈ done) × (0 < par x) × (¬ (par x ∈ done)))
+unfolding waiting
+waiting-are par done x = (
+  λ m. let (a, b) = keep-from (λ y. missing done (par y)) done m in let (c, d) = missing-from done (par x) b in (a, c, d),
+  λ (a, c, d). keep-into (λ y. missing done (par y)) done a (missing-yes done (par x) c d),
+)
+
+module _ {par : ℕ → ℕ} {n : ℕ} (tree : Tree par n) (done : List ℕ) (j : ℕ) (pos : 0 < j) (ready : Ready par done j) (distinct : Distinct done) (later : ¬ (par j ∈ done)) where
+  open Ready ready using (inside, before, split, all, new)
+
+  waits : List ℕ → ℕ → Bool
+  waits l x = missing l (par x)
+
+  isChild : ℕ → Bool
+  isChild x = eqb (par x) j
+
+  -- the parent of a proper descendant is j, or another
+  inner : (x : ℕ) → x ∈ inside → (0 < par x) × Under par j (par x)
+  inner x m = go (under-cases par j x (all x .0 m .0))
+    where
+      go : (x ≡ j) ⊎ ((0 < par x) × Under par j (par x)) → (0 < par x) × Under par j (par x)
+      go (inl e) = absurd (all x .0 m .1 e)
+      go (inr s) = s
+
+  inner-done : (x : ℕ) → x ∈ inside → par x ≢ j → par x ∈ done
+  inner-done x m h = rw split (Memᴰ·append-left before (all (par x) .1 (inner x m .1, h)))
+
+  inside-before : (x : ℕ) → x ∈ inside → waits done x ≡ isChild x
+  unfolding waits isChild
+  inside-before x m = go (test (eqb (par x) j))
+    where
+      go : Test (eqb (par x) j) → missing done (par x) ≡ eqb (par x) j
+      go (passes e) = missing-yes done (par x) (inner x m .0) (λ k. new (Memᴰ·cast (sym (eqb-true (par x) j e)) k)) ∙ sym e
+      go (fails e) = missing-done done (par x) (inner-done x m (eqb-false (par x) j e)) ∙ sym e
+
+  inside-after : (x : ℕ) → x ∈ inside → waits (j ∷ done) x ≡ false
+  unfolding waits
+  inside-after x m = missing-done (j ∷ done) (par x) (go (test (eqb (par x) j)))
+    where
+      go : Test (eqb (par x) j) → par x ∈ (j ∷ done)
+      go (passes e) = List·Memᴰ·head (eqb-true (par x) j e)
+      go (fails e) = List·Memᴰ·tail (inner-done x m (eqb-false (par x) j e))
+
+  parts : Distinct inside × Distinct before × ((i : ℕ) → i ∈ inside → i ∈ before → ⊥)
+  parts = distinct-append inside before (rw split at distinct)
+
+  child-inside : (x : ℕ) → par x ≡ j → x ∈ inside
+  child-inside x e = all x .1 (under-child par j x pos e, λ q. absurd (omega (arith, tree .above x (omega arith))))
+
+  before-after : (x : ℕ) → x ∈ before → waits (j ∷ done) x ≡ waits done x
+  unfolding waits
+  before-after x m = missing-more done (par x) j (λ e. parts .2 x (child-inside x e) m)
+
+  -- what waited: the children of j, and what waits still
+  waited : waiting par done ≡ keep isChild inside ++ keep (waits done) before
+  unfolding waiting waits
+  waited = ap (keep (waits done)) split ∙ (keep-append (waits done) inside before ∙ ap (λ l. l ++ keep (waits done) before) (keep-same (waits done) isChild inside inside-before))
+
+  still : keep (waits (j ∷ done)) done ≡ keep (waits done) before
+  still =
+      ap (keep (waits (j ∷ done))) split
+      ∙ (keep-append (waits (j ∷ done)) inside before
+      ∙ (ap (λ l. l ++ keep (waits (j ∷ done)) before) (keep-none (waits (j ∷ done)) inside inside-after) ∙ keep-same (waits (j ∷ done)) (waits done) before before-after))
+
+  waits-then : waiting par (j ∷ done) ≡ pushedOn par j (keep (waits done) before)
+  unfolding waiting waits pushedOn missing
+  waits-then = go (test (eqb (par j) 0))
+    where
+      go : Test (eqb (par j) 0) → keep (waits (j ∷ done)) (j ∷ done) ≡ pushedOn par j (keep (waits done) before)
+      go (passes e) = keep-no (waits (j ∷ done)) j done (rw (eqb-true (par j) 0 e, missing)) ∙ (still ∙ rw (e, pushedOn))
+      go (fails e) =
+          let z : par j ≢ 0 = eqb-false (par j) 0 e in
+          let h : 0 < par j = omega arith in
+          let out : (par j ≡ j) ⊎ (par j ∈ done) → ⊥ = λ c. elim c [ inl q ↦ omega (arith, tree .above j h) | inr m ↦ later m ] in
+          keep-yes (waits (j ∷ done)) j done (missing-yes (j ∷ done) (par j) h (λ m. out (List·Memᴰ·cases-cons m))) ∙ (ap (λ l. j ∷ l) still ∙ rw (e, pushedOn))
+
+  taken-are : (x : ℕ) → (x ∈ keep isChild inside) ↔ (par x ≡ j)
+  unfolding isChild
+  taken-are x = (λ m. eqb-true (par x) j (keep-from isChild inside m .1), λ e. keep-into isChild inside (child-inside x e) (eq-eqb (par x) j e))
+
+  taken-count : length (keep isChild inside) ≡ length (children par n j)
+  taken-count =
+      same-length (keep isChild inside) (children par n j) (keep-distinct isChild inside (parts .0)) (children-distinct par n j)
+      (λ i m. children-of tree j i pos .1 (taken-are i .0 m)) (λ i m. taken-are i .1 (children-of tree j i pos .0 m))
+
+  -- off go as many as j has children
+  pub waiting-next : waiting par (j ∷ done) ≡ pushedOn par j (drop (length (children par n j)) (waiting par done))
+  waiting-next = waits-then ∙ ap (pushedOn par j) (sym (ap (drop (length (children par n j))) waited ∙ drop-at (keep isChild inside) (keep (waits done) before) (length (children par n j)) taken-count))
+
+  -- and those are its children
+  pub waiting-taken : (x : ℕ) → (x ∈ take (length (children par n j)) (waiting par done)) ↔ (par x ≡ j)
+  waiting-taken x = rw (waited, take-at (keep isChild inside) (keep (waits done) before) (length (children par n j)) taken-count) (taken-are x)
+
+  pub waiting-enough : length (children par n j) ≤ length (waiting par done)
+  waiting-enough = rw waited (omega (arith, taken-count, length-append (keep isChild inside) (keep (waits done) before)))
