@@ -39,6 +39,10 @@ abbrev pub Shown : Bool → ℕ → Type 0
 Shown true b = Unit {0}
 Shown false b = 0 < b
 
+pub shown-some : (first : Bool) (b : ℕ) → 0 < b → Shown first b
+shown-some true b h = tt
+shown-some false b h = h
+
 pub last-shown : (first : Bool) (b at : ℕ) → Shown first b → lastGroup first b at ≡ Value b (at + 1)
 unfolding lastGroup
 last-shown true zero at h = refl
@@ -95,6 +99,7 @@ read-back s at x rest h e = groups-back true s at rest (grouped (maxGroups - 1) 
 pub value-inj : {x y m n : ℕ} → Value x m ≡ Value y n → (x ≡ y) × (m ≡ n)
 value-inj e = (cc, cc)
 
+-- whatever stands behind them
 pub bytes-inj-rest : (x y : ℕ) (u v : List ℕ) → x < 2 ^ (7 * maxGroups) → y < 2 ^ (7 * maxGroups) → bytesOf x ++ u ≡ bytesOf y ++ v → (x ≡ y) × (u ≡ v)
 bytes-inj-rest x y u v h k e =
     let s = bytesOf x ++ u in

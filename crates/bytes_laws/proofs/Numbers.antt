@@ -59,7 +59,7 @@ grouped-below {f} (last l) = let p : 2 ^ 7 ≤ 2 ^ (7 * suc f) = pow-mono {i = 7
 grouped-below (more {f = f} l g) = let i = grouped-below g in let e = seven-more f in omega arith
 
 -- every group is a byte
-pub groups-are-bytes : {f x : ℕ} → Grouped f x → Within 256 (groupsOf f x)
+groups-are-bytes : {f x : ℕ} → Grouped f x → Within 256 (groupsOf f x)
 groups-are-bytes {f} {x} (last l) = rw (groups-small f x l) (omega arith, tt)
 groups-are-bytes {x = x} (more {f = f} l g) = rw (groups-large f x l) (omega arith, groups-are-bytes g)
 
@@ -90,7 +90,7 @@ many-digits m x h l = go (below-or 7 m)
     go (inr w) = let p : 2 ^ m ≤ 2 ^ 7 = pow-mono w in omega arith
 
 -- a number of m binary digits
-pub groups-of-digits : {f x : ℕ} (m : ℕ) → Grouped f x → x < 2 ^ m → 2 ^ m ≤ 2 * x + 1 → length (groupsOf f x) ≡ max 1 ((m + 6) / 7)
+groups-of-digits : {f x : ℕ} (m : ℕ) → Grouped f x → x < 2 ^ m → 2 ^ m ≤ 2 * x + 1 → length (groupsOf f x) ≡ max 1 ((m + 6) / 7)
 groups-of-digits {f} {x} m (last l) h g = let s = few-digits m x g l in rw (groups-small f x l) (omega arith)
 groups-of-digits {x = x} m (more {f = f} l r) h g =
     let s = many-digits m x h l in
@@ -100,10 +100,12 @@ groups-of-digits {x = x} m (more {f = f} l r) h g =
 
 -- ---- with the paper's bound on groups
 
+-- a number is written in bytes
 pub bytes-are-bytes : (x : ℕ) → x < 2 ^ (7 * maxGroups) → Within 256 (bytesOf x)
 unfolding bytesOf
 bytes-are-bytes x h = groups-are-bytes (grouped (maxGroups - 1) x h)
 
+-- a number has a byte, and no more than the bound
 pub bytes-length : (x : ℕ) → (0 < length (bytesOf x)) × (length (bytesOf x) ≤ maxGroups)
 unfolding bytesOf
 bytes-length x = groups-length (maxGroups - 1) x
@@ -118,6 +120,7 @@ count-of-zeros x z h e =
 
 -- ---- numbers one after the other
 
+-- more numbers are written behind the first ones
 pub encode-append : (xs ys : List ℕ) → encode (xs ++ ys) ≡ encode xs ++ encode ys
 unfolding encode
 encode-append [] ys = refl

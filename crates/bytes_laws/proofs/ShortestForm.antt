@@ -16,11 +16,7 @@ use Rattle.papers.specs.Numbers.{groupsOf, bytesOf, over, lastGroup, readFrom, 
 use Rattle.papers.specs.declared.Number.{Number}
 use Rattle.papers.specs.declared.Number.the-variants.{Value, Ended, TooLong, NotShortest}
 use Rattle.bytes_laws.proofs.Numbers.{Grouped, last, more, grouped-below, groups-small, groups-large}
-use Rattle.bytes_laws.proofs.NumberReading.{read-end, read-long, read-last, read-more, Shown, value-inj}
-
-shown-some : (first : Bool) (b : ℕ) → 0 < b → Shown first b
-shown-some true b h = tt
-shown-some false b h = h
+use Rattle.bytes_laws.proofs.NumberReading.{read-end, read-long, read-last, read-more, Shown, shown-some, value-inj}
 
 abbrev NoValue : Number → Type 0
 NoValue (Value x next) = ⊥

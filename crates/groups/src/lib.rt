@@ -1,1 +1,102 @@
 // Numbers in groups of seven bits: their length, their bytes, and reading one.
+ghost use mathlib.Core.Path.{_≡_};
+ghost use Prim.Native.Nat.{_+_, _≤_, _<_};
+ghost use lib.ListN.{length, replicate};
+ghost use lib.Seq.{sets};
+ghost use Rattle.papers.specs.Bounds.{maxGroups};
+ghost use Rattle.papers.specs.Numbers.{bytesOf, readNumber};
+ghost use Rattle.groups.specs.Fits.{Fits};
+use papers::Number;
+
+// The bytes of a number in a little array: the first count of them, then zeros.
+pub struct Groups {
+    pub bytes: [u8; papers::MAX_GROUPS],
+    pub count: usize,
+}
+
+// How many groups of seven bits x has: its bits, which follow from its leading zeros, by sevens; 0 has one.
+pub fn length(x: u64) -> usize
+    requires { ⌜ Fits x ⌝ }
+    ensures { λ r. ⌜ r ≡ length (bytesOf x) ⌝ }
+{
+    let bits = 64 - u64::leading_zeros(x);
+    if bits == 0 {
+        return 1;
+    }
+    ((bits + 6) / 7) as usize
+}
+
+// The bytes of x. The groups before count are stored, and v is what is left of x.
+pub fn number(x: u64) -> Groups
+    requires { ⌜ Fits x ⌝ }
+    ensures { λ r. ⌜ (r .bytes ≡ sets (replicate maxGroups 0) 0 (bytesOf x)) × (r .count ≡ length (bytesOf x)) ⌝ }
+{
+    let mut bytes = [0u8; papers::MAX_GROUPS];
+    let mut v = x;
+    let mut count = 0;
+    while 128 <= v {
+        bytes[count] = (v % 128 + 128) as u8;
+        v = v / 128;
+        count += 1;
+    }
+    bytes[count] = v as u8;
+    Groups {
+        bytes,
+        count: count + 1,
+    }
+}
+
+// Writes the bytes of x into dst from `at` on, and answers the place behind them. The first i of the little array are written.
+pub fn put(dst: &mut [u8], at: usize, x: u64) -> usize
+    requires { ⌜ Fits x × (at + length (bytesOf x) ≤ length (now dst)) ⌝ }
+    ensures { λ r. ⌜ (r ≡ at + length (bytesOf x)) × (now (dst .exit) ≡ sets (now (dst .entry)) at (bytesOf x)) ⌝ }
+{
+    let groups = number(x);
+    let bytes = groups.bytes;
+    let count = groups.count;
+    let mut i = 0;
+    while i < count {
+        dst[at + i] = bytes[i];
+        i += 1;
+    }
+    at + count
+}
+
+// A byte as a 64-bit number, which stays below 256.
+fn wide(b: u8) -> u64
+    ensures { λ r. ⌜ (r ≡ b) × (r < 256) ⌝ }
+{
+    b as u64
+}
+
+// The number that starts at `at`. low is what the groups before i come to, w the weight of the next, k how many may still come.
+pub fn get(s: &[u8], at: usize) -> Number
+    ensures { λ r. ⌜ r ≡ readNumber (now (s .entry)) at ⌝ }
+{
+    let mut i = at;
+    let mut low: u64 = 0;
+    let mut w: u64 = 1;
+    let mut k = papers::MAX_GROUPS;
+    while i < s.len() {
+        if k == 0 {
+            return Number::TooLong;
+        }
+        let b = wide(s[i]);
+        if b < 128 {
+            if b == 0 {
+                if at < i {
+                    return Number::NotShortest;
+                }
+            }
+            return Number::Value {
+                value: low + w * b,
+                next: i + 1,
+            };
+        }
+        low = low + w * (b - 128);
+        w = w * 128;
+        k -= 1;
+        i += 1;
+    }
+    Number::Ended
+}

@@ -5,5 +5,7 @@ pub mod Members
 pub mod Keeps
 pub mod Counts
 pub mod UpTo
+pub mod Stores
 pub mod Sorts
 pub mod Stores
+pub mod Leasts

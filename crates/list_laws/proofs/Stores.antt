@@ -43,6 +43,7 @@ take-then-zeros xs l = take-at xs (replicate (length l - length xs) 0) (length x
 
 -- ---- lists laid one behind the other
 
+-- the numbers of more lists stand behind those of the first ones
 pub flat-append : (a b : List (List ℕ)) → flat (a ++ b) ≡ flat a ++ flat b
 unfolding flat
 flat-append [] b = refl

@@ -2,12 +2,11 @@
 -- Assumes nothing.
 use Prim.Native.Nat.{ℕ, zero, suc, _<_, _≤_}
 use mathlib.Core.Path.{_≡_, refl, ap}
-use mathlib.Core.Logic.{_↔_}
+use mathlib.Core.Logic.{_↔_, _≢_}
 use mathlib.Core.List.{List, [], _∷_, map}
 use native.Mathlib.Omega.{arith}
 use lib.ListN.{length, take, drop, getD, length-map}
 use lib.Seq.{take-suc}
-use borrow.Author.Tests.{eq-eqb, ne-eqb}
 use Rattle.papers.specs.Job.{Pattern, Below}
 use Rattle.papers.specs.Tree.{t, parent, rowCount}
 use Rattle.papers.specs.Room.{roomAt, heldAfter, rooms}
@@ -17,6 +16,7 @@ use Rattle.order_laws.specs.Stack.{pushedOn, heldColumns}
 use Rattle.order_laws.proofs.Rooms.{held-root, held-update, held-append}
 use Rattle.order_laws.proofs.Steps.{column-at}
 use Rattle.order_laws.proofs.Patterns.{tree-of, root-rows}
+use Rattle.order_laws.proofs.Waiting.{pushed-root, pushed-update}
 use Rattle.order_laws.proofs.Takes.{step-enough}
 
 drop-map : (f : ℕ → ℕ) (p : ℕ) (l : List ℕ) → drop p (map f l) ≡ map f (drop p l)
@@ -41,12 +41,15 @@ module _ (size pops : ℕ → ℕ) where
 
   module _ (par : ℕ → ℕ) (roots : (j : ℕ) → (size j ≡ 0) ↔ (par j ≡ 0)) where
     entries-after : (j p : ℕ) (held : List ℕ) → heldAfter p (size j) (map (λ c. t (size c)) held) ≡ map (λ c. t (size c)) (pushedOn par j (drop p held))
-    unfolding pushedOn
     entries-after j p held = go (size j) refl
       where
+        above : (q : ℕ) → par j ≡ q → size j ≢ 0 → 0 < q
+        above zero e h = absurd (h (roots j .1 e))
+        above (suc q) e h = omega arith
+
         go : (r : ℕ) → size j ≡ r → heldAfter p r (map (λ c. t (size c)) held) ≡ map (λ c. t (size c)) (pushedOn par j (drop p held))
-        go zero e = rw (held-root, eq-eqb (par j) 0 (roots j .0 e), pushedOn) (drop-map (λ c. t (size c)) p held)
-        go (suc r) e = rw (held-update p (suc r) _ (omega arith), ne-eqb (par j) 0 (λ q. absurd (omega (arith, roots j .1 q))), pushedOn, e) (ap (λ l. t (suc r) ∷ l) (drop-map (λ c. t (size c)) p held))
+        go zero e = rw (held-root, pushed-root par j (drop p held) (roots j .0 e)) (drop-map (λ c. t (size c)) p held)
+        go (suc r) e = rw (held-update p (suc r) _ (omega arith), pushed-update par j (drop p held) (above (par j) refl (λ z. absurd (omega arith))), e) (ap (λ l. t (suc r) ∷ l) (drop-map (λ c. t (size c)) p held))
 
     -- the entries held after s steps, by the columns held
     pub held-entries : (order : List ℕ) (s : ℕ) → s ≤ length order → heldAfterAll size pops [] (take s order) ≡ map (λ c. t (size c)) (heldColumns par pops order s)

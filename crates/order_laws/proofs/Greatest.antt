@@ -9,14 +9,6 @@ use lib.ListN.{length}
 use Rattle.papers.specs.Lists.{_∈_, sum, greatest}
 use Rattle.list_laws.proofs.Tests.{below-or}
 
-pub greatest-nil : greatest [] ≡ 0
-unfolding greatest
-greatest-nil = refl
-
-pub greatest-cons : (x : ℕ) (l : List ℕ) → greatest (x ∷ l) ≡ max x (greatest l)
-unfolding greatest
-greatest-cons x l = refl
-
 pub greatest-least : (l : List ℕ) (b : ℕ) → ((r : ℕ) → r ∈ l → r ≤ b) → greatest l ≤ b
 unfolding greatest
 greatest-least [] b h = omega arith

@@ -1,6 +1,6 @@
 -- The children of a column in the mark's order: by descending key, the lower number first, and no others.
 -- Assumes nothing.
-use Prim.Native.Nat.{ℕ, _<_}
+use Prim.Native.Nat.{ℕ}
 use mathlib.Core.Path.{_≡_, refl}
 use mathlib.Core.Logic.{_↔_}
 use lib.ListN.{length}

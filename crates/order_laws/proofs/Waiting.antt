@@ -43,6 +43,14 @@ unfolding missing member
 missing-more done zero j h = refl
 missing-more done (suc p) j h = rw (ne-eqb (suc p) j h, member)
 
+pub pushed-root : (par : ℕ → ℕ) (j : ℕ) (held : List ℕ) → par j ≡ 0 → pushedOn par j held ≡ held
+unfolding pushedOn
+pushed-root par j held e = rw (eq-eqb (par j) 0 e, pushedOn)
+
+pub pushed-update : (par : ℕ → ℕ) (j : ℕ) (held : List ℕ) → 0 < par j → pushedOn par j held ≡ j ∷ held
+unfolding pushedOn
+pushed-update par j held h = rw (ne-eqb (par j) 0 (λ e. absurd (omega arith)), pushedOn)
+
 pub waiting-none : (par : ℕ → ℕ) → waiting par [] ≡ []
 unfolding waiting keep
 waiting-none par = refl
@@ -113,16 +121,16 @@ module _ {par : ℕ → ℕ} {n : ℕ} (tree : Tree par n) (done : List ℕ) (j 
       ∙ (ap (λ l. l ++ keep (waits (j ∷ done)) before) (keep-none (waits (j ∷ done)) inside inside-after) ∙ keep-same (waits (j ∷ done)) (waits done) before before-after))
 
   waits-then : waiting par (j ∷ done) ≡ pushedOn par j (keep (waits done) before)
-  unfolding waiting waits pushedOn missing
+  unfolding waiting waits missing
   waits-then = go (test (eqb (par j) 0))
     where
       go : Test (eqb (par j) 0) → keep (waits (j ∷ done)) (j ∷ done) ≡ pushedOn par j (keep (waits done) before)
-      go (passes e) = keep-no (waits (j ∷ done)) j done (rw (eqb-true (par j) 0 e, missing)) ∙ (still ∙ rw (e, pushedOn))
+      go (passes e) = keep-no (waits (j ∷ done)) j done (rw (eqb-true (par j) 0 e, missing)) ∙ (still ∙ sym (pushed-root par j (keep (waits done) before) (eqb-true (par j) 0 e)))
       go (fails e) =
           let z : par j ≢ 0 = eqb-false (par j) 0 e in
           let h : 0 < par j = omega arith in
           let out : (par j ≡ j) ⊎ (par j ∈ done) → ⊥ = λ c. elim c [ inl q ↦ omega (arith, tree .above j h) | inr m ↦ later m ] in
-          keep-yes (waits (j ∷ done)) j done (missing-yes (j ∷ done) (par j) h (λ m. out (List·Memᴰ·cases-cons m))) ∙ (ap (λ l. j ∷ l) still ∙ rw (e, pushedOn))
+          keep-yes (waits (j ∷ done)) j done (missing-yes (j ∷ done) (par j) h (λ m. out (List·Memᴰ·cases-cons m))) ∙ (ap (λ l. j ∷ l) still ∙ sym (pushed-update par j (keep (waits done) before) h))
 
   taken-are : (x : ℕ) → (x ∈ keep isChild inside) ↔ (par x ≡ j)
   unfolding isChild

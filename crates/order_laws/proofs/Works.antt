@@ -1,6 +1,6 @@
 -- W, and the steps of a subtree, from its children's.
 -- Assumes nothing.
-use Prim.Native.Nat.{ℕ, zero, suc, _+_, _*_, _<_, _≤_, max}
+use Prim.Native.Nat.{ℕ, zero, suc, _+_, _<_, _≤_, max}
 use mathlib.Core.Path.{_≡_, refl, ap, _∙_}
 use mathlib.Core.Logic.{_↔_}
 use mathlib.Core.List.{[], _∷_, _++_, flatMap, List·Memᴰ·not-nil}
@@ -22,7 +22,7 @@ use Rattle.order_laws.proofs.Ordering.{valid-distinct}
 use Rattle.order_laws.proofs.Arranged.{steps-suc, steps-enough}
 use Rattle.order_laws.proofs.Orders.{steps-order}
 use Rattle.order_laws.proofs.Patterns.{tree-of, root-rows}
-use Rattle.order_laws.proofs.RoomBounds.{peak-bound, peak-fits}
+use Rattle.order_laws.proofs.RoomBounds.{peak-fits}
 use Rattle.order_laws.proofs.Needs.{need-children}
 
 -- the order: the subtrees of the roots
@@ -85,10 +85,6 @@ module _ {n : ℕ} {A : Pattern} (below : Below n A) where
 
     few : length (subtreeSteps mark n A j) ≤ n
     few = omega (arith, length-upTo n, distinct-length (subtreeSteps mark n A j) (upTo n) subtree-once (λ i m. let (a, b) = within i m in upTo-into n i a b))
-
-    pub W-bound : W mark n A j ≤ n * t n
-    unfolding W alone subtreeSteps peak
-    W-bound = peak-bound below (subtreeSteps mark n A j) few within
 
     -- W is no greater than a peak can be
     pub W-fits : n ≤ maxColumns → W mark n A j ≤ maxPeak

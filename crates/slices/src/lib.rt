@@ -1,4 +1,4 @@
-// Lent slices: cleared, copied into, and handed on in part.
+// Lent slices: cleared, and handed on in part.
 ghost use mathlib.Core.Path.{_≡_};
 ghost use lib.ListN.{take};
 ghost use Rattle.papers.specs.Lists.{zeros};

@@ -1,0 +1,1 @@
+// The check of a plan's bytes for a job: its entry point.

@@ -1,0 +1,101 @@
+-- The loop's invariant: what is found at i, carried on top of the groups before it, is what is found at `at`. The measure is how many groups may
+-- still come.
+-- Assumes nothing.
+use Prim.Native.Nat.{_-_}
+use mathlib.Core.Logic.{⊎-elim, inl, inr}
+use native.Mathlib.Omega.{arith}
+use borrow.Author.Needs.{needs}
+use Rattle.groups.proofs.Carried.{Carried, start, carried-below, stop-end, stop-long, stop-zero, stop-value, turn}
+use Rattle.groups.proofs.get.Statement.{statement}
+use Rattle.groups.proofs.get.Tie as tie
+
+abbrev Inv-loop : tie.InvT-loop
+Inv-loop s at i₀ low₀ w₀ k₀ i low w k = Carried s at i low w k
+
+abbrev μ-loop : tie.MeasureT-loop
+μ-loop s at i₀ low₀ w₀ k₀ i low w k = k
+
+loop-holds : tie.Need-loop-holds Inv-loop μ-loop
+loop-holds c = start _ _
+
+returns : tie.Need-returns Inv-loop μ-loop
+returns c = stop-long (c .before .before .loop .inv) (c .before .loop-test .taken) (c .if1 .taken)
+
+shared-slice-read-wide : tie.Need-shared-slice-read-wide Inv-loop μ-loop
+shared-slice-read-wide c = search needs
+
+wide-requires : tie.Need-wide-requires Inv-loop μ-loop
+wide-requires c κs = search needs
+
+returns-2 : tie.Need-returns-2 Inv-loop μ-loop
+returns-2 c =
+    let inv = c .before .before .before .before .before .before .before .loop .inv in
+    let there = c .before .before .before .before .before .before .loop-test .taken in
+    stop-zero inv there _ (c .before .before .before .wide .ensures .0) (omega arith) (c .before .if3 .taken) (c .if4 .taken)
+
+mul-t14 : tie.Need-mul-t14 Inv-loop μ-loop
+mul-t14 c = omega (arith, carried-below (c .before .before .wide .result) (c .before .before .before .before .before .before .loop .inv) (c .before .if2 .taken))
+
+add-t15 : tie.Need-add-t15 Inv-loop μ-loop
+add-t15 c = omega (arith, carried-below (c .before .before .wide .result) (c .before .before .before .before .before .before .loop .inv) (c .before .if2 .taken))
+
+add-t16 : tie.Need-add-t16 Inv-loop μ-loop
+add-t16 c = search needs
+
+returns-3 : tie.Need-returns-3 Inv-loop μ-loop
+returns-3 c =
+    let inv = c .before .before .before .before .before .before .loop .inv in
+    let there = c .before .before .before .before .before .loop-test .taken in
+    stop-value inv there _ (c .before .before .wide .ensures .0) (omega arith) (c .before .if2 .taken)
+    (⊎-elim (λ t. inl (let h = t .1 .left in omega arith)) (λ t. inr (let h = t .left in omega arith)) (c .if3 .came))
+
+mul-low : tie.Need-mul-low Inv-loop μ-loop
+mul-low c = omega (arith, carried-below (c .before .wide .result - 128) (c .before .before .before .before .before .loop .inv) (omega arith))
+
+add-low : tie.Need-add-low Inv-loop μ-loop
+add-low c = omega (arith, carried-below (c .before .wide .result - 128) (c .before .before .before .before .before .loop .inv) (omega arith))
+
+mul-w : tie.Need-mul-w Inv-loop μ-loop
+mul-w c = omega (arith, carried-below 0 (c .before .before .before .before .before .loop .inv) (omega arith))
+
+sub-k : tie.Need-sub-k Inv-loop μ-loop
+sub-k c = search needs
+
+add-i : tie.Need-add-i Inv-loop μ-loop
+add-i c = search needs
+
+loop-less : tie.Need-loop-less Inv-loop μ-loop
+loop-less c = search needs
+
+loop-again : tie.Need-loop-again Inv-loop μ-loop
+loop-again c =
+    let inv = c .before .before .before .before .before .loop .inv in
+    let there = c .before .before .before .before .loop-test .taken in
+    turn inv there (c .before .wide .result) (c .before .wide .ensures .0) (omega arith) (c .if2 .left) (c .before .wide .ensures .1)
+
+returns-4 : tie.Need-returns-4 Inv-loop μ-loop
+returns-4 c = stop-end (c .before .loop .inv) (c .loop-test .left)
+
+pub get-spec : {M : Type 1} → statement M
+get-spec =
+    tie.close
+    (tie.spec
+    Inv-loop
+    μ-loop
+    loop-holds
+    returns
+    shared-slice-read-wide
+    wide-requires
+    returns-2
+    mul-t14
+    add-t15
+    add-t16
+    returns-3
+    mul-low
+    add-low
+    mul-w
+    sub-k
+    add-i
+    loop-less
+    loop-again
+    returns-4)

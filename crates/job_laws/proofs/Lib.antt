@@ -1,0 +1,6 @@
+pub mod Firsts
+pub mod Faults
+pub mod Starts
+pub mod Rows
+pub mod Passed
+pub mod Untouched

@@ -1,0 +1,1 @@
+// The run of a plan's steps on a stack of updates: its entry point.
