@@ -7,5 +7,4 @@ pub mod Counts
 pub mod UpTo
 pub mod Stores
 pub mod Sorts
-pub mod Stores
 pub mod Leasts
