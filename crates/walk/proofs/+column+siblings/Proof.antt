@@ -1,17 +1,16 @@
 -- Both loops' invariant: what is there, with the block that is left stored on top, is the whole. The measure is the depth: a call for a column
 -- has at most half of the siblings' steps, and a call for siblings no more steps than the column.
 -- Assumes nothing.
-use Prim.Native.Nat.{_+_, _-_}
-use native.Mathlib.Omega.{arith}
+use Prim.Native.Nat.{_+_, _-_, ℕ, _<_}
 use mathlib.Core.Path.{refl}
+use native.Mathlib.Omega.{arith}
 use borrow.Author.Needs.{needs}
+use borrow.Fn.Kinds.{In}
+use borrow.Fn.PlainCycle.{Measures, is, falls, and}
 use Rattle.walk.specs.Levels.{levels}
 use Rattle.walk.proofs.Levels.{levels-mono}
 use Rattle.walk.proofs.Down.{Down, down-start, down-stop, down-size, down-last, down-asks, down-turn}
 use Rattle.walk.proofs.Held.{Held, held-start, held-stop, held-child, held-place, child-asks, held-asks, child-half, held-half, child-done, held-done}
-use Prim.Native.Nat.{ℕ, _<_}
-use borrow.Fn.Kinds.{In}
-use borrow.Fn.PlainCycle.{Measures, is, falls, and}
 use Rattle.walk.proofs.column.Reads as column
 use Rattle.walk.proofs.column.Kinds as column-kinds
 use Rattle.walk.proofs.+column+siblings.Lts-column as column-lts
