@@ -20,7 +20,7 @@ use Rattle.papers.specs.Plan.{planOf, stepNumbers, planNumbers, planBytes, then
 use Rattle.papers.specs.Refusals.{answer, Lent, first, refusedIf, refusedAt, outcome, columnsTest, markTest, limitTest, falls, startsTest, rowFault, rowsFault, columnFault, rowsTest, jobTests, allZero, holding, lengthsTest, factorRowsTest, peakTest, bytesTest}
 use Rattle.papers.specs.Analysis.{holdingPlan, analysisTests, analysisDone, analysed, planTests, planDone, planZero, planWritten}
 use Rattle.papers.specs.Check.{keyDiffers, keyTest, planRead, readTest, repeated, repeatTest, listTest, scattered, subtreeTest, popsTest, truePeak, declaredTest, ofPlan, checkTests, checkDone, checked}
-use Rattle.papers.specs.Text.{isDigit, after, cut, afterLines, onWord, wordsOf, isDecimal, allDecimal, valueOf, numbersOf, numbersAt, headOf, rowsOfLine, isRowLine, textHead, textLists, textJob, inputTest, headTest, lineFault, rowLinesTest, endTest, textTests, digitsOf, decimalOf, printed, refusalLine, stepLines, listingOf, buffers, jobPrinted, programPrints}
+use Rattle.papers.specs.Text.{isDigit, startingWith, cut, afterLines, onWord, wordsOf, isDecimal, allDecimal, valueOf, numbersOf, numbersAt, headOf, rowsOfLine, isRowLine, textHead, textLists, textJob, inputTest, headTest, lineFault, rowLinesTest, endTest, textTests, digitsOf, decimalOf, printed, refusalLine, stepLines, listingOf, buffers, jobPrinted, programPrints}
 use Rattle.papers.specs.declared.Answer.{Answer}
 
 -- ---- what a piece says
@@ -55,7 +55,7 @@ sameAnswer : Answer → Answer → Bool
 sameAnswer a b = eqb (a .number) (b .number) && eqb (a .place) (b .place) && eqb (a .count) (b .count)
 
 pub holds : Piece → Bool
-unfolding lentFor sameAnswer flatMap upTo head0 member same every keep sum greatest merge insert sort least flat startsFrom thenZeros groupsOf bytesOf encode over lastGroup readFrom readNumber start columnOf gather lists R parent t children isUnder subtreeOf topUpdate roomAt heldAfter rooms peakOf columnAt siblingKey alone arranged stepsOf orderOf peak gapsOf listNumbers listsNumbers listsOf keyNumbers keyOf planOf stepNumbers planNumbers planBytes then onto inField field readStep readSteps readRows readList readLists atEnd readPlan first refusedIf refusedAt outcome columnsTest markTest limitTest falls startsTest rowFault rowsFault columnFault rowsTest jobTests allZero holding lengthsTest factorRowsTest peakTest bytesTest holdingPlan analysisTests analysisDone analysed planTests planDone planZero planWritten keyDiffers keyTest planRead readTest repeated repeatTest listTest scattered subtreeTest popsTest truePeak declaredTest ofPlan checkTests checkDone checked roomsOf isDigit after cut afterLines onWord wordsOf isDecimal allDecimal valueOf numbersOf numbersAt headOf rowsOfLine isRowLine textHead textLists textJob inputTest headTest lineFault rowLinesTest endTest textTests digitsOf decimalOf printed refusalLine stepLines listingOf buffers jobPrinted programPrints
+unfolding lentFor sameAnswer flatMap upTo head0 member same every keep sum greatest merge insert sort least flat startsFrom thenZeros groupsOf bytesOf encode over lastGroup readFrom readNumber start columnOf gather lists R parent t children isUnder subtreeOf topUpdate roomAt heldAfter rooms peakOf columnAt siblingKey alone arranged stepsOf orderOf peak gapsOf listNumbers listsNumbers listsOf keyNumbers keyOf planOf stepNumbers planNumbers planBytes then onto inField field readStep readSteps readRows readList readLists atEnd readPlan first refusedIf refusedAt outcome columnsTest markTest limitTest falls startsTest rowFault rowsFault columnFault rowsTest jobTests allZero holding lengthsTest factorRowsTest peakTest bytesTest holdingPlan analysisTests analysisDone analysed planTests planDone planZero planWritten keyDiffers keyTest planRead readTest repeated repeatTest listTest scattered subtreeTest popsTest truePeak declaredTest ofPlan checkTests checkDone checked roomsOf isDigit startingWith cut afterLines onWord wordsOf isDecimal allDecimal valueOf numbersOf numbersAt headOf rowsOfLine isRowLine textHead textLists textJob inputTest headTest lineFault rowLinesTest endTest textTests digitsOf decimalOf printed refusalLine stepLines listingOf buffers jobPrinted programPrints
 holds (number x bytes) = same (bytesOf x) bytes
 holds (analysis job a) = sameAnswer (analysed job (lentFor (job .n)) .answer) a
 holds (order job columns) = same (analysed job (lentFor (job .n)) .lent .order) columns
