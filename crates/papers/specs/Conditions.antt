@@ -1,5 +1,6 @@
 -- The conditions of the refusals as propositions, each with the answer that it gives; and what it means that an entry point answers by the first.
--- The tests of the other modules compute; crate refusal_laws proves that they agree with what stands here.
+-- The tests of the other modules compute; crate refusal_laws proves that they agree with what stands here, and bytes_laws that a number is read as
+-- `Stands` says.
 -- Assumes nothing.
 use Prim.Native.Nat.{ℕ, zero, suc, _+_, _-_, _*_, _<_, _≤_}
 use mathlib.Core.Path.{_≡_}
