@@ -7,3 +7,5 @@ pub mod Plans
 pub mod Begins
 pub mod Reaches
 pub mod Writing
+pub mod Groups
+pub mod Stands

@@ -37,6 +37,7 @@ lists-fit n A f (suc k) =
 
 -- ---- a key is read back
 
+-- the key of a job that passes is read as that job, to its end
 pub key-back : (job : Job) → Passed job → readKey (keyOf job) ≡ got job (length (keyOf job))
 unfolding readKey keyOf keyNumbers encode
 key-back job p =

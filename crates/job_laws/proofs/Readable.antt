@@ -44,7 +44,7 @@ laid-pass n ls e f =
         let q : 1 + k ≡ suc k = omega arith in
         rw (laid-column ls k u) (rw q at (fit-at n 1 ls k f u))
 
--- what is read as a key
+-- the job that is read passes its tests, and its key is just what was read
 pub record KeyRead (key : List ℕ) (job : Job) (at : ℕ) : Type 0 where
   pub passes : Passed job
   pub whole : keyOf job ≡ key

@@ -132,7 +132,7 @@ module _ (job : Job) (plan : Plan) (fit : Fit (job .n) plan) where
             let greatest = declared-iff .0 declared in
             record {
               ordered = record { each = each; once = once; together = subtree-iff each once .0 subtrees };
-              children = pops-iff .0 pops;
+              pops = pops-iff .0 pops;
               rows = list-iff .0 lists;
               greatest = greatest;
               within = rw greatest (within-iff .0 within);
@@ -143,7 +143,7 @@ module _ (job : Job) (plan : Plan) (fit : Fit (job .n) plan) where
           repeat-iff .1 (s .ordered .once),
           list-iff .1 (s .rows),
           subtree-iff (s .ordered .each) (s .ordered .once) .1 (s .ordered .together),
-          pops-iff .1 (s .children),
+          pops-iff .1 (s .pops),
           declared-iff .1 (s .greatest),
           within-iff .1 (rw (← s .greatest) (s .within)),
         )

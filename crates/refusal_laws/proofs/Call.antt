@@ -10,18 +10,17 @@ use native.Mathlib.Omega.{arith}
 use lib.Dec.{ltb}
 use lib.ListN.{length, getD}
 use Rattle.papers.specs.declared.Answer.{Answer}
-use Rattle.papers.specs.Bounds.{textColumns, textRows}
+use Rattle.papers.specs.Bounds.{programColumns, programRows}
 use Rattle.papers.specs.Job.{Job}
 use Rattle.papers.specs.Plan.{Read, got, bad}
 use Rattle.papers.specs.Refusals.{answer, untouched, Leaves, Verdict, passed, refused, first, refusedIf}
 use Rattle.papers.specs.Check.{checked}
 use Rattle.papers.specs.Text.{buffers}
 use Rattle.papers.specs.Call.{Readable, readKey, SolverCall, readableTest, sizesTest, callTests, keyChecked, solverAnswer}
-use Rattle.papers.specs.Conditions.{Answered, Unrefused, Unreadable, SizesOver, checkConditions, callConditions}
+use Rattle.papers.specs.Conditions.{Answered, Unrefused, Unreadable, SizesOver, checkConditions, callConditions, solverCheck, CheckRefuses, solverConditions}
 use Rattle.bytes_laws.proofs.Fields.{got-bad}
 use Rattle.job_laws.proofs.Firsts.{refused-passed}
 use Rattle.job_laws.proofs.Readable.{readable-read, readable-one, readable-iff}
-use Rattle.refusal_laws.specs.Solver.{solverCheck, CheckRefuses, solverConditions}
 use Rattle.refusal_laws.proofs.Agreements.{Refuses, Agree, one-answer, agree-by, AgreeEach, _▸_, answered-iff, no-answer-iff, passed-iff, answered-append, unrefused-append}
 use Rattle.refusal_laws.proofs.Check.{check-exactly}
 use Rattle.refusal_laws.proofs.Tests.{below-iff, either-iff, agree-if}
@@ -58,10 +57,10 @@ module _ (call : SolverCall) (bytes : (i : ℕ) → getD (call .key) i 0 < 256) 
   sizes-agree a = go key
     where
       Over : Job → Type 0
-      Over job = (textColumns < job .n) ⊎ (textRows < length (job .rows))
+      Over job = (programColumns < job .n) ⊎ (programRows < length (job .rows))
 
-      sizes-iff : (job : Job) → Refuses (refusedIf (ltb textColumns (job .n) || ltb textRows (length (job .rows))) (answer 26 0 0) untouched) a ↔ (Over job × (a ≡ answer 26 0 0))
-      sizes-iff job = agree-if _ _ untouched (either-iff _ _ (below-iff textColumns (job .n)) (below-iff textRows (length (job .rows)))) a
+      sizes-iff : (job : Job) → Refuses (refusedIf (ltb programColumns (job .n) || ltb programRows (length (job .rows))) (answer 26 0 0) untouched) a ↔ (Over job × (a ≡ answer 26 0 0))
+      sizes-iff job = agree-if _ _ untouched (either-iff _ _ (below-iff programColumns (job .n)) (below-iff programRows (length (job .rows)))) a
 
       go : Key → Refuses (sizesTest call) a ↔ SizesOver call a
       go (readable r e) = (

@@ -14,10 +14,9 @@ use Rattle.papers.specs.Job.{Job}
 use Rattle.papers.specs.Refusals.{answer, Leaves, untouched, zeroed, Verdict, passed, refused, first, Outcome, Lent}
 use Rattle.papers.specs.Analysis.{analysisTests, analysisDone, analysed}
 use Rattle.papers.specs.Text.{Input, textJob, textTests, refusalLine, buffers, jobPrinted, programPrints, ListingCall, listingTests, listingDone, listed}
-use Rattle.papers.specs.Conditions.{Answered, Unrefused, analysisConditions, textConditions}
+use Rattle.papers.specs.Conditions.{Answered, Unrefused, analysisConditions, textConditions, programAnalysis, programConditions, programListing, ListingShort}
 use Rattle.job_laws.proofs.Firsts.{refused-passed, first-append-passed, first-append-refused, first-map, first-each}
 use Rattle.refusal_laws.specs.Exactly.{Exactly}
-use Rattle.refusal_laws.specs.Program.{programAnalysis, programConditions, programListing, ListingShort}
 use Rattle.refusal_laws.proofs.Agreements.{Refuses, one-answer, AgreeEach, _▸_, answered-iff, passed-iff, append-agree, part-agree}
 use Rattle.refusal_laws.proofs.Exactly.{Leaving, _&_, leaving-if, outcome-exactly}
 use Rattle.refusal_laws.proofs.Tests.{below-iff, agree-if}

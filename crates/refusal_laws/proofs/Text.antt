@@ -10,7 +10,7 @@ use lib.Dec.{ltb}
 use lib.ListN.{length}
 use borrow.Author.Tests.{eqb-true, eq-eqb}
 use Rattle.papers.specs.declared.Answer.{Answer}
-use Rattle.papers.specs.Bounds.{textBytes, textColumns, textRows}
+use Rattle.papers.specs.Bounds.{inputBytes, programColumns, programRows}
 use Rattle.papers.specs.Lists.{flat}
 use Rattle.papers.specs.Refusals.{answer, untouched, passed, refused, refusedIf}
 use Rattle.papers.specs.Text.{numbersAt, headOf, isRowLine, afterLines, textHead, textLists, Input, inputTest, headTest, lineFault, rowLinesTest, endTest, textTests}
@@ -54,32 +54,32 @@ module _ (input : Input) where
   -- 26 at 0
   input-agree : Agree (inputTest input) (InputOver input)
   unfolding inputTest
-  input-agree = agree-if _ _ untouched (either-iff (input .more) _ (λ e. e, λ e. e) (below-iff textBytes (length (input .text))))
+  input-agree = agree-if _ _ untouched (either-iff (input .more) _ (λ e. e, λ e. e) (below-iff inputBytes (length (input .text))))
 
   -- 25 and 26 at line 1
   fine-iff : (textHead (input .text) .fine ≡ true) ↔ HeadLine (numbersAt (input .text) 1)
   unfolding textHead
   fine-iff = head-line-iff (numbersAt (input .text) 1)
 
-  over-iff : (ltb textColumns (textHead (input .text) .n) ≡ true) ↔ (textColumns < textHead (input .text) .n)
-  over-iff = below-iff textColumns (textHead (input .text) .n)
+  over-iff : (ltb programColumns (textHead (input .text) .n) ≡ true) ↔ (programColumns < textHead (input .text) .n)
+  over-iff = below-iff programColumns (textHead (input .text) .n)
 
   head-bad : textHead (input .text) .fine ≡ false → headTest input ≡ refused (answer 25 1 0) untouched
   unfolding headTest
   head-bad f = rw (f, headTest)
 
-  head-fine : textHead (input .text) .fine ≡ true → headTest input ≡ refusedIf (ltb textColumns (textHead (input .text) .n)) (answer 26 1 0) untouched
+  head-fine : textHead (input .text) .fine ≡ true → headTest input ≡ refusedIf (ltb programColumns (textHead (input .text) .n)) (answer 26 1 0) untouched
   unfolding headTest
   head-fine f = rw (f, headTest)
 
   head-agree : Agree (headTest input) (BadHead input)
-  head-agree = agree-by _ _ gives (go (test (textHead (input .text) .fine)) (test (ltb textColumns (textHead (input .text) .n))))
+  head-agree = agree-by _ _ gives (go (test (textHead (input .text) .fine)) (test (ltb programColumns (textHead (input .text) .n))))
     where
       gives : (a : Answer) → BadHead input a → Refuses (headTest input) a
       gives a (bad-head h) = (untouched, head-bad (fails-iff _ fine-iff .1 h))
       gives a (columns-over h l) = (untouched, head-fine (fine-iff .1 h) ∙ refused-if _ _ untouched (over-iff .1 l))
 
-      go : Test (textHead (input .text) .fine) → Test (ltb textColumns (textHead (input .text) .n)) → (headTest input ≡ passed) ⊎ ((a : Answer) × BadHead input a)
+      go : Test (textHead (input .text) .fine) → Test (ltb programColumns (textHead (input .text) .n)) → (headTest input ≡ passed) ⊎ ((a : Answer) × BadHead input a)
       go (fails f) c = inr (answer 25 1 0, bad-head (fails-iff _ fine-iff .0 f))
       go (passes f) (passes c) = inr (answer 26 1 0, columns-over (fine-iff .0 f) (over-iff .0 c))
       go (passes f) (fails c) = inl (head-fine f ∙ passed-if _ _ untouched c)
@@ -88,7 +88,7 @@ module _ (input : Input) where
 module _ (text : List ℕ) where
   module _ (j : ℕ) where
     listed-over : Bool
-    listed-over = ltb textRows (length (flat (textLists text j)))
+    listed-over = ltb programRows (length (flat (textLists text j)))
 
     line-bad : isRowLine (numbersAt text (suc j)) ≡ false → lineFault text j ≡ 25
     unfolding lineFault
@@ -102,9 +102,9 @@ module _ (text : List ℕ) where
     unfolding lineFault listed-over
     line-fine r o = rw (r, o, lineFault)
 
-    listed-over-iff : (listed-over ≡ true) ↔ (textRows < length (flat (textLists text j)))
+    listed-over-iff : (listed-over ≡ true) ↔ (programRows < length (flat (textLists text j)))
     unfolding listed-over
-    listed-over-iff = below-iff textRows (length (flat (textLists text j)))
+    listed-over-iff = below-iff programRows (length (flat (textLists text j)))
 
   line-faults : Faults (lineFault text) (BadLine text)
   line-faults = record { is = is; some = λ j. go j (test (isRowLine (numbersAt text (suc j)))) (test (listed-over j)) }

@@ -24,7 +24,7 @@ module _ (job : Job) (plan : Plan) (valid : first jobTests job ≡ passed) (soun
         starts = ap (startsFrom 0) (sound .rows);
         rows = ap flat (sound .rows);
         ordered = sound .ordered;
-        pops = sound .children;
+        pops = sound .pops;
         long = long;
       }
 

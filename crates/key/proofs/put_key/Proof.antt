@@ -23,7 +23,7 @@ put-requires-2 c κs =
     let job = jobOf (entry .args .head) (entry .args .starts .now) (entry .args .rows .now) in
     let bytes = entry .args .bytes .now in
     let left = behind-edition job bytes (c .before .before .before .put .ensures) in
-    (numbers-fit job (passes-iff job .0 (entry .pre .0)) .0, room-number left refl (put-room job bytes (entry .pre .1)))
+    (omega (arith, numbers-fit job (passes-iff job .0 (entry .pre .0))), room-number left refl (put-room job bytes (entry .pre .1)))
 
 put-requires-3 : tie.Need-put-requires-3
 put-requires-3 c κs =
@@ -31,7 +31,7 @@ put-requires-3 c κs =
     let job = jobOf (entry .args .head) (entry .args .starts .now) (entry .args .rows .now) in
     let bytes = entry .args .bytes .now in
     let left = behind-n job bytes (c .before .before .before .before .before .before .before .put .ensures) (c .before .before .before .put2 .ensures) in
-    (numbers-fit job (passes-iff job .0 (entry .pre .0)) .1, room-number left refl (put-room job bytes (entry .pre .1)))
+    (omega (arith, numbers-fit job (passes-iff job .0 (entry .pre .0))), room-number left refl (put-room job bytes (entry .pre .1)))
 
 put-requires-4 : tie.Need-put-requires-4
 put-requires-4 c κs =
@@ -39,7 +39,7 @@ put-requires-4 c κs =
     let job = jobOf (entry .args .head) (entry .args .starts .now) (entry .args .rows .now) in
     let bytes = entry .args .bytes .now in
     let left = behind-mark job bytes (c .before .before .before .before .before .before .before .before .before .before .before .put .ensures) (c .before .before .before .before .before .before .before .put2 .ensures) (c .before .before .before .put3 .ensures) in
-    (numbers-fit job (passes-iff job .0 (entry .pre .0)) .2, room-number left refl (put-room job bytes (entry .pre .1)))
+    (omega (arith, numbers-fit job (passes-iff job .0 (entry .pre .0))), room-number left refl (put-room job bytes (entry .pre .1)))
 
 write-lists-requires : tie.Need-write-lists-requires
 write-lists-requires c κs =
