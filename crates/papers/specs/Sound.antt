@@ -17,7 +17,7 @@ use Rattle.papers.specs.Run.{RunCall}
 -- column's list its R; the peak that of the order, and within the limit
 pub record Sound (job : Job) (plan : Plan) : Type 0 where
   pub ordered : Ordered (parent (pattern job)) (job .n) (columnsIn (plan .steps))
-  pub children : popsIn (plan .steps) ≡ map (popsOf (job .n) (pattern job)) (columnsIn (plan .steps))
+  pub pops : popsIn (plan .steps) ≡ map (popsOf (job .n) (pattern job)) (columnsIn (plan .steps))
   pub rows : plan .lists ≡ listsOf (job .n) (R (pattern job))
   pub greatest : plan .peak ≡ peak (job .n) (pattern job) (columnsIn (plan .steps))
   pub within : plan .peak ≤ job .limit
