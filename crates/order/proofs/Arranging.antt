@@ -1,25 +1,21 @@
 -- The pass over the columns: the lists of the columns before j stand by the mark and their W are known, the other lists are as they were. A
 -- column's list lies apart from all others, so to arrange it leaves them.
 -- Assumes nothing.
-use Prim.Native.Nat.{ℕ, zero, suc, _+_, _-_, _*_, _<_, _≤_}
+use Prim.Native.Nat.{ℕ, zero, suc, _+_, _-_, _<_, _≤_}
 use mathlib.Core.Path.{_≡_, refl, sym, ap, _∙_}
-use mathlib.Core.Logic.{_⊎_, inl, inr, _≢_}
+use mathlib.Core.Logic.{_≢_}
 use mathlib.Core.List.{List}
 use native.Mathlib.Omega.{arith}
-use native.Mathlib.Nat.{le-suc-iff}
-use native.Mathlib.Numerals.{add-one}
-use lib.ListN.{length, getD, set, take, length-take}
+use lib.ListN.{length, getD, take}
 use lib.Seq.{slice, sets, getD-take, getD-set-same, getD-set-other, length-slice}
-use Rattle.papers.specs.Bounds.{maxColumns}
 use Rattle.papers.specs.Lists.{_∈_}
-use Rattle.papers.specs.Order.{arranged}
 use Rattle.list_laws.proofs.Tests.{Compare, below, level, above, compare}
-use Rattle.list_laws.proofs.Sorts.{sort-length}
 use Rattle.order_laws.proofs.Arranged.{arranged-length}
 use Rattle.tree.specs.Blocks.{kidsAt}
 use Rattle.tree.proofs.Blocks.{kids-are, arranged-zero}
 use Rattle.room.specs.Rows.{rowsIn}
-use Rattle.order.specs.Arranged.{part, keyAt, Kids, siblingsAt, Placed, sortedIn, Arranged, Family, aloneIn, arrangedIn, startsIn, Arrangeable, AllArranged}
+use Rattle.order.specs.Regions.{part}
+use Rattle.order.specs.Arranged.{siblingsAt, Placed, sortedIn, Arranged, aloneIn, arrangedIn, startsIn, Arrangeable, AllArranged}
 use Rattle.order.proofs.Parts.{part-slice, part-length, slice-behind, slice-before, slice-run}
 use Rattle.order.proofs.Works.{alone-light, sorted-arranged, need-alone}
 

@@ -1,21 +1,21 @@
 -- The sibling keys of the three marks, and the pass that stores those of a column's children.
 -- Assumes nothing.
+-- ---- the marks
 use Prim.Native.Nat.{ℕ, zero, suc, _+_, _-_, _<_, _≤_}
 use mathlib.Core.Path.{_≡_, refl, sym, ap, _∙_}
 use mathlib.Core.Logic.{_⊎_, inl, inr, _≢_}
-use mathlib.Core.List.{List, [], _∷_, _++_, List·Memᴰ·not-nil, List·Memᴰ·append-cases, List·Memᴰ·eq-of-singleton}
+use mathlib.Core.List.{List, [], _∷_, List·Memᴰ·not-nil, List·Memᴰ·append-cases, List·Memᴰ·eq-of-singleton}
 use native.Mathlib.Omega.{arith}
 use native.Mathlib.Numerals.{add-one}
-use lib.ListN.{length, getD, set, take, drop, length-set, length-take, length-drop}
-use lib.Seq.{take-suc, take-length, take-all, take-set-le, getD-take, getD-drop, getD-set-same, getD-set-other}
+use lib.ListN.{length, getD, set, take, drop, length-set, length-take}
+use lib.Seq.{take-suc, take-all, take-set-le, getD-take, getD-drop, getD-set-same, getD-set-other}
 use Rattle.papers.specs.Lists.{_∈_}
 use Rattle.papers.specs.Tree.{t}
 use Rattle.papers.specs.Order.{siblingKey}
 use Rattle.tree.proofs.Slices.{at-place}
 use Rattle.tree.proofs.Children.{equal-or}
-use Rattle.order.specs.Arranged.{part, Kids, Keyed}
-
--- ---- the marks
+use Rattle.order.specs.Regions.{part}
+use Rattle.order.specs.Arranged.{Kids, Keyed}
 
 pub key-none : (mark above rows w : ℕ) → mark ≡ 0 → siblingKey mark above rows w ≡ 0
 unfolding siblingKey

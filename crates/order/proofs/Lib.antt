@@ -4,3 +4,7 @@ pub mod Parts
 pub mod Placing
 pub mod Works
 pub mod Arranging
+pub mod Marked
+pub mod Families
+pub mod Walked
+pub mod Peaks

@@ -1,15 +1,15 @@
 -- Parts of slices: what a store, a part that came back, or a change further on leaves of them.
 -- Assumes nothing.
+-- the two forms of a part
 use Prim.Native.Nat.{ℕ, zero, suc, _+_, _-_, _<_, _≤_}
 use mathlib.Core.Path.{_≡_, refl, sym, ap, _∙_}
 use mathlib.Core.List.{List, [], _∷_, _++_, append-assoc}
 use native.Mathlib.Omega.{arith}
-use lib.ListN.{length, getD, set, take, drop, length-take, length-drop, length-append}
-use lib.Seq.{sets, sets-eq, slice, take-nil, drop-drop, drop-set-add, take-set-lt, take-at, drop-at, length-take-le, take-take, getD-take, getD-drop}
+use lib.ListN.{length, getD, set, take, drop, length-drop, length-append}
+use lib.Seq.{sets, sets-eq, slice, take-nil, drop-drop, drop-set-add, take-set-lt, take-at, drop-at, length-take-le, getD-take, getD-drop}
 use Rattle.tree.proofs.Slices.{slice-low, slice-high}
-use Rattle.order.specs.Arranged.{part}
+use Rattle.order.specs.Regions.{part}
 
--- the two forms of a part
 pub part-slice : (a e : ℕ) (l : List ℕ) → part a e l ≡ slice a e l
 part-slice zero e l = let z : e - 0 ≡ e = omega arith in rw z
 part-slice (suc a) zero l = let z : zero - suc a ≡ 0 = omega arith in rw z
@@ -41,6 +41,26 @@ module _ (l ys : List ℕ) (a e : ℕ) (rise : a ≤ e) (inside : e ≤ length l
   pub back-part : part a e (take a l ++ (ys ++ drop (e - a) (drop a l))) ≡ ys
   back-part =
       ap (take (e - a)) (drop-at (take a l) (ys ++ drop (e - a) (drop a l)) a (length-take-le a l (omega arith))) ∙ take-at ys (drop (e - a) (drop a l)) (e - a) count
+
+-- ---- two parts that came back one after the other: s for the front up to m, then z for the part from m to w
+module _ (work s z : List ℕ) (m w : ℕ) (h : m ≤ w) (g : w ≤ length work) (front-kept : length s ≡ length (take m work)) (back-kept : length z ≡ length (part m w (s ++ drop m work)))
+  where
+    abbrev both : List ℕ
+    both = take m (s ++ drop m work) ++ (z ++ drop (w - m) (drop m (s ++ drop m work)))
+
+    front-length : length s ≡ m
+    front-length = front-kept ∙ length-take-le m work (omega arith)
+
+    whole : w ≤ length (s ++ drop m work)
+    whole = omega (arith, length-append s (drop m work), front-length, length-drop m work)
+
+    pub front-is : take m both ≡ s
+    front-is =
+        let a : take m (s ++ drop m work) ≡ s = take-at s (drop m work) m front-length in
+        rw a (take-at s (z ++ drop (w - m) (drop m (s ++ drop m work))) m front-length)
+
+    pub back-is : part m w both ≡ z
+    back-is = back-part (s ++ drop m work) z m w h whole (back-kept ∙ part-length m w (s ++ drop m work) h whole)
 
 -- ---- slices after a run of stores
 pub slice-behind : (ys l : List ℕ) (i a b : ℕ) → i + length ys ≤ a → slice a b (sets l i ys) ≡ slice a b l

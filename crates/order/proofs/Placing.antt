@@ -1,19 +1,19 @@
 -- One column: the keys are stored behind the W, the children are sorted by them in their place, and the W of the column goes to its own.
 -- Assumes nothing.
-use Prim.Native.Nat.{ℕ, _+_, _-_, _<_, _≤_}
-use mathlib.Core.Path.{_≡_, refl, sym, ap, _∙_}
-use mathlib.Core.Logic.{_↔_}
+-- children in another order are the same children
+use Prim.Native.Nat.{ℕ, _+_, _-_}
+use mathlib.Core.Path.{_≡_, sym, ap, _∙_}
 use mathlib.Core.List.{List, _++_}
 use native.Mathlib.Omega.{arith}
-use lib.ListN.{length, getD, set, take, drop, length-set, length-take, length-drop}
+use lib.ListN.{length, getD, set, take, drop, length-take}
 use lib.Seq.{sets, take-take, take-set-le}
 use Rattle.papers.specs.Lists.{_∈_, sort}
 use Rattle.list_laws.proofs.Sorts.{sort-same, sort-elements, sort-length}
 use Rattle.sibling_sort.specs.Joining.{keyIn}
-use Rattle.order.specs.Arranged.{part, keyAt, needAt, Kids, Keyed, siblingsAt, Placed, sortedIn, Arranged}
+use Rattle.order.specs.Regions.{part}
+use Rattle.order.specs.Arranged.{keyAt, needAt, Kids, Keyed, siblingsAt, Placed, sortedIn, Arranged}
 use Rattle.order.proofs.Parts.{part-length, part-at, part-same, part-set, back-sets, back-part}
 
--- children in another order are the same children
 kids-sorted : (key : ℕ → ℕ) {factor rooms kids : List ℕ} {j : ℕ} → Kids factor rooms kids j → Kids factor rooms (sort key kids) j
 kids-sorted key {factor} {rooms} {kids} pre = record {
   top = pre .top;

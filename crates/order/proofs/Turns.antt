@@ -1,11 +1,12 @@
 -- The W of a column from those of its children: the pass goes on from the first i children to one more.
 -- Assumes nothing.
+-- the first i children are done
 use Prim.Native.Nat.{ℕ, suc, _+_, _*_, _<_, _≤_, max}
-use mathlib.Core.Path.{_≡_, refl, ap, _∙_}
+use mathlib.Core.Path.{_≡_, refl}
 use mathlib.Core.List.{List, [], _∷_, _++_, map, map-append}
 use native.Mathlib.Omega.{arith}
 use native.Mathlib.Numerals.{add-one}
-use lib.ListN.{length, getD, take, length-map}
+use lib.ListN.{length, getD, take}
 use lib.Seq.{take-suc, take-all}
 use Rattle.papers.specs.Bounds.{maxColumns}
 use Rattle.papers.specs.Lists.{_∈_, sum}
@@ -18,7 +19,6 @@ use Rattle.tree.proofs.Slices.{at-place}
 use Rattle.room.specs.Rows.{rowsIn, Column, mostEntries}
 use Rattle.order.specs.Arranged.{needAt, Kids}
 
--- the first i children are done
 pub record Turned (factor rooms kids : List ℕ) (most before held i : ℕ) : Type 0 where
   pub so-far : most ≡ inTurn (rowsIn factor) (λ c. getD rooms c 0) 0 (take i kids)
   pub but-last : before ≡ butLast (rowsIn factor) (take i kids)

@@ -1,6 +1,6 @@
 -- The W of a column and its children by the mark, where the W of the children are known: by them they are sorted, and from theirs is its own.
 -- Assumes nothing.
-use Prim.Native.Nat.{ℕ, suc, _+_, _*_, _<_, _≤_, max}
+use Prim.Native.Nat.{ℕ, suc, _+_, _*_, _<_, _≤_}
 use mathlib.Core.Path.{_≡_, refl, sym, ap, _∙_}
 use mathlib.Core.List.{List, [], _∷_, List·Memᴰ·head, List·Memᴰ·tail, List·Memᴰ·not-nil}
 use native.Mathlib.Omega.{arith}
@@ -11,7 +11,7 @@ use Rattle.papers.specs.Tree.{t}
 use Rattle.papers.specs.Room.{rooms, peakOf}
 use Rattle.papers.specs.Order.{siblingKey, alone, arranged, stepsOf}
 use Rattle.list_laws.proofs.Sorts.{sort-same, sort-elements}
-use Rattle.order_laws.specs.Subtrees.{inTurn, butLast}
+use Rattle.order_laws.specs.Subtrees.{inTurn}
 use Rattle.order_laws.proofs.Greatest.{greatest-least}
 use Rattle.order_laws.proofs.Arranged.{steps-enough}
 use Rattle.order_laws.proofs.RoomBounds.{rooms-bound}

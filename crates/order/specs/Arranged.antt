@@ -1,9 +1,10 @@
 -- Lists of children arranged by the mark, each in its place: what the passes over them are given and leave.
 -- Assumes nothing.
+-- the key of child c of column j, where rooms has the W of each column
 use Prim.Native.Nat.{ℕ, suc, _+_, _-_, _*_, _<_, _≤_, max}
 use mathlib.Core.Path.{_≡_}
 use mathlib.Core.List.{List}
-use lib.ListN.{length, getD, set, take, drop}
+use lib.ListN.{length, getD, set, take}
 use lib.Seq.{sets}
 use Rattle.papers.specs.Bounds.{maxColumns}
 use Rattle.papers.specs.Lists.{_∈_, sort}
@@ -12,12 +13,8 @@ use Rattle.papers.specs.Order.{siblingKey, alone, arranged, stepsOf}
 use Rattle.order_laws.specs.Subtrees.{Kin, inTurn, butLast}
 use Rattle.tree.specs.Blocks.{kidsAt}
 use Rattle.room.specs.Rows.{rowsIn, Column, mostEntries}
+use Rattle.order.specs.Regions.{part}
 
--- the part of a slice from a to e
-abbrev pub part : ℕ → ℕ → List ℕ → List ℕ
-part a e l = take (e - a) (drop a l)
-
--- the key of child c of column j, where rooms has the W of each column
 abbrev pub keyAt : ℕ → List ℕ → List ℕ → ℕ → ℕ → ℕ
 keyAt mark factor rooms j c = siblingKey mark (rowsIn factor j) (rowsIn factor c) (getD rooms c 0)
 

@@ -55,12 +55,6 @@ module _ (size pops : ℕ → ℕ) (order : List ℕ) where
   unfolding peakOf
   peak-by-steps = ap greatest (rooms-by-steps (length order) (omega arith) ∙ ap (rooms size pops []) (take-length order))
 
-  enough-here : (held js : List ℕ) → Enough size pops held js → (k : ℕ) → k < length js → pops (getD js k 0) ≤ length (heldAfterAll size pops held (take k js))
-  unfolding heldAfterAll
-  enough-here held [] h k b = absurd (omega arith)
-  enough-here held (j ∷ js) h zero b = h .0
-  enough-here held (j ∷ js) h (suc k) b = enough-here (heldAfter (pops j) (size j) held) js (h .1) k (omega arith)
-
   -- no step takes off more than is held
-  pub enough-by-steps : Enough size pops [] order → (k : ℕ) → k < length order → popsAt (suc k) ≤ length (heldAfterAll sizeAt popsAt [] (upTo k))
-  enough-by-steps h k b = rw (pops-here k b, held-by-steps k (omega arith)) (enough-here [] order h k b)
+  pub enough-by-steps : (k : ℕ) → k < length order → pops (getD order k 0) ≤ length (heldAfterAll size pops [] (take k order)) → popsAt (suc k) ≤ length (heldAfterAll sizeAt popsAt [] (upTo k))
+  enough-by-steps k b h = rw (pops-here k b, held-by-steps k (omega arith)) h
