@@ -1,12 +1,16 @@
 -- What the lent slices hold between the stages of an analysis.
 -- Assumes nothing.
-use Prim.Native.Nat.{ℕ}
+use Prim.Native.Nat.{ℕ, _+_, _≤_}
 use mathlib.Core.Path.{_≡_}
-use lib.ListN.{drop}
+use mathlib.Core.List.{List, _++_, map}
+use lib.ListN.{length, take, drop}
 use Rattle.papers.specs.Lists.{zeros}
 use Rattle.papers.specs.Job.{Pattern}
 use Rattle.papers.specs.Refusals.{Lent}
+use Rattle.papers.specs.Room.{peakOf}
 use Rattle.structure.specs.Stored.{Listed}
+use Rattle.room.specs.Rows.{rowsIn}
+use Rattle.order.specs.Given.{Given, popsIn, orderIn}
 
 -- the lists of the first `done` columns, as many as there is room for, with their starts and parents; behind them, and behind the first n places of order
 -- and pops, zeros
@@ -14,3 +18,18 @@ pub record Listing (n done : ℕ) (A : Pattern) (before lent : Lent) : Type 0 wh
   pub listed : Listed n done A (zeros (before .parents)) (zeros (before .factorStarts)) (zeros (before .factorRows)) (lent .parents) (lent .factorStarts) (lent .factorRows)
   pub order : drop n (lent .order) ≡ drop n (zeros (before .order))
   pub pops : drop n (lent .pops) ≡ drop n (zeros (before .pops))
+
+-- the parents and the factor starts of n columns in the front of their slices, and places for the order and the pops
+pub record Orderable (mark n : ℕ) (parents order pops starts work : List ℕ) : Type 0 where
+  pub given : Given mark (take n parents) (take (n + 1) starts) n n (length work)
+  pub parents-long : n ≤ length parents
+  pub order-long : n ≤ length order
+  pub pops-long : n ≤ length pops
+  pub starts-long : n + 1 ≤ length starts
+
+-- the order of the mark and its pops in front of what lay behind the first n places; the peak is answered, and work is zero
+pub record Ordering (mark n : ℕ) (parents order₀ pops₀ starts work₀ order pops work : List ℕ) (peak : ℕ) : Type 0 where
+  pub steps : order ≡ orderIn mark (take n parents) (take (n + 1) starts) ++ drop n order₀
+  pub counts : pops ≡ map (popsIn (take n parents)) (orderIn mark (take n parents) (take (n + 1) starts)) ++ drop n pops₀
+  pub greatest : peak ≡ peakOf (rowsIn (take (n + 1) starts)) (popsIn (take n parents)) (orderIn mark (take n parents) (take (n + 1) starts))
+  pub cleared : work ≡ zeros work₀

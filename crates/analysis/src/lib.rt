@@ -3,7 +3,7 @@ ghost use mathlib.Core.Path.{_≡_};
 ghost use Rattle.papers.specs.Job.{columnOf};
 ghost use Rattle.column_laws.specs.Tested.{Tested};
 ghost use Rattle.lent.specs.Six.{six, LongEnough};
-ghost use Rattle.analysis.specs.Stages.{Listing};
+ghost use Rattle.analysis.specs.Stages.{Listing, Orderable, Ordering};
 
 // The lists of the columns in cleared slices, as far as they fit; answers how many columns are done. Order and pops are the joiner's buffers here.
 pub fn list_columns(
@@ -33,4 +33,30 @@ pub fn list_columns(
         &mut pops[..n],
         work,
     )
+}
+
+// The order of the columns by the mark and the pops of its steps, in the front of their slices, from the parents and factor starts there; answers
+// the peak, and leaves work zero.
+pub fn order_columns(
+    mark: u64,
+    n: usize,
+    parents: &[u32],
+    order: &mut [u32],
+    pops: &mut [u32],
+    fstarts: &[u64],
+    work: &mut [u64],
+) -> u64
+    requires { ⌜ Orderable mark n (now parents) (now order) (now pops) (now fstarts) (now work) ⌝ }
+    ensures { λ r. ⌜ Ordering mark n (now (parents .entry)) (now (order .entry)) (now (pops .entry)) (now (fstarts .entry)) (now (work .entry)) (now (order .exit)) (now (pops .exit)) (now (work .exit)) r ⌝ }
+{
+    let peak = order::order_of(
+        mark,
+        &parents[..n],
+        &fstarts[..n + 1],
+        &mut order[..n],
+        &mut pops[..n],
+        work,
+    );
+    slices::clear64(work);
+    peak
 }
