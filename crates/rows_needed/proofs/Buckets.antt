@@ -3,8 +3,8 @@
 -- Assumes nothing.
 use Prim.Native.Nat.{ℕ, suc, _+_, _-_, _<_, _≤_}
 use mathlib.Core.Path.{_≡_, refl, sym}
-use mathlib.Core.Logic.{_⊎_, inl, inr, ⊎-elim, _≢_}
-use mathlib.Core.List.{List, [], _∷_, List·Memᴰ·head, List·Memᴰ·tail, List·Memᴰ·not-nil}
+use mathlib.Core.Logic.{⊎-elim, _≢_}
+use mathlib.Core.List.{List, _∷_, List·Memᴰ·head, List·Memᴰ·tail, List·Memᴰ·not-nil}
 use native.Mathlib.Omega.{arith}
 use lib.ListN.{length, getD}
 use Rattle.papers.specs.Lists.{_∈_, Distinct}
@@ -12,7 +12,6 @@ use Rattle.papers.specs.Job.{columnOf}
 use Rattle.list_laws.proofs.Tests.{Compare, below, level, above, compare, below-or}
 use Rattle.list_laws.proofs.Ascending.{drop-head}
 use Rattle.column_laws.specs.Tested.{Tested}
-use Rattle.column_laws.specs.Chains.{Chain}
 use Rattle.column_laws.proofs.Chains.{Linked, chain-end, chain-on, chain-ext}
 use Rattle.column_laws.proofs.Slices.{At}
 use Rattle.column_laws.proofs.Columns.{row-at, rows-rise}

@@ -18,7 +18,7 @@ use Rattle.fill_laws.proofs.Fill.{R-asc, R-range}
 use Rattle.fill_laws.proofs.Parents.{parent-least}
 use Rattle.column_laws.proofs.Places.{same-or}
 use Rattle.rows_needed.specs.Sums.{sumTo, under, hit}
-use Rattle.rows_needed.specs.Row.{tally, Known, Row}
+use Rattle.rows_needed.specs.Row.{tally, Row}
 use Rattle.rows_needed.proofs.Sums.{hit-yes, hit-no, sum-same, sum-bump, sum-few, under-few}
 
 -- a climb that meets a mark leaves nothing open

@@ -3,7 +3,7 @@
 -- Assumes nothing.
 use Prim.Native.Nat.{ℕ, zero, suc, _+_, _-_, _<_, _≤_}
 use mathlib.Core.Path.{_≡_, refl, sym, _∙_}
-use mathlib.Core.Logic.{_⊎_, inl, inr, ⊎-elim, _≢_}
+use mathlib.Core.Logic.{inl, ⊎-elim, _≢_}
 use mathlib.Core.List.{List, List·Memᴰ·not-nil}
 use native.Mathlib.Omega.{arith}
 use lib.ListN.{length, getD, set}
@@ -16,10 +16,10 @@ use Rattle.papers.specs.Tree.{parent, Under, top, up}
 use Rattle.list_laws.proofs.Tests.{below-or}
 use Rattle.fill_laws.proofs.Fill.{R-asc, R-range}
 use Rattle.fill_laws.proofs.Parents.{parent-mem, parent-above}
-use Rattle.fill_laws.proofs.Subtrees.{Reached, under-le, row-subtree}
+use Rattle.fill_laws.proofs.Subtrees.{under-le, row-subtree}
 use Rattle.column_laws.proofs.Places.{same-or}
-use Rattle.rows_needed.specs.Sums.{sumTo, under, hit}
-use Rattle.rows_needed.specs.Row.{tally, Known, Row, Between}
+use Rattle.rows_needed.specs.Sums.{sumTo, under}
+use Rattle.rows_needed.specs.Row.{tally, Row, Between}
 use Rattle.rows_needed.proofs.Sums.{hit-yes, hit-no, sum-same, sum-bump, sum-none, sum-lengths, under-none, under-all, under-miss, under-hit}
 
 -- row i is begun: its own column is marked

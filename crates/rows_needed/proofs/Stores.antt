@@ -9,8 +9,7 @@ use lib.ListN.{length, getD, set, length-set}
 use lib.Seq.{getD-set-same, getD-set-other}
 use borrow.Author.Tests.{lt-ltb, le-ltb}
 use Rattle.list_laws.proofs.Tests.{below-or}
-use Rattle.rows_needed.specs.Buckets.{cursor, UpTo, Buckets, pushed, filed}
-use Rattle.rows_needed.proofs.Buckets.{Stays}
+use Rattle.rows_needed.specs.Buckets.{UpTo, Buckets, pushed, filed}
 use Rattle.rows_needed.proofs.Filing.{New, Moved, file-none, file-some}
 
 pub filed-some : (n c q : ℕ) (starts rows w : List ℕ) → q < getD starts c 0 → filed n c q starts rows w ≡ pushed n (getD rows q 0) c (set w (n + n + n + c) q)

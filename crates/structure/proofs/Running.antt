@@ -1,8 +1,8 @@
 -- The loop over the columns: after m of them the slices hold their parents, starts and lists, and the next can be gathered and stored.
 -- Assumes nothing.
-use Prim.Native.Nat.{ℕ, zero, suc, _+_, _-_, _<_, _≤_}
+use Prim.Native.Nat.{ℕ, suc, _+_, _-_, _<_, _≤_}
 use mathlib.Core.Path.{_≡_, refl, sym, ap, _∙_}
-use mathlib.Core.List.{List, [], _∷_, _++_, map}
+use mathlib.Core.List.{List, [], _∷_, map}
 use native.Mathlib.Omega.{arith}
 use native.Mathlib.Numerals.{add-one}
 use lib.ListN.{length, getD, set, length-set, length-map, length-replicate}
@@ -19,7 +19,6 @@ use Rattle.fill_laws.proofs.Fill.{R-asc, R-range}
 use Rattle.column_laws.proofs.Places.{zero-at}
 use Rattle.column_laws.proofs.Families.{map-upTo, flat-more, length-more, starts-next, length-lists}
 use Rattle.child_lists.specs.Buffers.{held}
-use Rattle.structure.specs.Hung.{hung}
 use Rattle.structure.specs.Stored.{rowsTo, Stored, Next, Gathers, Storable, Stores, Lengths, Listed}
 use Rattle.structure.proofs.Hanging.{hung-none}
 use Rattle.structure.proofs.Storing.{parent-is, lacks, storable, stored-on}
