@@ -1,3 +1,11 @@
 pub mod Numbers
 pub mod NumberReading
 pub mod ShortestForm
+pub mod Fields
+pub mod Gaps
+pub mod Plans
+pub mod Begins
+pub mod Reaches
+pub mod Writing
+pub mod Groups
+pub mod Stands

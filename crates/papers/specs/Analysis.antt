@@ -5,7 +5,6 @@ use mathlib.Core.List.{List, [], _∷_, _++_, map}
 use lib.ListN.{length}
 use Rattle.papers.specs.Lists.{upTo, flat, startsFrom, zeros, thenZeros}
 use Rattle.papers.specs.Job.{Job, pattern}
-use Rattle.papers.specs.Fill.{R}
 use Rattle.papers.specs.Tree.{parent}
 use Rattle.papers.specs.Key.{keyOf}
 use Rattle.papers.specs.Plan.{Plan, columnsIn, popsIn, planOf, planBytes}
@@ -23,6 +22,7 @@ keyTests = map (λ test call. test (call .job)) jobTests ++ ((λ call. bytesTest
 unfoldable pub keyDone : KeyCall → Outcome (List ℕ)
 keyDone call = let key = keyOf (call .job) in record { answer = answer 0 0 (length key); lent = thenZeros key (call .bytes) }
 
+-- the whole outcome of writing a key
 unfoldable pub keyWritten : Job → List ℕ → Outcome (List ℕ)
 keyWritten job bytes = outcome keyTests keyDone zeros (record { job = job; bytes = bytes }) bytes
 
@@ -48,6 +48,7 @@ analysisTests =
 unfoldable pub analysisDone : AnalysisCall → Outcome Lent
 analysisDone call = let plan = planOf (call .job) in record { answer = answer 0 0 (plan .peak); lent = holdingPlan (call .job) plan (call .lent) }
 
+-- the whole outcome of an analysis
 unfoldable pub analysed : Job → Lent → Outcome Lent
 analysed job lent = outcome analysisTests analysisDone allZero (record { job = job; lent = lent }) lent
 
@@ -78,5 +79,6 @@ planDone call =
 unfoldable pub planZero : PlanLent → PlanLent
 planZero slices = record { lent = allZero (slices .lent); bytes = zeros (slices .bytes) }
 
+-- the whole outcome of writing a plan
 unfoldable pub planWritten : Job → PlanLent → Outcome PlanLent
 planWritten job slices = outcome planTests planDone planZero (record { job = job; slices = slices }) slices

@@ -1,4 +1,4 @@
--- The paper's bounds, each in one place.
+-- The bounds that the rules speak of, and one of our own for the listing, each in one place.
 -- Assumes nothing.
 use Prim.Native.Nat.{ℕ, _+_, _*_, _^_}
 
@@ -33,20 +33,20 @@ workLength n = 8 * n + 8
 -- ---- the program's and the solver's call's sizes (refusals 25, 26, 8)
 
 -- input bytes
-abbrev pub textBytes : ℕ
-textBytes = 8192
+abbrev pub inputBytes : ℕ
+inputBytes = 8192
 
 -- columns
-abbrev pub textColumns : ℕ
-textColumns = 256
+abbrev pub programColumns : ℕ
+programColumns = 256
 
 -- pattern rows
-abbrev pub textRows : ℕ
-textRows = 2048
+abbrev pub programRows : ℕ
+programRows = 2048
 
 -- factor rows
-abbrev pub textFactorRows : ℕ
-textFactorRows = 4096
+abbrev pub programFactorRows : ℕ
+programFactorRows = 4096
 
 -- a decimal has at most so many digits
 abbrev pub maxDigits : ℕ

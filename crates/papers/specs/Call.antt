@@ -2,16 +2,16 @@
 -- Assumes nothing.
 use Prim.Native.Nat.{ℕ, _+_, _*_, _^_}
 use mathlib.Core.Path.{_≡_}
-use mathlib.Core.Bool.{Bool, true, false, _||_}
+use mathlib.Core.Bool.{_||_}
 use mathlib.Core.List.{List, [], _∷_}
 use lib.Dec.{ltb}
 use lib.ListN.{length}
-use Rattle.papers.specs.Bounds.{edition, maxColumns, maxMark, maxLimit, textColumns, textRows}
+use Rattle.papers.specs.Bounds.{edition, maxColumns, maxMark, maxLimit, programColumns, programRows}
 use Rattle.papers.specs.Lists.{flat, startsFrom}
 use Rattle.papers.specs.Job.{Job}
 use Rattle.papers.specs.Key.{keyOf}
 use Rattle.papers.specs.Plan.{Read, got, bad, then, field, readLists, atEnd}
-use Rattle.papers.specs.Refusals.{answer, untouched, zeroed, Verdict, passed, refused, first, refusedIf, jobTests}
+use Rattle.papers.specs.Refusals.{answer, untouched, Verdict, passed, refused, first, refusedIf, jobTests}
 use Rattle.papers.specs.Check.{checked}
 use Rattle.papers.specs.Text.{buffers}
 use Rattle.papers.specs.declared.Answer.{Answer}
@@ -37,15 +37,16 @@ readableTest call = elim (readKey (call .key)) [ got job at ↦ passed | bad num
 
 -- 26: more columns or pattern rows than the program's sizes
 unfoldable pub sizesTest : SolverCall → Verdict
-sizesTest call = elim (readKey (call .key)) [ got job at ↦ refusedIf (ltb textColumns (job .n) || ltb textRows (length (job .rows))) (answer 26 0 0) untouched | bad number place ↦ passed ]
+sizesTest call = elim (readKey (call .key)) [ got job at ↦ refusedIf (ltb programColumns (job .n) || ltb programRows (length (job .rows))) (answer 26 0 0) untouched | bad number place ↦ passed ]
 
 unfoldable pub callTests : List (SolverCall → Verdict)
 callTests = readableTest ∷ sizesTest ∷ []
 
--- else the check, in the program's buffers
+-- else the check, in the program's buffers; an unreadable key has been refused before
 unfoldable pub keyChecked : SolverCall → Answer
 keyChecked call = elim (readKey (call .key)) [ got job at ↦ checked job (call .plan) buffers .answer | bad number place ↦ answer 27 0 0 ]
 
+-- number, place and count of the call
 unfoldable pub solverAnswer : SolverCall → Answer
 solverAnswer call = elim (first callTests call) [ passed ↦ keyChecked call | refused a leaves ↦ a ]
 

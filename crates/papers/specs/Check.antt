@@ -1,9 +1,9 @@
 -- The whole outcome of the check of a plan's bytes.
 -- Assumes nothing.
-use Prim.Native.Nat.{ℕ, zero, suc, _-_}
+use Prim.Native.Nat.{ℕ, _-_}
 use mathlib.Core.Bool.{Bool, true, false, not, _&&_}
 use mathlib.Core.List.{List, [], _∷_, _++_, map}
-use lib.Dec.{ltb, leb, eqb}
+use lib.Dec.{leb, eqb}
 use lib.ListN.{length, getD, take}
 use lib.Seq.{slice}
 use Rattle.papers.specs.Lists.{member, same, every, least, flat}
@@ -13,7 +13,7 @@ use Rattle.papers.specs.Tree.{parent, isUnder, subtreeOf}
 use Rattle.papers.specs.Order.{columnAt, popsOf, peak}
 use Rattle.papers.specs.Key.{keyOf}
 use Rattle.papers.specs.Plan.{Plan, columnsIn, popsIn, Read, got, bad, readPlan}
-use Rattle.papers.specs.Refusals.{answer, untouched, zeroed, Verdict, passed, refused, refusedIf, refusedAt, Outcome, outcome, jobTests, Lent, allZero, lengthsTest, factorRowsTest, peakTest}
+use Rattle.papers.specs.Refusals.{answer, zeroed, Verdict, passed, refused, refusedIf, refusedAt, Outcome, outcome, jobTests, Lent, allZero, lengthsTest, factorRowsTest, peakTest}
 use Rattle.papers.specs.Analysis.{holdingPlan}
 
 pub record CheckCall : Type 0 where
@@ -94,7 +94,7 @@ checkTests =
     ∷ ofPlan (λ call plan. peakTest (call .job .limit) (truePeak (call .job) plan))
     ∷ [])
 
--- done: the plan's own lists, order and pops, the parents, and the peak
+-- done: the plan's own lists, order and pops, the parents, and the peak. Where no plan was read an earlier test has refused.
 unfoldable pub checkDone : CheckCall → Outcome Lent
 checkDone call =
     elim (planRead call) [
@@ -102,5 +102,6 @@ checkDone call =
       | bad number place ↦ record { answer = answer number place 0; lent = allZero (call .lent) }
     ]
 
+-- the whole outcome of a check
 unfoldable pub checked : Job → List ℕ → Lent → Outcome Lent
 checked job plan lent = outcome checkTests checkDone allZero (record { job = job; plan = plan; lent = lent }) lent

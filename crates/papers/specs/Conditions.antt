@@ -1,14 +1,15 @@
 -- The conditions of the refusals as propositions, each with the answer that it gives; and what it means that an entry point answers by the first.
--- The tests of the other modules compute; crate refusal_laws proves that they agree with what stands here.
+-- The tests of the other modules compute; crate refusal_laws proves that they agree with what stands here, and bytes_laws that a number is read as
+-- `Stands` says.
 -- Assumes nothing.
 use Prim.Native.Nat.{ℕ, zero, suc, _+_, _-_, _*_, _<_, _≤_}
 use mathlib.Core.Path.{_≡_}
 use mathlib.Core.Logic.{_⊎_, _≢_}
-use mathlib.Core.Bool.{Bool, true, false}
+use mathlib.Core.Bool.{true, false}
 use mathlib.Core.List.{List, [], _∷_, _++_}
 use lib.Dec.{leb}
 use lib.ListN.{length, getD, take}
-use Rattle.papers.specs.Bounds.{maxColumns, maxLimit, workLength, maxGroups, maxPeak, textBytes, textColumns, textRows}
+use Rattle.papers.specs.Bounds.{maxColumns, maxLimit, workLength, maxGroups, maxPeak, inputBytes, programColumns, programRows, listingBytes}
 use Rattle.papers.specs.Lists.{_∈_, flat}
 use Rattle.papers.specs.Numbers.{readNumber}
 use Rattle.papers.specs.Job.{Job, pattern, start, columnOf}
@@ -21,7 +22,7 @@ use Rattle.papers.specs.Refusals.{answer, Lent}
 use Rattle.papers.specs.Analysis.{KeyCall, AnalysisCall, PlanCall}
 use Rattle.papers.specs.Check.{CheckCall, planRead, truePeak}
 use Rattle.papers.specs.Run.{RunCall, rowsIn, popsAt, roomIn, stateAfter}
-use Rattle.papers.specs.Text.{Input, numbersAt, textHead, textLists, afterLines}
+use Rattle.papers.specs.Text.{Input, numbersAt, textHead, textLists, afterLines, textJob, listingOf, buffers, ListingCall}
 use Rattle.papers.specs.Call.{Readable, SolverCall}
 use Rattle.papers.specs.declared.Answer.{Answer}
 use Rattle.papers.specs.declared.Number.{Number}
@@ -69,7 +70,7 @@ pub record Columns : Type 0 where
 abbrev pub columns : Job → Columns
 columns job = record { n = job .n; starts = job .starts; rows = job .rows }
 
--- the start behind column j lies before the one in front of it
+-- start j + 1 is below start j
 abbrev pub Falls : List ℕ → ℕ → Type 0
 Falls starts j = start starts (suc j) < start starts j
 
@@ -89,6 +90,7 @@ StartsBad c a = (p : ℕ) × BadStarts c p × (a ≡ answer 4 p 0)
 abbrev pub rowOf : Columns → ℕ → ℕ → ℕ
 rowOf c j k = getD (columnOf (c .starts) (c .rows) j) k 0
 
+-- there is such a row
 abbrev pub IsRow : Columns → ℕ → ℕ → Type 0
 IsRow c j k = (1 ≤ j) × (j ≤ c .n) × (k < length (columnOf (c .starts) (c .rows) j))
 
@@ -164,7 +166,7 @@ KeyDiffers call a =
 
 -- ---- 12 to 15: reading, number by number
 
--- the first k groups from `at` on have the high bit
+-- the first k bytes from `at` on are there and have the high bit; a place past the end counts as 0
 abbrev pub Continues : List ℕ → ℕ → ℕ → Type 0
 Continues s at k = (i : ℕ) → i < k → 128 ≤ getD s (at + i) 0
 
@@ -274,8 +276,8 @@ abbrev pub PopsWrong : Job → Plan → ℕ → Type 0
 PopsWrong job plan s = getD (popsIn (plan .steps)) (s - 1) 0 ≢ popsOf (job .n) (pattern job) (columnAt (columnsIn (plan .steps)) s)
 
 -- a condition that is given at the least step or column of the plan
-abbrev pub atLeast : ℕ → (Job → Plan → ℕ → Type 0) → Condition CheckCall
-atLeast number P = ofRead (λ call plan a. (p : ℕ) × Least (P (call .job) plan) (call .job .n) p × (a ≡ answer number p 0))
+abbrev pub leastPlaced : ℕ → (Job → Plan → ℕ → Type 0) → Condition CheckCall
+leastPlaced number P = ofRead (λ call plan a. (p : ℕ) × Least (P (call .job) plan) (call .job .n) p × (a ≡ answer number p 0))
 
 -- 20
 abbrev pub PeakWrong : Condition CheckCall
@@ -288,10 +290,10 @@ checkConditions =
     ∷ KeyDiffers
     ∷ PlanBad
     ∷ ofRead (λ call plan. RowsExceed (length (flat (plan .lists))) (call .lent))
-    ∷ atLeast 16 (λ job plan. Repeated (columnsIn (plan .steps)))
-    ∷ atLeast 17 NotR
-    ∷ atLeast 18 Faulty
-    ∷ atLeast 19 PopsWrong
+    ∷ leastPlaced 16 (λ job plan. Repeated (columnsIn (plan .steps)))
+    ∷ leastPlaced 17 NotR
+    ∷ leastPlaced 18 Faulty
+    ∷ leastPlaced 19 PopsWrong
     ∷ PeakWrong
     ∷ ofRead (λ call plan. PeakOver (call .job .limit) (truePeak (call .job) plan))
     ∷ [])
@@ -351,17 +353,17 @@ pub data RowLine : List ℕ → Type 0 where
 
 -- 26 at 0
 abbrev pub InputOver : Condition Input
-InputOver input a = ((input .more ≡ true) ⊎ (textBytes < length (input .text))) × (a ≡ answer 26 0 0)
+InputOver input a = ((input .more ≡ true) ⊎ (inputBytes < length (input .text))) × (a ≡ answer 26 0 0)
 
 -- line 1: 25, then 26
 pub data BadHead (input : Input) : Answer → Type 0 where
   bad-head : ¬ HeadLine (numbersAt (input .text) 1) → BadHead input (answer 25 1 0)
-  columns-over : HeadLine (numbersAt (input .text) 1) → textColumns < textHead (input .text) .n → BadHead input (answer 26 1 0)
+  columns-over : HeadLine (numbersAt (input .text) 1) → programColumns < textHead (input .text) .n → BadHead input (answer 26 1 0)
 
 -- the line of column j: 25, then 26 for the rows of the lines so far
 pub data BadLine (text : List ℕ) (j : ℕ) : ℕ → Type 0 where
   bad-line : ¬ RowLine (numbersAt text (suc j)) → BadLine text j 25
-  rows-over : RowLine (numbersAt text (suc j)) → textRows < length (flat (textLists text j)) → BadLine text j 26
+  rows-over : RowLine (numbersAt text (suc j)) → programRows < length (flat (textLists text j)) → BadLine text j 26
 
 abbrev pub LineBad : Condition Input
 LineBad input a =
@@ -374,13 +376,40 @@ TextAfter input a = (0 < length (afterLines (suc (textHead (input .text) .n)) (i
 abbrev pub textConditions : List (Condition Input)
 textConditions = InputOver ∷ BadHead ∷ LineBad ∷ TextAfter ∷ []
 
+-- the analysis that the program runs, in its buffers
+abbrev pub programAnalysis : Input → AnalysisCall
+programAnalysis input = record { job = textJob (input .text); lent = buffers }
+
+-- a text's faults come before its job's
+abbrev pub programConditions : List (Condition Input)
+programConditions = textConditions ++ of programAnalysis analysisConditions
+
+-- what is printed where nothing is refused
+abbrev pub programListing : Input → List ℕ
+programListing input = listingOf (textJob (input .text)) (planOf (textJob (input .text)) .peak)
+
+-- 7 of the listing as a function
+abbrev pub ListingShort : Condition ListingCall
+ListingShort call a = (length (call .bytes) < listingBytes) × (a ≡ answer 7 0 0)
+
 -- 27
 abbrev pub Unreadable : Condition SolverCall
 Unreadable call a = (¬ Readable (call .key)) × (a ≡ answer 27 0 0)
 
 -- 26
 abbrev pub SizesOver : Condition SolverCall
-SizesOver call a = (r : Readable (call .key)) × ((textColumns < r .job .n) ⊎ (textRows < length (r .job .rows))) × (a ≡ answer 26 0 0)
+SizesOver call a = (r : Readable (call .key)) × ((programColumns < r .job .n) ⊎ (programRows < length (r .job .rows))) × (a ≡ answer 26 0 0)
 
 abbrev pub callConditions : List (Condition SolverCall)
 callConditions = Unreadable ∷ SizesOver ∷ []
+
+-- the check of the plan for a job, in the program's buffers
+abbrev pub solverCheck : SolverCall → Job → CheckCall
+solverCheck call job = record { job = job; plan = call .plan; lent = buffers }
+
+-- the check for the job whose key this is refuses
+abbrev pub CheckRefuses : Condition SolverCall
+CheckRefuses call a = (r : Readable (call .key)) × Answered checkConditions (solverCheck call (r .job)) a
+
+abbrev pub solverConditions : List (Condition SolverCall)
+solverConditions = callConditions ++ (CheckRefuses ∷ [])

@@ -1,7 +1,7 @@
 -- Fill, and the lists R of the columns.
 -- Assumes nothing.
 use Prim.Native.Nat.{ℕ, zero, suc, _<_}
-use mathlib.Core.Bool.{Bool, true, false}
+use mathlib.Core.Bool.{true, false}
 use mathlib.Core.List.{List, [], _∷_}
 use lib.Dec.{ltb}
 use Rattle.papers.specs.Lists.{_∈_, member, keep, merge}

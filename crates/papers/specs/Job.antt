@@ -1,6 +1,6 @@
 -- A job, and its pattern.
 -- Assumes nothing.
-use Prim.Native.Nat.{ℕ, zero, suc, _-_, _≤_}
+use Prim.Native.Nat.{ℕ, suc, _-_, _≤_}
 use mathlib.Core.Path.{_≡_}
 use mathlib.Core.List.{List, []}
 use lib.ListN.{getD}
@@ -24,7 +24,7 @@ jobOf head starts rows = record { n = head .n; starts = starts; rows = rows; mar
 abbrev pub Pattern : Type 0
 Pattern = ℕ → List ℕ
 
--- the starts counted from 1
+-- the starts counted from 1; one that is not there reads as 0, so that a column past the last start is empty
 unfoldable pub start : List ℕ → ℕ → ℕ
 start starts k = getD starts (k - 1) 0
 

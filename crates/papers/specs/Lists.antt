@@ -101,6 +101,6 @@ startsFrom t (l ∷ ls) = t ∷ startsFrom (t + length l) ls
 abbrev pub zeros : List ℕ → List ℕ
 zeros lent = replicate (length lent) 0
 
--- a result, then zeros
+-- a result, then zeros; the result is no longer than the slice (7, 8 and 10 have been tested)
 unfoldable pub thenZeros : List ℕ → List ℕ → List ℕ
 thenZeros result lent = result ++ replicate (length lent - length result) 0

@@ -3,7 +3,7 @@
 use Prim.Native.Nat.{ℕ, zero, suc, _+_, _-_, _*_, _/_, _%_}
 use mathlib.Core.Bool.{Bool, true, false}
 use mathlib.Core.List.{List, [], _∷_, _++_}
-use lib.Dec.{ltb, eqb}
+use lib.Dec.{ltb}
 use lib.ListN.{length, getD}
 use Rattle.papers.specs.Bounds.{maxGroups}
 use Rattle.papers.specs.declared.Number.{Number}
@@ -14,7 +14,7 @@ unfoldable pub groupsOf : ℕ → ℕ → List ℕ
 groupsOf zero x = x ∷ []
 groupsOf (suc f) x = elim (ltb x 128) [ true ↦ x ∷ [] | false ↦ (x % 128 + 128) ∷ groupsOf f (x / 128) ]
 
--- the bytes of a number
+-- the bytes of a number below 128 to the sixth
 unfoldable pub bytesOf : ℕ → List ℕ
 bytesOf x = groupsOf (maxGroups - 1) x
 
@@ -23,7 +23,7 @@ unfoldable pub encode : List ℕ → List ℕ
 encode [] = []
 encode (x ∷ xs) = bytesOf x ++ encode xs
 
--- ---- reading, by place in the whole list of bytes; places count from 0 here
+-- ---- reading, by place in the whole list of bytes, each below 256; places count from 0 here
 
 -- a number whose first group is low, and the rest of whose groups were read behind it
 unfoldable pub over : ℕ → Number → Number

@@ -29,14 +29,15 @@ pub record Ordered (par : ℕ → ℕ) (n : ℕ) (order : List ℕ) : Type 0 whe
 -- ---- the order of a mark
 
 -- the key by which siblings descend: of a child with its rows and its W, under a parent with `above` rows.
--- Mark 0: none, so that the numbers ascend; 1: W less the update's entries; 2: the update's entries.
+-- Mark 0: none, so that the numbers ascend; 1: W less the update's entries, which are part of it; 2: the update's entries. No mark looks at
+-- `above` today.
 unfoldable pub siblingKey : ℕ → ℕ → ℕ → ℕ → ℕ
 siblingKey zero above rows W = 0
 siblingKey (suc zero) above rows W = W - t rows
 siblingKey (suc (suc m)) above rows W = t rows
 
 module _ (mark : ℕ) (size : ℕ → ℕ) (kids : ℕ → List ℕ) where
-  -- the peak of a subtree done alone, in the order of its steps
+  -- W of a column whose subtree takes these steps: their peak, done alone
   unfoldable pub alone : List ℕ → ℕ
   alone steps = peakOf size (λ j. length (kids j)) steps
 
@@ -63,7 +64,7 @@ popsOf n A j = length (kidsOf n A j)
 unfoldable pub W : ℕ → ℕ → Pattern → ℕ → ℕ
 W mark n A j = alone mark (rowCount A) (kidsOf n A) (stepsOf mark (rowCount A) (kidsOf n A) n j)
 
--- the order: the subtrees of the roots, ascending
+-- the order: the subtrees of the roots, ascending. A parent is above its children, so n columns are deep enough.
 unfoldable pub orderOf : ℕ → ℕ → Pattern → List ℕ
 orderOf mark n A = flatMap (stepsOf mark (rowCount A) (kidsOf n A) n) (kidsOf n A 0)
 

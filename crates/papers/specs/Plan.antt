@@ -1,7 +1,7 @@
 -- A plan, its bytes, and the reading of a plan's bytes.
 -- Assumes nothing.
 use Prim.Native.Nat.{ℕ, zero, suc, _+_, _-_}
-use mathlib.Core.Bool.{Bool, true, false}
+use mathlib.Core.Bool.{true, false}
 use mathlib.Core.List.{List, [], _∷_, _++_, map}
 use lib.Dec.{ltb}
 use lib.ListN.{length}
@@ -72,6 +72,7 @@ inField lo hi at Ended = bad 12 (at + 1)
 inField lo hi at TooLong = bad 13 (at + 1)
 inField lo hi at NotShortest = bad 13 (at + 1)
 
+-- the number that starts at `at`, as a field from lo to hi
 unfoldable pub field : ℕ → ℕ → List ℕ → ℕ → Read ℕ
 field lo hi s at = inField lo hi at (readNumber s at)
 

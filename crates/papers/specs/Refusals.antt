@@ -69,7 +69,7 @@ markTest job = refusedIf (ltb maxMark (job .mark)) (answer 2 0 0) untouched
 unfoldable pub limitTest : Job → Verdict
 limitTest job = refusedIf (ltb maxLimit (job .limit)) (answer 3 0 0) untouched
 
--- the start behind column j's rows lies before the one in front of them
+-- start j + 1 is below start j: the rows of column j would end before they begin
 unfoldable pub falls : List ℕ → ℕ → Bool
 falls starts j = ltb (start starts (suc j)) (start starts j)
 
@@ -96,6 +96,7 @@ unfoldable pub rowsFault : ℕ → ℕ → ℕ → List ℕ → ℕ
 rowsFault n j before [] = 0
 rowsFault n j before (r ∷ rs) = elim (rowFault n j before r) [ zero ↦ rowsFault n j r rs | suc f ↦ suc f ]
 
+-- the first fault in column j
 unfoldable pub columnFault : ℕ → List ℕ → List ℕ → ℕ → ℕ
 columnFault n starts rows j = rowsFault n j j (columnOf starts rows j)
 

@@ -13,7 +13,8 @@ unfoldable pub topUpdate : ℕ → List ℕ → ℕ
 topUpdate zero held = 0
 topUpdate (suc p) held = head0 held
 
--- room in use at a step: the entries held before it, less the top update if pops is not 0, plus those of a front of r + 1 rows
+-- room in use at a step: the entries held before it, less the top update if pops is not 0, plus those of a front of r + 1 rows. The top update
+-- is one of those held, so nothing is cut off.
 unfoldable pub roomAt : ℕ → ℕ → List ℕ → ℕ
 roomAt pops r held = sum held - topUpdate pops held + t (suc r)
 

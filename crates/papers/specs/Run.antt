@@ -1,7 +1,7 @@
 -- The whole outcome of a run of steps on a stack of updates.
 -- Assumes nothing.
 use Prim.Native.Nat.{ℕ, zero, suc, _-_, max}
-use mathlib.Core.Bool.{Bool, true, false, not, _&&_, _||_}
+use mathlib.Core.Bool.{Bool, true, false, _&&_, _||_}
 use mathlib.Core.List.{List, [], _∷_, map}
 use lib.Dec.{ltb, leb}
 use lib.ListN.{length, getD, take, drop}
@@ -112,5 +112,6 @@ runTests =
 unfoldable pub runDone : RunCall → Outcome (List ℕ)
 runDone call = record { answer = answer 0 0 (stateAfter call (call .n) .greatest); lent = zeros (call .stack) }
 
+-- the whole outcome of a run
 unfoldable pub ran : RunCall → Outcome (List ℕ)
 ran call = outcome runTests runDone zeros call (call .stack)

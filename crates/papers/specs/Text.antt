@@ -2,15 +2,15 @@
 -- Assumes nothing.
 use Prim.Native.Nat.{ℕ, zero, suc, _+_, _-_, _*_, _/_, _%_}
 use mathlib.Core.Bool.{Bool, true, false, not, _&&_, _||_}
-use mathlib.Core.List.{List, [], _∷_, _++_, map, flatMap}
+use mathlib.Core.List.{List, [], _∷_, _++_, map}
 use lib.Dec.{ltb, leb, eqb}
-use lib.ListN.{length, getD, replicate, take}
-use Rattle.papers.specs.Bounds.{textBytes, textColumns, textRows, textFactorRows, workLength, maxDigits, defaultMark, listingBytes}
+use lib.ListN.{length, replicate}
+use Rattle.papers.specs.Bounds.{inputBytes, programColumns, programRows, programFactorRows, workLength, maxDigits, defaultMark, listingBytes}
 use Rattle.papers.specs.Lists.{every, upTo, least, flat, startsFrom, zeros, thenZeros}
 use Rattle.papers.specs.Job.{Job, Pattern, pattern}
 use Rattle.papers.specs.Fill.{R}
 use Rattle.papers.specs.Order.{popsOf, orderOf, roomsOf}
-use Rattle.papers.specs.Refusals.{answer, untouched, Verdict, passed, refused, first, refusedIf, refusedAt, Outcome, outcome, Lent}
+use Rattle.papers.specs.Refusals.{answer, untouched, Verdict, passed, refused, first, refusedIf, Outcome, outcome, Lent}
 use Rattle.papers.specs.Analysis.{analysed}
 use Rattle.papers.specs.declared.Answer.{Answer}
 
@@ -34,13 +34,15 @@ pub data Cut : Type 0 where
   line : List ℕ → List ℕ → Cut
   unended : Cut
 
-unfoldable pub after : ℕ → Cut → Cut
-after b (line l rest) = line (b ∷ l) rest
-after b unended = unended
+-- the byte b before the first line
+unfoldable pub startingWith : ℕ → Cut → Cut
+startingWith b (line l rest) = line (b ∷ l) rest
+startingWith b unended = unended
 
+-- the first line of a text, up to its newline
 unfoldable pub cut : List ℕ → Cut
 cut [] = unended
-cut (b ∷ bs) = elim (eqb b newline) [ true ↦ line [] bs | false ↦ after b (cut bs) ]
+cut (b ∷ bs) = elim (eqb b newline) [ true ↦ line [] bs | false ↦ startingWith b (cut bs) ]
 
 -- what follows the first q lines
 unfoldable pub afterLines : ℕ → List ℕ → List ℕ
@@ -49,11 +51,12 @@ afterLines (suc q) text = elim (cut (afterLines q text)) [ line l rest ↦ rest 
 
 -- ---- numbers of a line
 
--- the words of a line, which stand between single spaces
+-- the byte b before the first word
 unfoldable pub onWord : ℕ → List (List ℕ) → List (List ℕ)
 onWord b [] = (b ∷ []) ∷ []
 onWord b (w ∷ ws) = (b ∷ w) ∷ ws
 
+-- the words of a line, which stand between single spaces
 unfoldable pub wordsOf : List ℕ → List (List ℕ)
 wordsOf [] = [] ∷ []
 wordsOf (b ∷ bs) = elim (eqb b space) [ true ↦ [] ∷ wordsOf bs | false ↦ onWord b (wordsOf bs) ]
@@ -64,6 +67,7 @@ isDecimal [] = false
 isDecimal (d ∷ []) = isDigit d
 isDecimal (d ∷ e ∷ ds) = every isDigit (d ∷ e ∷ ds) && not (eqb d (digit 0)) && leb (length (d ∷ e ∷ ds)) maxDigits
 
+-- whether every word is one
 unfoldable pub allDecimal : List (List ℕ) → Bool
 allDecimal [] = true
 allDecimal (w ∷ ws) = isDecimal w && allDecimal ws
@@ -73,6 +77,7 @@ unfoldable pub valueOf : ℕ → List ℕ → ℕ
 valueOf v [] = v
 valueOf v (d ∷ ds) = valueOf (10 * v + (d - digit 0)) ds
 
+-- the numbers of a line; none where a word is no decimal
 unfoldable pub numbersOf : List ℕ → List ℕ
 numbersOf l = let words = wordsOf l in elim (allDecimal words) [ true ↦ map (valueOf 0) words | false ↦ [] ]
 
@@ -88,9 +93,11 @@ pub record Head : Type 0 where
   pub limit : ℕ
   pub mark : ℕ
 
+-- where the line is bad n is 0; line 1 has then refused
 abbrev pub badHead : Head
 badHead = record { fine = false; n = 0; limit = 0; mark = 0 }
 
+-- what the numbers of line 1 say
 unfoldable pub headOf : List ℕ → Head
 headOf [] = badHead
 headOf (n ∷ []) = badHead
@@ -116,13 +123,14 @@ textHead text = headOf (numbersAt text 1)
 unfoldable pub textLists : List ℕ → ℕ → List (List ℕ)
 textLists text n = map (λ j. rowsOfLine (numbersAt text (suc j))) (upTo n)
 
+-- the job of a text without faults
 unfoldable pub textJob : List ℕ → Job
 textJob text =
     let head = textHead text in
     let lists = textLists text (head .n) in
     record { n = head .n; starts = startsFrom 0 lists; rows = flat lists; mark = head .mark; limit = head .limit }
 
--- ---- 25 and 26, by the first line at fault
+-- ---- 25 and 26, by the first line at fault. Nothing is lent here, so `untouched` says nothing.
 
 -- what standard input held: at most 8,192 bytes of it, and whether more followed
 pub record Input : Type 0 where
@@ -131,18 +139,18 @@ pub record Input : Type 0 where
 
 -- 26 at 0: more input than 8,192 bytes
 unfoldable pub inputTest : Input → Verdict
-inputTest input = refusedIf (input .more || ltb textBytes (length (input .text))) (answer 26 0 0) untouched
+inputTest input = refusedIf (input .more || ltb inputBytes (length (input .text))) (answer 26 0 0) untouched
 
 -- line 1: 25 bad text, then 26 more than 256 columns
 unfoldable pub headTest : Input → Verdict
 headTest input =
     let head = textHead (input .text) in
-    elim (head .fine) [ false ↦ refused (answer 25 1 0) untouched | true ↦ refusedIf (ltb textColumns (head .n)) (answer 26 1 0) untouched ]
+    elim (head .fine) [ false ↦ refused (answer 25 1 0) untouched | true ↦ refusedIf (ltb programColumns (head .n)) (answer 26 1 0) untouched ]
 
 -- the fault of column j's line: 25 missing or bad text, then 26 more than 2,048 pattern rows with those of the lines before; 0 for none
 unfoldable pub lineFault : List ℕ → ℕ → ℕ
 lineFault text j =
-    elim (isRowLine (numbersAt text (suc j))) [ false ↦ 25 | true ↦ elim (ltb textRows (length (flat (textLists text j)))) [ true ↦ 26 | false ↦ 0 ] ]
+    elim (isRowLine (numbersAt text (suc j))) [ false ↦ 25 | true ↦ elim (ltb programRows (length (flat (textLists text j)))) [ true ↦ 26 | false ↦ 0 ] ]
 
 -- the first of the n row lines at fault; column j's is line j + 1
 unfoldable pub rowLinesTest : Input → Verdict
@@ -163,6 +171,7 @@ textTests = inputTest ∷ headTest ∷ rowLinesTest ∷ endTest ∷ []
 
 -- ---- what is printed
 
+-- the digits of x, at most f of them after the first
 unfoldable pub digitsOf : ℕ → ℕ → List ℕ
 digitsOf zero x = digit (x % 10) ∷ []
 digitsOf (suc f) x = elim (ltb x 10) [ true ↦ digit x ∷ [] | false ↦ digitsOf f (x / 10) ++ (digit (x % 10) ∷ []) ]
@@ -202,7 +211,7 @@ listingOf job peak =
 -- the program's zeroed buffers
 unfoldable pub buffers : Lent
 buffers =
-    record { parents = replicate textColumns 0; order = replicate textColumns 0; pops = replicate textColumns 0; factorStarts = replicate (textColumns + 1) 0; factorRows = replicate textFactorRows 0; work = replicate (workLength textColumns) 0 }
+    record { parents = replicate programColumns 0; order = replicate programColumns 0; pops = replicate programColumns 0; factorStarts = replicate (programColumns + 1) 0; factorRows = replicate programFactorRows 0; work = replicate (workLength programColumns) 0 }
 
 -- the listing of a job, or the line of its refusal
 unfoldable pub jobPrinted : Job → Answer → List ℕ
@@ -213,7 +222,8 @@ unfoldable pub programPrints : Input → List ℕ
 programPrints input =
     elim (first textTests input) [ passed ↦ jobPrinted (textJob (input .text)) (analysed (textJob (input .text)) buffers .answer) | refused a leaves ↦ refusalLine a ]
 
--- ---- the listing into a lent slice: 7 where it is shorter than any listing may need
+-- ---- the listing into a lent slice: 7 where it is shorter than any listing may need. A refusal of the text or of its job is what is printed:
+-- the answer is then 0, and the count the bytes of that line.
 
 pub record ListingCall : Type 0 where
   pub input : Input
@@ -225,5 +235,6 @@ listingTests = (λ call. refusedIf (ltb (length (call .bytes)) listingBytes) (an
 unfoldable pub listingDone : ListingCall → Outcome (List ℕ)
 listingDone call = let out = programPrints (call .input) in record { answer = answer 0 0 (length out); lent = thenZeros out (call .bytes) }
 
+-- the whole outcome of a listing
 unfoldable pub listed : Input → List ℕ → Outcome (List ℕ)
 listed input bytes = outcome listingTests listingDone zeros (record { input = input; bytes = bytes }) bytes

@@ -1,0 +1,10 @@
+pub mod Keys
+pub mod Turns
+pub mod Parts
+pub mod Placing
+pub mod Works
+pub mod Arranging
+pub mod Marked
+pub mod Families
+pub mod Walked
+pub mod Peaks

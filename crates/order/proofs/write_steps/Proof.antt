@@ -1,0 +1,82 @@
+-- The lists laid out are what arranging asks for, and arranged they are what the walk asks for.
+-- Assumes nothing.
+use mathlib.Core.Path.{sym, _∙_}
+use native.Mathlib.Omega.{arith}
+use lib.Seq.{length-take-le}
+use borrow.Author.Needs.{needs}
+use Rattle.order.proofs.Walked.{walk-asked, walk-wrote, arrange-asked, lists-lie, starts-lie}
+use Rattle.order.proofs.write_steps.Statement.{statement}
+use Rattle.order.proofs.write_steps.Tie as tie
+
+add-m : tie.Need-add-m
+add-m c = search needs
+
+add-w : tie.Need-add-w
+add-w c = search needs
+
+add-w-2 : tie.Need-add-w-2
+add-w-2 c = search needs
+
+add-k : tie.Need-add-k
+add-k c = search needs
+
+add-k-2 : tie.Need-add-k-2
+add-k-2 c = search needs
+
+lay-out-requires : tie.Need-lay-out-requires
+lay-out-requires c κs = search needs
+
+arrange-requires : tie.Need-arrange-requires
+arrange-requires c κs = arrange-asked (c .before .before .before .before .before .before .before .before .before .before .before .before .before .before .before .pre) (c .before .before .before .before .before .before .before .lay-out .ensures) (c .before .before .before .before .before .before .before .lay-out .kept .1 .0) (c .before .before .before .before .before .before .before .lay-out .kept .1 .1 .0)
+
+slice-aggregate-steps : tie.Need-slice-aggregate-steps
+slice-aggregate-steps c = sym (length-take-le _ (c .before .before .before .before .before .before .before .before .arrange .last .1 .1 .1 .1 .0) (omega (arith, c .before .before .before .before .before .before .before .before .arrange .kept .1 .1 .1 .1 .0, c .before .before .before .before .before .before .before .before .before .before .before .before .before .before .before .before .lay-out .kept .1 .1 .0, c .before .before .before .before .before .before .before .before .before .before .before .before .before .before .before .before .before .before .before .before .before .before .before .before .pre .work-length)))
+
+mul-steps : tie.Need-mul-steps
+mul-steps c = search needs
+
+sub-steps : tie.Need-sub-steps
+sub-steps c = search needs
+
+part-steps-start : tie.Need-part-steps-start
+part-steps-start c = search needs
+
+part-steps-end : tie.Need-part-steps-end
+part-steps-end c = search needs
+
+steps-requires : tie.Need-steps-requires
+steps-requires c κs = walk-asked (lists-lie (c .before .before .before .before .before .before .before .before .before .before .before .before .before .before .before .before .before .before .before .before .before .before .before .before .before .before .before .pre) (c .before .before .before .before .before .before .before .before .before .before .before .before .before .before .before .before .before .before .before .lay-out .ensures) (c .before .before .before .before .before .before .before .before .before .before .before .before .before .before .before .before .before .before .before .lay-out .kept .1 .0) (c .before .before .before .before .before .before .before .before .before .before .before .before .before .before .before .before .before .before .before .lay-out .kept .1 .1 .0) (c .before .before .before .before .before .before .before .before .before .before .before .arrange .ensures) (c .before .before .before .before .before .before .before .before .before .before .before .arrange .kept .1 .1 .0)) _ (c .before .before .before .before .before .before .before .before .before .before .before .arrange .kept .1 .1 .1 .0 ∙ c .before .before .before .before .before .before .before .before .before .before .before .before .before .before .before .before .before .before .before .before .before .before .before .before .before .before .before .pre .order-length)
+
+same-length : tie.Need-same-length
+same-length c = search needs
+
+same-length-2 : tie.Need-same-length-2
+same-length-2 c = search needs
+
+same-length-3 : tie.Need-same-length-3
+same-length-3 c = search needs
+
+returns : tie.Need-returns
+returns c = (walk-wrote (lists-lie (c .before .before .before .before .before .before .before .before .before .before .before .before .before .before .before .before .before .before .before .before .before .before .before .before .before .before .before .before .before .before .pre) (c .before .before .before .before .before .before .before .before .before .before .before .before .before .before .before .before .before .before .before .before .before .before .lay-out .ensures) (c .before .before .before .before .before .before .before .before .before .before .before .before .before .before .before .before .before .before .before .before .before .before .lay-out .kept .1 .0) (c .before .before .before .before .before .before .before .before .before .before .before .before .before .before .before .before .before .before .before .before .before .before .lay-out .kept .1 .1 .0) (c .before .before .before .before .before .before .before .before .before .before .before .before .before .before .arrange .ensures) (c .before .before .before .before .before .before .before .before .before .before .before .before .before .before .arrange .kept .1 .1 .0)) (c .before .before .before .before .before .before .before .before .before .before .before .before .before .before .arrange .last .1 .1 .1 .0) (c .before .before .before .before .before .before .before .before .before .before .before .before .before .before .arrange .kept .1 .1 .1 .0 ∙ c .before .before .before .before .before .before .before .before .before .before .before .before .before .before .before .before .before .before .before .before .before .before .before .before .before .before .before .before .before .before .pre .order-length) (c .before .before .steps .ensures), starts-lie (c .before .before .before .before .before .before .before .before .before .before .before .before .before .before .before .before .before .before .before .before .before .before .before .before .before .before .before .before .before .before .pre) (c .before .before .before .before .before .before .before .before .before .before .before .before .before .before .before .before .before .before .before .before .before .before .lay-out .ensures) (c .before .before .before .before .before .before .before .before .before .before .before .before .before .before .before .before .before .before .before .before .before .before .lay-out .kept .1 .0) (c .before .before .before .before .before .before .before .before .before .before .before .before .before .before .before .before .before .before .before .before .before .before .lay-out .kept .1 .1 .0) (c .before .before .before .before .before .before .before .before .before .before .before .before .before .before .arrange .ensures) (c .before .before .before .before .before .before .before .before .before .before .before .before .before .before .arrange .kept .1 .1 .0))
+
+pub write-steps-spec : {M : Type 1} → statement M
+write-steps-spec =
+    tie.close
+    (tie.spec
+    add-m
+    add-w
+    add-w-2
+    add-k
+    add-k-2
+    lay-out-requires
+    arrange-requires
+    slice-aggregate-steps
+    mul-steps
+    sub-steps
+    part-steps-start
+    part-steps-end
+    steps-requires
+    same-length
+    same-length-2
+    same-length-3
+    returns)
