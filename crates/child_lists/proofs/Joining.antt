@@ -1,10 +1,10 @@
 -- The loop over a column's children: what is held and the children left make the whole list, what is marked is held, and only marks change.
 -- Assumes nothing.
-use Prim.Native.Nat.{ℕ, suc, _+_, _-_, _<_, _≤_}
+use Prim.Native.Nat.{ℕ, _+_, _-_, _<_, _≤_}
 use mathlib.Core.Path.{_≡_, refl, sym, ap, _∙_}
-use mathlib.Core.Logic.{_⊎_, inl, inr, _≢_}
+use mathlib.Core.Logic.{_≢_}
 use mathlib.Core.Bool.{true}
-use mathlib.Core.List.{List, [], _∷_, List·Memᴰ·head, List·Memᴰ·tail}
+use mathlib.Core.List.{List, _∷_, List·Memᴰ·head, List·Memᴰ·tail}
 use native.Mathlib.Omega.{arith}
 use lib.ListN.{length, getD, take}
 use lib.Seq.{length-take-le}
@@ -13,7 +13,7 @@ use Rattle.list_laws.proofs.Ascending.{asc-above}
 use Rattle.list_laws.proofs.Merges.{merge-left, merge-right}
 use Rattle.column_laws.proofs.Chains.{chain-end, chain-only}
 use Rattle.child_lists.specs.Marks.{marked, isMarked, Markable, Sound, Changed}
-use Rattle.child_lists.specs.Buffers.{buffer, held, Roomy}
+use Rattle.child_lists.specs.Buffers.{held, Roomy}
 use Rattle.child_lists.specs.Children.{handedOn, Child, Siblings, Makes, Begun, Joining, Joined}
 use Rattle.child_lists.proofs.Marks.{marks-sound, changed-none, changed-more, changed-marked, covered-in}
 use Rattle.child_lists.proofs.Buffers.{first-buffer}

@@ -1,22 +1,31 @@
 -- The pattern of a tested job: its rows stand strictly below the diagonal, and the rows of a column are the part between its two starts.
 -- Assumes nothing.
-use Prim.Native.Nat.{ℕ, suc, _+_, _<_, _≤_}
-use mathlib.Core.Path.{_≡_, sym, _∙_}
+use Prim.Native.Nat.{ℕ, suc, _+_, _-_, _<_, _≤_}
+use mathlib.Core.Path.{_≡_, ap}
 use mathlib.Core.List.{List}
 use native.Mathlib.Omega.{arith}
 use native.Mathlib.Numerals.{add-one}
 use lib.ListN.{length, getD}
+use lib.Seq.{slice}
+use Rattle.papers.specs.Lists.{_∈_}
 use Rattle.papers.specs.Job.{start, columnOf, Below}
+use Rattle.list_laws.proofs.Ascending.{asc-above}
 use Rattle.job_laws.proofs.Starts.{start-at, start-within}
 use Rattle.job_laws.proofs.Passed.{PassedLists, lists-iff, lists-below}
 use Rattle.column_laws.specs.Tested.{Tested}
 use Rattle.column_laws.specs.Chains.{part}
 use Rattle.column_laws.proofs.Parts.{part-slice}
+use Rattle.column_laws.proofs.Slices.{At, in-slice, slice-has, slice-rises}
 
 -- the rows of column m + 1 are the part between its two starts
 pub column-part : (starts rows : List ℕ) (m : ℕ) → part (getD starts m 0) (getD starts (m + 1) 0) rows ≡ columnOf starts rows (m + 1)
 unfolding columnOf
 column-part starts rows m = rw (add-one m, start-at starts m, start-at starts (suc m)) (part-slice (getD starts m 0) (getD starts (suc m) 0) rows)
+
+-- the rows of column j are a slice
+column-slice : (starts rows : List ℕ) (j : ℕ) → columnOf starts rows j ≡ slice (getD starts (j - 1) 0) (getD starts j 0) rows
+unfolding columnOf start
+column-slice starts rows j = ap (λ e. slice (getD starts (j - 1) 0) e rows) (start-at starts j)
 
 module _ {n : ℕ} {starts rows : List ℕ} (t : Tested n starts rows) where
   lists : PassedLists n starts rows
@@ -34,3 +43,20 @@ module _ {n : ℕ} {starts rows : List ℕ} (t : Tested n starts rows) where
 
   pub starts-fit : (m : ℕ) → m ≤ n → getD starts m 0 ≤ length rows
   starts-fit m h = rw (← start-at starts m) (start-within (lists .whole) (suc m) (omega arith) (omega arith))
+
+  -- ---- the rows of column c by their places
+
+  module _ (c : ℕ) (high : c ≤ n) where
+    pub row-at : (i : ℕ) → i ∈ columnOf starts rows c → At i (getD starts (c - 1) 0) (getD starts c 0) rows
+    row-at i m = in-slice rows (getD starts c 0) (starts-fit c high) (getD starts (c - 1) 0) i (rw (column-slice starts rows c) at m)
+
+    -- a row of the column: above it, at most n
+    pub row-range : (q : ℕ) → getD starts (c - 1) 0 ≤ q → q < getD starts c 0
+        → (getD rows q 0 ∈ columnOf starts rows c) × ((c < getD rows q 0) × ((getD rows q 0 ≤ n) × (q < length rows)))
+    row-range q a b =
+        let m : getD rows q 0 ∈ columnOf starts rows c = rw (column-slice starts rows c) (slice-has rows (getD starts c 0) (starts-fit c high) (getD starts (c - 1) 0) q a b) in
+        (m, (asc-above c (columnOf starts rows c) (tested-below .ascending c) m, (tested-below .within (getD rows q 0) c m, omega (arith, starts-fit c high))))
+
+    pub rows-rise : (p q : ℕ) → getD starts (c - 1) 0 ≤ p → p < q → q < getD starts c 0 → getD rows p 0 < getD rows q 0
+    rows-rise p q =
+        slice-rises rows (getD starts c 0) (starts-fit c high) (getD starts (c - 1) 0) c p q (rw (column-slice starts rows c) at (tested-below .ascending c))

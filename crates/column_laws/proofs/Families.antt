@@ -6,7 +6,6 @@ use mathlib.Core.Logic.{⊎-elim}
 use mathlib.Core.List.{List, [], _∷_, _++_, map, append-nil}
 use native.Mathlib.Omega.{arith}
 use native.Mathlib.Nat.{le-suc-iff}
-use native.Mathlib.Numerals.{add-one}
 use lib.ListN.{length, take, drop, length-append, length-map}
 use lib.Seq.{take-all, take-append-le, take-take, take-add, drop-at}
 use Rattle.papers.specs.Lists.{upTo, flat, startsFrom}

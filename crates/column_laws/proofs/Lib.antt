@@ -1,4 +1,5 @@
 pub mod Places
+pub mod Slices
 pub mod Parts
 pub mod Chains
 pub mod Columns

@@ -1,1 +1,113 @@
 // The exact number of factor rows, counted without storing a list.
+// In work the mark of column c stands at c, the first column of row r at n + r, for column c the next of the same row at n + n + c and the
+// place of its next pattern row at n + n + n + c.
+ghost use mathlib.Core.Path.{_≡_};
+ghost use Prim.Native.Nat.{_+_, _<_};
+ghost use lib.ListN.{length, getD};
+ghost use Rattle.papers.specs.Lists.{flat};
+ghost use Rattle.papers.specs.Job.{columnOf};
+ghost use Rattle.papers.specs.Key.{listsOf};
+ghost use Rattle.papers.specs.Fill.{R};
+ghost use Rattle.column_laws.specs.Tested.{Tested};
+ghost use Rattle.rows_needed.specs.Row.{Climbing, Climbed};
+ghost use Rattle.rows_needed.specs.Buckets.{filed};
+ghost use Rattle.rows_needed.specs.Walk.{Filing, Walk, Begun, Lengths};
+
+// Climbs from column k, which has row i, from parent to parent up to a column that is marked for row i. Marks and counts each column on the
+// way: all of them have row i. A column without a parent so far has row i as its parent.
+pub fn climb(i: usize, k: usize, count: u64, parents: &mut [u32], work: &mut [u64]) -> u64
+    requires { ⌜ Climbing i k (now parents) (now work) count ⌝ }
+    ensures { λ r. ⌜ Climbed i k (now (parents .entry)) (now (work .entry)) count (now (parents .exit)) (now (work .exit)) r ⌝ }
+{
+    let mut c = k;
+    let mut t = count;
+    while work[c] != i as u64 {
+        work[c] = i as u64;
+        t += 1;
+        let p = parents[c - 1];
+        if p == 0 {
+            parents[c - 1] = i as u32;
+            c = i;
+        } else {
+            c = p as usize;
+        }
+    }
+    t
+}
+
+// Files column c, with q as the place of its next pattern row, in the bucket of that row, if it has one.
+pub fn file(n: usize, c: usize, q: u64, starts: &[u64], rows: &[u32], work: &mut [u64])
+    requires { ⌜ Filing n c q (now starts) (now rows) (now work) ⌝ }
+    ensures { λ _. ⌜ now (work .exit) ≡ filed n c q (now (starts .entry)) (now (rows .entry)) (now (work .entry)) ⌝ }
+{
+    work[n + n + n + c] = q;
+    if q < starts[c] {
+        let r = rows[q as usize] as usize;
+        work[n + n + c] = work[n + r];
+        work[n + r] = c as u64;
+    }
+}
+
+// Does all columns whose next pattern row is i: each is climbed from, and filed under its row after i. Answers the count with row i.
+pub fn walk(
+    n: usize,
+    i: usize,
+    count: u64,
+    starts: &[u64],
+    rows: &[u32],
+    parents: &mut [u32],
+    work: &mut [u64],
+) -> u64
+    requires { ⌜ Walk n i (now starts) (now rows) (now parents) (now work) count (getD (now work) (n + i) 0) ⌝ }
+    ensures { λ r. ⌜ Walk n i (now (starts .entry)) (now (rows .entry)) (now (parents .exit)) (now (work .exit)) r 0 ⌝ }
+{
+    let mut c = work[n + i] as usize;
+    let mut t = count;
+    while c != 0 {
+        let next = work[n + n + c] as usize;
+        t = climb(i, c, t, parents, work);
+        let q = work[n + n + n + c] + 1;
+        file(n, c, q, starts, rows, work);
+        c = next;
+    }
+    t
+}
+
+// Clears work and files every column under its first pattern row.
+pub fn begin(n: usize, starts: &[u64], rows: &[u32], work: &mut [u64])
+    requires tested { ⌜ Tested n (now starts) (now rows) ⌝ }
+    requires long { ⌜ n + n + n + n < length (now work) ⌝ }
+    ensures { λ _. ⌜ Begun n n (now (starts .entry)) (now (rows .entry)) (now (work .exit)) ⌝ }
+{
+    slices::clear64(work);
+    let mut m = 0;
+    while m < n {
+        file(n, m + 1, starts[m], starts, rows, work);
+        m += 1;
+    }
+}
+
+// The number of rows of all the lists R together: the rows are taken one by one, and a column has row i just where it is reached by
+// climbing from a column whose pattern has it.
+pub fn rows_needed(
+    n: usize,
+    starts: &[u64],
+    rows: &[u32],
+    parents: &mut [u32],
+    work: &mut [u64],
+) -> u64
+    requires tested { ⌜ Tested n (now starts) (now rows) ⌝ }
+    requires lengths { ⌜ Lengths n (now parents) (now work) ⌝ }
+    ensures { λ r. ⌜ r ≡ length (flat (listsOf n (R (columnOf (now (starts .entry)) (now (rows .entry)))))) ⌝ }
+{
+    slices::clear32(parents);
+    begin(n, starts, rows, work);
+    let mut m = 0;
+    let mut t = 0;
+    while m < n {
+        work[m + 1] = (m + 1) as u64;
+        t = walk(n, m + 1, t, starts, rows, parents, work);
+        m += 1;
+    }
+    t
+}

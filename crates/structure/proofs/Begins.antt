@@ -1,16 +1,16 @@
 -- The ways to gather a column's list: no child, one child, or several, of which the longest is joined first and the rest follow.
 -- Assumes nothing.
-use Prim.Native.Nat.{ℕ, _+_, _-_, _<_, _≤_}
-use mathlib.Core.Path.{_≡_, refl, sym, ap, _∙_}
-use mathlib.Core.Logic.{_⊎_, inl, inr, ⊎-elim, _≢_}
+use Prim.Native.Nat.{ℕ, _+_, _<_, _≤_}
+use mathlib.Core.Path.{_≡_, refl, ap, _∙_}
+use mathlib.Core.Logic.{⊎-elim, _≢_}
 use mathlib.Core.List.{List, [], _∷_, List·Memᴰ·head, List·Memᴰ·tail, List·Memᴰ·not-nil}
 use native.Mathlib.Omega.{arith}
-use lib.ListN.{length, getD, take, length-set}
+use lib.ListN.{length, getD, take}
 use lib.Seq.{sets, length-sets}
 use Rattle.papers.specs.Lists.{_∈_, Asc, merge}
-use Rattle.papers.specs.Job.{columnOf, Pattern, Below}
+use Rattle.papers.specs.Job.{Pattern, Below}
 use Rattle.papers.specs.Fill.{R}
-use Rattle.list_laws.proofs.Ascending.{asc-length, asc-above, drop-head}
+use Rattle.list_laws.proofs.Ascending.{asc-length}
 use Rattle.list_laws.proofs.Merges.{merge-asc, merge-left, merge-right, merge-from}
 use Rattle.fill_laws.proofs.Fill.{R-range, R-pattern}
 use Rattle.column_laws.specs.Tested.{Tested}
@@ -18,12 +18,11 @@ use Rattle.column_laws.proofs.Columns.{starts-long, starts-rise, starts-fit}
 use Rattle.column_laws.proofs.Parts.{front-stored}
 use Rattle.column_laws.proofs.Chains.{chain-end, chain-on}
 use Rattle.child_lists.specs.Marks.{marked, Markable, Sound, Changed}
-use Rattle.child_lists.specs.Buffers.{held}
-use Rattle.child_lists.specs.Children.{handedOn, Child, Siblings, Linked, Longest, Makes, Begun, Joining, Joined}
+use Rattle.child_lists.specs.Children.{handedOn, Linked, Longest, Makes, Begun, Joining, Joined}
 use Rattle.child_lists.proofs.Marks.{marks-sound, changed-none, changed-more, changed-marked}
 use Rattle.child_lists.proofs.Picking.{siblings-ext}
 use Rattle.child_lists.proofs.Buffers.{first-buffer}
-use Rattle.child_lists.proofs.Making.{makes-skip, makes-end, makes-few}
+use Rattle.child_lists.proofs.Making.{makes-skip, makes-end}
 use Rattle.structure.specs.Hung.{hung}
 use Rattle.structure.specs.Stored.{Part, Next, Gathers}
 use Rattle.structure.proofs.Gathering.{Found, found-child, chain, siblings, makes}

@@ -22,7 +22,7 @@ use Rattle.column_laws.proofs.Families.{length-more, length-grows, list-at}
 use Rattle.child_lists.specs.Children.{handedOn, Child, Siblings, Makes}
 use Rattle.structure.specs.Hung.{hung}
 use Rattle.structure.specs.Stored.{rowsTo, Stored, Next}
-use Rattle.structure.proofs.Hanging.{HungUnder, hung-from, hung-into, hung-desc}
+use Rattle.structure.proofs.Hanging.{hung-from, hung-into, hung-desc}
 
 -- ---- the list of a column in what is stored
 

@@ -1,8 +1,8 @@
 -- The loop over the columns: after m of them the slices hold their parents, starts and lists, and the next can be gathered and stored.
 -- Assumes nothing.
-use Prim.Native.Nat.{ℕ, zero, suc, _+_, _-_, _<_, _≤_}
+use Prim.Native.Nat.{ℕ, suc, _+_, _-_, _<_, _≤_}
 use mathlib.Core.Path.{_≡_, refl, sym, ap, _∙_}
-use mathlib.Core.List.{List, [], _∷_, _++_, map}
+use mathlib.Core.List.{List, [], _∷_, map}
 use native.Mathlib.Omega.{arith}
 use native.Mathlib.Numerals.{add-one}
 use lib.ListN.{length, getD, set, length-set, length-map, length-replicate}
@@ -16,9 +16,9 @@ use Rattle.list_laws.proofs.Ascending.{asc-length}
 use Rattle.list_laws.proofs.UpTo.{length-upTo}
 use Rattle.list_laws.proofs.Stores.{sets-append, length-starts}
 use Rattle.fill_laws.proofs.Fill.{R-asc, R-range}
+use Rattle.column_laws.proofs.Places.{zero-at}
 use Rattle.column_laws.proofs.Families.{map-upTo, flat-more, length-more, starts-next, length-lists}
 use Rattle.child_lists.specs.Buffers.{held}
-use Rattle.structure.specs.Hung.{hung}
 use Rattle.structure.specs.Stored.{rowsTo, Stored, Next, Gathers, Storable, Stores, Lengths, Listed}
 use Rattle.structure.proofs.Hanging.{hung-none}
 use Rattle.structure.proofs.Storing.{parent-is, lacks, storable, stored-on}
@@ -40,11 +40,6 @@ pub record Running (n : ℕ) (A : Pattern) (p₀ s₀ f₀ w₀ x₀ y₀ p s f 
 none-listed : (A : Pattern) → listsOf 0 (R A) ≡ []
 unfolding listsOf upTo
 none-listed A = refl
-
-zero-at : (l : List ℕ) (p : ℕ) → getD (zeros l) p 0 ≡ 0
-zero-at [] p = refl
-zero-at (x ∷ l) zero = refl
-zero-at (x ∷ l) (suc p) = zero-at l p
 
 pub run-begin : {n : ℕ} (A : Pattern) (p s f x y w w₁ : List ℕ) → Lengths n p s x y w → w₁ ≡ zeros w
     → Running n A p (set s 0 0) f w₁ x y p (set s 0 0) f w₁ x y 0

@@ -3,7 +3,6 @@
 -- Assumes nothing.
 use mathlib.Core.Path.{sym, _∙_}
 use native.Mathlib.Omega.{arith}
-use borrow.Author.Needs.{needs}
 use Rattle.child_lists.proofs.Joining.{State, begin, child-at, falls, ends, link, link-first, falls-marked, markable, roomy, passes-over, joins, stop}
 use Rattle.child_lists.proofs.join_children.Statement.{statement}
 use Rattle.child_lists.proofs.join_children.Tie as tie
@@ -63,13 +62,13 @@ loop-again-2 : tie.Need-loop-again-2 Inv-loop μ-loop
 loop-again-2 c = joins (c .before .before .before .before .before .before .before .before .before .before .before .before .before .before .before .before .before .loop .inv) (c .before .before .before .before .before .before .before .before .before .before .before .before .before .before .before .before .loop-test .taken) _ (c .before .before .before .before .before .before .before .before .before .before .before .before .before .before .before .handed-on .ensures) _ _ _ _ (c .before .before .before .before .before .before .before .before .before .join-rows .ensures) (c .before .before .before .mark .ensures) (c .before .before .before .before .before .before .before .before .before .join-rows .kept .1 .1 .1 .0) (c .before .before .before .before .before .before .before .before .before .join-rows .kept .1 .1 .1 .1 .0) (c .before .before .before .mark .kept .1 .1 .1 .0)
 
 same-length : tie.Need-same-length Inv-loop μ-loop
-same-length c = search needs
+same-length c = omega arith
 
 same-length-2 : tie.Need-same-length-2 Inv-loop μ-loop
-same-length-2 c = search needs
+same-length-2 c = omega arith
 
 same-length-3 : tie.Need-same-length-3 Inv-loop μ-loop
-same-length-3 c = search needs
+same-length-3 c = omega arith
 
 returns : tie.Need-returns Inv-loop μ-loop
 returns c = stop (c .before .loop .inv) (c .loop-test .left)

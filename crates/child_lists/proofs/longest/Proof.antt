@@ -1,7 +1,6 @@
 -- `child_lists::longest` meets its contract: of the children before d none has more rows than best. The measure is d, since the chain descends.
 -- Assumes nothing.
 use native.Mathlib.Omega.{arith}
-use borrow.Author.Needs.{needs}
 use Rattle.child_lists.proofs.Picking.{Picking, begin, child-at, link, goes-down, takes, keeps, picked}
 use Rattle.child_lists.proofs.longest.Statement.{statement}
 use Rattle.child_lists.proofs.longest.Tie as tie
@@ -16,22 +15,22 @@ loop-holds : tie.Need-loop-holds Inv-loop μ-loop
 loop-holds c = begin (c .pre)
 
 mul-rows : tie.Need-mul-rows Inv-loop μ-loop
-mul-rows c = let k = child-at (c .before .loop .inv) (c .loop-test .taken) in search needs
+mul-rows c = let k = child-at (c .before .loop .inv) (c .loop-test .taken) in omega arith
 
 shared-slice-read-rows : tie.Need-shared-slice-read-rows Inv-loop μ-loop
 shared-slice-read-rows c = child-at (c .before .before .loop .inv) (c .before .loop-test .taken) .started
 
 sub-rows : tie.Need-sub-rows Inv-loop μ-loop
-sub-rows c = let k = child-at (c .before .before .loop .inv) (c .before .loop-test .taken) in search needs
+sub-rows c = let k = child-at (c .before .before .loop .inv) (c .before .loop-test .taken) in omega arith
 
 mul-rows-2 : tie.Need-mul-rows-2 Inv-loop μ-loop
-mul-rows-2 c = let k = child-at (c .before .before .loop .inv) (c .before .loop-test .taken) in search needs
+mul-rows-2 c = let k = child-at (c .before .before .loop .inv) (c .before .loop-test .taken) in omega arith
 
 shared-slice-read-rows-2 : tie.Need-shared-slice-read-rows-2 Inv-loop μ-loop
 shared-slice-read-rows-2 c = let k = child-at (c .before .before .before .loop .inv) (c .before .before .loop-test .taken) in omega arith
 
 sub-rows-2 : tie.Need-sub-rows-2 Inv-loop μ-loop
-sub-rows-2 c = let k = child-at (c .before .before .before .loop .inv) (c .before .before .loop-test .taken) in let b = k .begins in search needs
+sub-rows-2 c = let k = child-at (c .before .before .before .loop .inv) (c .before .before .loop-test .taken) in let b = k .begins in omega arith
 
 add-d : tie.Need-add-d Inv-loop μ-loop
 add-d c = let l = link (c .before .before .before .before .loop .inv) (c .before .before .before .loop-test .taken) in let g = c .before .before .before .before .before .good .1 .1 .1 .0 in omega arith

@@ -3,7 +3,6 @@
 use Prim.Native.Nat.{_-_}
 use native.Mathlib.Omega.{arith}
 use lib.ListN.{length}
-use borrow.Author.Needs.{needs}
 use Rattle.child_lists.proofs.Marks.{Marking, mark-begin, mark-turn, mark-stop, mark-place}
 use Rattle.child_lists.proofs.mark.Statement.{statement}
 use Rattle.child_lists.proofs.mark.Tie as tie
@@ -18,13 +17,13 @@ loop-holds : tie.Need-loop-holds Inv-loop μ-loop
 loop-holds c = mark-begin _ _ _ _
 
 add-work : tie.Need-add-work Inv-loop μ-loop
-add-work c = search needs
+add-work c = omega arith
 
 mul-work : tie.Need-mul-work Inv-loop μ-loop
-mul-work c = search needs
+mul-work c = omega arith
 
 shared-slice-read-work : tie.Need-shared-slice-read-work Inv-loop μ-loop
-shared-slice-read-work c = search needs
+shared-slice-read-work c = omega arith
 
 cast-work : tie.Need-cast-work Inv-loop μ-loop
 cast-work c = omega (arith, c .shared-slice-known .given (c .before .before .loop .k))
@@ -39,16 +38,16 @@ slice-write-work : tie.Need-slice-write-work Inv-loop μ-loop
 slice-write-work c = let h = mark-place (c .before .before .before .pre) _ (c .before .loop-test .taken) in let l = c .before .before .loop .inv .long in omega arith
 
 add-k : tie.Need-add-k Inv-loop μ-loop
-add-k c = search needs
+add-k c = omega arith
 
 loop-less : tie.Need-loop-less Inv-loop μ-loop
-loop-less c = search needs
+loop-less c = omega arith
 
 loop-again : tie.Need-loop-again Inv-loop μ-loop
 loop-again c = mark-turn (c .before .before .loop .inv) (c .before .loop-test .taken)
 
 same-length : tie.Need-same-length Inv-loop μ-loop
-same-length c = search needs
+same-length c = omega arith
 
 returns : tie.Need-returns Inv-loop μ-loop
 returns c = mark-stop (c .before .loop .inv) (c .loop-test .left)

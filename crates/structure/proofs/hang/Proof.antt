@@ -12,22 +12,22 @@ returns : tie.Need-returns
 returns c = rw (c .if1 .taken) (sym (hanging-root _ _ _))
 
 mul-work : tie.Need-mul-work
-mul-work c = search needs
+mul-work c = omega arith
 
 slice-read-work : tie.Need-slice-read-work
-slice-read-work c = search needs
+slice-read-work c = omega arith
 
 add-work : tie.Need-add-work
-add-work c = search needs
+add-work c = omega arith
 
 mul-work-2 : tie.Need-mul-work-2
-mul-work-2 c = search needs
+mul-work-2 c = omega arith
 
 slice-write-work : tie.Need-slice-write-work
-slice-write-work c = search needs
+slice-write-work c = omega arith
 
 mul-work-3 : tie.Need-mul-work-3
-mul-work-3 c = search needs
+mul-work-3 c = omega arith
 
 slice-write-work-2 : tie.Need-slice-write-work-2
 slice-write-work-2 c = rw length-set (omega (arith, c .before .before .pre))

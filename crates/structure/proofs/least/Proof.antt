@@ -1,6 +1,6 @@
 -- `structure::least` meets its contract: the first row of a list, 0 of an empty one.
 -- Assumes nothing.
-use borrow.Author.Needs.{needs}
+use native.Mathlib.Omega.{arith}
 use Rattle.structure.proofs.Storing.{least-none, least-some}
 use Rattle.structure.proofs.least.Statement.{statement}
 use Rattle.structure.proofs.least.Tie as tie
@@ -9,7 +9,7 @@ returns : tie.Need-returns
 returns c = least-none _ (c .if1 .taken)
 
 shared-slice-read-result : tie.Need-shared-slice-read-result
-shared-slice-read-result c = search needs
+shared-slice-read-result c = omega arith
 
 returns-2 : tie.Need-returns-2
 returns-2 c = least-some _ (c .before .if1 .left)

@@ -1,0 +1,9 @@
+pub mod Sums
+pub mod Marking
+pub mod Climbs
+pub mod RowEnds
+pub mod Buckets
+pub mod Filing
+pub mod Stores
+pub mod Walks
+pub mod RowLoop

@@ -1,0 +1,111 @@
+-- `rows_needed::file` meets its contract: its stores are those of the definition.
+-- Assumes nothing.
+use mathlib.Core.Path.{sym, _∙_}
+use native.Mathlib.Omega.{arith}
+use lib.ListN.{length-set}
+use borrow.Author.Needs.{needs}
+use denote.Ref.{now}
+use Rattle.rows_needed.proofs.Stores.{filed-some, filed-none, pushed-is}
+use Rattle.rows_needed.proofs.file.Statement.{statement}
+use Rattle.rows_needed.proofs.file.Tie as tie
+
+add-work : tie.Need-add-work
+add-work c = let l = c .pre .long in let u = c .pre .column in let g = c .good .1 .1 .1 .1 .1 .0 in omega arith
+
+add-work-2 : tie.Need-add-work-2
+add-work-2 c = let l = c .pre .long in let u = c .pre .column in let g = c .good .1 .1 .1 .1 .1 .0 in omega arith
+
+add-work-3 : tie.Need-add-work-3
+add-work-3 c = let l = c .pre .long in let u = c .pre .column in let g = c .good .1 .1 .1 .1 .1 .0 in omega arith
+
+mul-work : tie.Need-mul-work
+mul-work c = let l = c .pre .long in let u = c .pre .column in let g = c .good .1 .1 .1 .1 .1 .0 in omega arith
+
+slice-write-work : tie.Need-slice-write-work
+slice-write-work c = let l = c .pre .long in let u = c .pre .column in omega arith
+
+mul-if1 : tie.Need-mul-if1
+mul-if1 c = let s = c .pre .started in let g = c .good .1 .1 .1 .0 in omega arith
+
+shared-slice-read-if1 : tie.Need-shared-slice-read-if1
+shared-slice-read-if1 c = c .before .pre .started
+
+mul-r : tie.Need-mul-r
+mul-r c = let f = c .before .before .pre .row (c .if1 .taken) in let g = c .before .before .good .1 .1 .1 .1 .0 in omega arith
+
+shared-slice-read-r : tie.Need-shared-slice-read-r
+shared-slice-read-r c = c .before .before .before .pre .row (c .before .if1 .taken) .0
+
+cast-r : tie.Need-cast-r
+cast-r c = omega (arith, c .shared-slice-known2 .given (c .before .before .before .args .q))
+
+add-work-4 : tie.Need-add-work-4
+add-work-4 c = let f = c .before .before .before .pre .row (c .before .if1 .taken) in let l = c .before .before .before .pre .long in let g = c .before .before .before .good .1 .1 .1 .1 .1 .0 in omega arith
+
+mul-work-2 : tie.Need-mul-work-2
+mul-work-2 c = let f = c .before .before .before .pre .row (c .before .if1 .taken) in let l = c .before .before .before .pre .long in let g = c .before .before .before .good .1 .1 .1 .1 .1 .0 in omega arith
+
+slice-read-work : tie.Need-slice-read-work
+slice-read-work c = let f = c .before .before .before .before .pre .row (c .before .before .if1 .taken) in let l = c .before .before .before .before .pre .long in rw length-set (omega arith)
+
+add-work-5 : tie.Need-add-work-5
+add-work-5 c = let l = c .before .before .before .before .pre .long in let u = c .before .before .before .before .pre .column in let g = c .before .before .before .before .good .1 .1 .1 .1 .1 .0 in omega arith
+
+add-work-6 : tie.Need-add-work-6
+add-work-6 c = let l = c .before .before .before .before .pre .long in let u = c .before .before .before .before .pre .column in let g = c .before .before .before .before .good .1 .1 .1 .1 .1 .0 in omega arith
+
+mul-work-3 : tie.Need-mul-work-3
+mul-work-3 c = let l = c .before .before .before .before .pre .long in let u = c .before .before .before .before .pre .column in let g = c .before .before .before .before .good .1 .1 .1 .1 .1 .0 in omega arith
+
+slice-write-work-2 : tie.Need-slice-write-work-2
+slice-write-work-2 c = let l = c .before .before .before .before .pre .long in let u = c .before .before .before .before .pre .column in rw length-set (omega arith)
+
+add-work-7 : tie.Need-add-work-7
+add-work-7 c = let f = c .before .before .before .before .pre .row (c .before .before .if1 .taken) in let l = c .before .before .before .before .pre .long in let g = c .before .before .before .before .good .1 .1 .1 .1 .1 .0 in omega arith
+
+mul-work-4 : tie.Need-mul-work-4
+mul-work-4 c = let f = c .before .before .before .before .pre .row (c .before .before .if1 .taken) in let l = c .before .before .before .before .pre .long in let g = c .before .before .before .before .good .1 .1 .1 .1 .1 .0 in omega arith
+
+slice-write-work-3 : tie.Need-slice-write-work-3
+slice-write-work-3 c = let f = c .before .before .before .before .pre .row (c .before .before .if1 .taken) in let l = c .before .before .before .before .pre .long in rw (length-set, length-set) (omega arith)
+
+same-length : tie.Need-same-length
+same-length c = search needs
+
+returns : tie.Need-returns
+returns c = sym (filed-some (c .before .before .before .before .args .n) (c .before .before .before .before .args .c) (c .before .before .before .before .args .q) (now (c .before .before .before .before .args .starts)) (now (c .before .before .before .before .args .rows)) (now (c .before .before .before .before .args .work)) (c .before .before .if1 .taken) ∙ pushed-is (c .before .before .before .before .args .n) _ (c .before .before .before .before .args .c) _)
+
+same-length-2 : tie.Need-same-length-2
+same-length-2 c = search needs
+
+returns-2 : tie.Need-returns-2
+returns-2 c = sym (filed-none (c .before .before .args .n) (c .before .before .args .c) (c .before .before .args .q) (now (c .before .before .args .starts)) (now (c .before .before .args .rows)) (now (c .before .before .args .work)) (c .if1 .left))
+
+pub file-spec : {M : Type 1} → statement M
+file-spec =
+    tie.close
+    (tie.spec
+    add-work
+    add-work-2
+    add-work-3
+    mul-work
+    slice-write-work
+    mul-if1
+    shared-slice-read-if1
+    mul-r
+    shared-slice-read-r
+    cast-r
+    add-work-4
+    mul-work-2
+    slice-read-work
+    add-work-5
+    add-work-6
+    mul-work-3
+    slice-write-work-2
+    add-work-7
+    mul-work-4
+    slice-write-work-3
+    same-length
+    returns
+    same-length-2
+    returns-2)

@@ -1,0 +1,4 @@
+pub mod Sums
+pub mod Row
+pub mod Buckets
+pub mod Walk

@@ -1,0 +1,39 @@
+-- The walk over the columns at row i, and what begins and ends it.
+-- Assumes nothing.
+use Prim.Native.Nat.{ℕ, _+_, _<_, _≤_}
+use mathlib.Core.Path.{_≡_}
+use mathlib.Core.Logic.{_⊎_}
+use mathlib.Core.List.{List}
+use lib.ListN.{length, getD}
+use Rattle.papers.specs.Lists.{_∈_}
+use Rattle.papers.specs.Job.{columnOf}
+use Rattle.column_laws.specs.Tested.{Tested}
+use Rattle.rows_needed.specs.Row.{Row}
+use Rattle.rows_needed.specs.Buckets.{Points, UpTo, Buckets}
+
+-- column c can be filed with q as the place of its next row
+pub record Filing (n c q : ℕ) (starts rows work : List ℕ) : Type 0 where
+  pub column : UpTo n c
+  pub started : c < length starts
+  pub row : q < getD starts c 0 → (q < length rows) × (getD rows q 0 ≤ n)
+  pub long : n + n + n + n < length work
+
+-- the columns at row i, from c on, are still to do; each other column that has the row in its pattern is marked
+pub record Walk (n i : ℕ) (starts rows parents work : List ℕ) (t c : ℕ) : Type 0 where
+  pub tested : Tested n starts rows
+  pub low : 1 ≤ i
+  pub high : i ≤ n
+  pub row : Row n i (columnOf starts rows) parents work t i
+  pub buckets : Buckets n i starts rows work (UpTo n) c
+  pub leaf : (d : ℕ) → UpTo n d → i ∈ columnOf starts rows d → (getD work d 0 ≡ i) ⊎ Points n starts rows work d i
+  pub long-parents : n ≤ length parents
+
+-- the first m columns are filed under their first rows, and no column is marked
+pub record Begun (n m : ℕ) (starts rows work : List ℕ) : Type 0 where
+  pub buckets : Buckets n 0 starts rows work (UpTo m) 0
+  pub marks : (x : ℕ) → x ≤ n → getD work x 0 ≡ 0
+
+-- the lengths of what is lent for n columns; each may be longer
+pub record Lengths (n : ℕ) (parents work : List ℕ) : Type 0 where
+  pub parents-long : n ≤ length parents
+  pub work-long : n + n + n + n < length work
