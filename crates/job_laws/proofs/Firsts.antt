@@ -3,12 +3,12 @@
 -- Assumes nothing.
 use Prim.Native.Nat.{ℕ}
 use mathlib.Core.Path.{_≡_, refl, sym, _∙_}
-use mathlib.Core.Logic.{_↔_}
+use mathlib.Core.Logic.{_↔_, _≢_}
 use mathlib.Core.Bool.{Bool, true, false}
 use mathlib.Core.List.{List, [], _∷_, _++_, map}
 use native.Mathlib.Omega.{arith}
 use Rattle.papers.specs.declared.Answer.{Answer}
-use Rattle.papers.specs.Refusals.{Leaves, Verdict, passed, refused, first, refusedIf}
+use Rattle.papers.specs.Refusals.{answer, Leaves, Verdict, passed, refused, answerOf, first, refusedIf}
 
 pub refused-passed : {v : Verdict} {a : Answer} {l : Leaves} → v ≡ refused a l → v ≡ passed → ⊥
 refused-passed r p = let z : _≡_ {A = ℕ} 0 1 = cc in omega arith
@@ -97,3 +97,31 @@ passed-if-iff b a l = (there b refl, passed-if b a l)
     there : (t : Bool) → b ≡ t → refusedIf b a l ≡ passed → b ≡ false
     there true e p = absurd (refused-passed (refused-if b a l e) p)
     there false e p = e
+
+-- ---- the answer of a verdict
+
+pub answer-refused : {v : Verdict} {a r : Answer} {l : Leaves} → v ≡ refused a l → r ≡ a → r ≡ answerOf v
+unfolding answerOf
+answer-refused e q = rw e q
+
+pub answer-passed : {v : Verdict} {r : Answer} → v ≡ passed → r ≡ answer 0 0 0 → r ≡ answerOf v
+unfolding answerOf
+answer-passed e q = rw e q
+
+-- a test that answers another number than 0 refuses, so it decides before those behind it
+pub first-answers : {C : Type 0} (test : C → Verdict) (tests : List (C → Verdict)) (c : C) → answerOf (test c) .number ≢ 0 → first (test ∷ tests) c ≡ test c
+unfolding answerOf
+first-answers test tests c h = go (test c) refl
+  where
+    go : (v : Verdict) → test c ≡ v → first (test ∷ tests) c ≡ test c
+    go passed e = absurd (h (rw e))
+    go (refused a l) e = first-refuses test tests c e ∙ sym e
+
+-- the last test has the last word
+pub first-last : {C : Type 0} (test : C → Verdict) (c : C) → first (test ∷ []) c ≡ test c
+unfolding first
+first-last test c = go (test c) refl
+  where
+    go : (v : Verdict) → test c ≡ v → first (test ∷ []) c ≡ test c
+    go passed e = first-passes test [] c e ∙ sym e
+    go (refused a l) e = first-refuses test [] c e ∙ sym e

@@ -1,7 +1,7 @@
 -- The test of the rows (refusals 5 and 6): a row's fault, the first of a column, the first of all; and that a column is without fault just where
 -- its rows ascend above it, up to n.
 -- Assumes nothing.
-use Prim.Native.Nat.{ℕ, suc, _<_, _≤_}
+use Prim.Native.Nat.{ℕ, zero, suc, _<_, _≤_}
 use mathlib.Core.Path.{_≡_, refl, sym, _∙_}
 use mathlib.Core.Logic.{_↔_, _⊎_, inl, inr}
 use mathlib.Core.List.{List, [], _∷_, List·Memᴰ·head, List·Memᴰ·tail, List·Memᴰ·not-nil}
@@ -35,24 +35,28 @@ module _ (n j before r : ℕ) where
 
   -- a row with its fault: 5 and 6, or it is above its column and the one before it, and at most n
   data Row : Type 0 where
-    wrong : (f : ℕ) → rowFault n j before r ≡ suc f → suc f ≤ 6 → Row
+    wrong : 0 < rowFault n j before r → rowFault n j before r ≤ 6 → Row
     right : rowFault n j before r ≡ 0 → j < r → r ≤ n → before < r → Row
 
   row : Row
   row = go (below-or j r) (below-or n r) (below-or before r)
     where
       go : (j < r) ⊎ (r ≤ j) → (n < r) ⊎ (r ≤ n) → (before < r) ⊎ (r ≤ before) → Row
-      go (inr a) b d = wrong 4 (row-low a) (omega arith)
-      go (inl a) (inl b) d = wrong 4 (row-over a b) (omega arith)
-      go (inl a) (inr b) (inr d) = wrong 5 (row-falls a b d) (omega arith)
+      go (inr a) b d = let e = row-low a in wrong (omega arith) (omega arith)
+      go (inl a) (inl b) d = let e = row-over a b in wrong (omega arith) (omega arith)
+      go (inl a) (inr b) (inr d) = let e = row-falls a b d in wrong (omega arith) (omega arith)
       go (inl a) (inr b) (inl d) = right (row-fine a b d) a b d
 
 -- ---- the rows of a column
 
 module _ (n j before : ℕ) (r : ℕ) (rs : List ℕ) where
-  pub rows-fault : (f : ℕ) → rowFault n j before r ≡ suc f → rowsFault n j before (r ∷ rs) ≡ suc f
+  pub rows-fault : 0 < rowFault n j before r → rowsFault n j before (r ∷ rs) ≡ rowFault n j before r
   unfolding rowsFault
-  rows-fault f e = rw (e, rowsFault)
+  rows-fault h = go (rowFault n j before r) refl
+    where
+      go : (f : ℕ) → rowFault n j before r ≡ f → rowsFault n j before (r ∷ rs) ≡ rowFault n j before r
+      go zero e = absurd (omega arith)
+      go (suc f) e = rw (e, rowsFault)
 
   pub rows-next : rowFault n j before r ≡ 0 → rowsFault n j before (r ∷ rs) ≡ rowsFault n j r rs
   unfolding rowsFault
@@ -64,7 +68,7 @@ rows-at-most n j before [] = omega arith
 rows-at-most n j before (r ∷ rs) = go (row n j before r) (rows-at-most n j r rs)
   where
     go : Row n j before r → rowsFault n j r rs ≤ 6 → rowsFault n j before (r ∷ rs) ≤ 6
-    go (wrong f e l) ih = rw (rows-fault n j before r rs f e) l
+    go (wrong f l) ih = rw (rows-fault n j before r rs f) l
     go (right e a b d) ih = rw (rows-next n j before r rs e) ih
 
 -- rows behind one that is at least j are without fault just where they ascend above it, up to n
@@ -79,8 +83,8 @@ rows-fine-iff n j before (r ∷ rs) l = go (row n j before r) (λ k. rows-fine-i
 
     go : Row n j before r → (j ≤ r → (rowsFault n j r rs ≡ 0) ↔ (Asc r rs × ((i : ℕ) → i ∈ rs → i ≤ n)))
         → (rowsFault n j before (r ∷ rs) ≡ 0) ↔ (Asc before (r ∷ rs) × ((i : ℕ) → i ∈ (r ∷ rs) → i ≤ n))
-    go (wrong f e q) ih = (
-      λ z. absurd (omega (arith, rows-fault n j before r rs f e)),
+    go (wrong f q) ih = (
+      λ z. absurd (omega (arith, rows-fault n j before r rs f)),
       λ h. let z = row-fine n j before r (omega (arith, h .0 .0)) (h .1 r (List·Memᴰ·head refl)) (h .0 .0) in absurd (omega arith),
     )
     go (right e a b d) ih =

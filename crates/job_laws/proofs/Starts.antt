@@ -9,9 +9,10 @@ use mathlib.Core.List.{List}
 use native.Mathlib.Omega.{arith}
 use lib.Dec.{eqb}
 use lib.ListN.{length, getD}
+use lib.Seq.{slice}
 use borrow.Author.Tests.{ltb-false, lt-ltb, le-ltb, eqb-true, eqb-false, eq-eqb, ne-eqb}
 use Rattle.papers.specs.Lists.{least}
-use Rattle.papers.specs.Job.{start}
+use Rattle.papers.specs.Job.{start, columnOf}
 use Rattle.papers.specs.Refusals.{answer, untouched, passed, refused, refusedIf, falls, startsTest}
 use Rattle.list_laws.proofs.Tests.{Test, passes, fails, test}
 use Rattle.list_laws.proofs.Leasts.{least-zero-iff}
@@ -28,6 +29,11 @@ pub record Starts (n : ℕ) (starts rows : List ℕ) : Type 0 where
 pub start-at : (starts : List ℕ) (j : ℕ) → start starts (suc j) ≡ getD starts j 0
 unfolding start
 start-at starts j = let e : suc j - 1 ≡ j = omega arith in rw e
+
+-- so the rows of column j + 1 are those from the number at j to the one behind it
+pub column-at : (starts rows : List ℕ) (j : ℕ) → columnOf starts rows (suc j) ≡ slice (getD starts j 0) (getD starts (suc j) 0) rows
+unfolding columnOf
+column-at starts rows j = rw (start-at starts j, start-at starts (suc j))
 
 pub falls-true : (starts : List ℕ) (j : ℕ) → start starts (suc j) < start starts j → falls starts j ≡ true
 unfolding falls

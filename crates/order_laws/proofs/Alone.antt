@@ -2,10 +2,10 @@
 -- what is held before.
 -- Assumes nothing.
 use Prim.Native.Nat.{ℕ, zero, suc, _+_, _<_, _≤_}
-use mathlib.Core.Path.{_≡_, refl, sym, ap, _∙_}
-use mathlib.Core.List.{List, [], _∷_, _++_, append-assoc, flatMap, map, reverse, reverseAux, reverseAux-eq, List·Memᴰ·head, List·Memᴰ·tail}
+use mathlib.Core.Path.{_≡_, refl, ap, _∙_}
+use mathlib.Core.List.{List, [], _∷_, _++_, flatMap, map, reverseAux, List·Memᴰ·head, List·Memᴰ·tail}
 use native.Mathlib.Omega.{arith}
-use lib.ListN.{length, drop, length-reverseAux, length-map}
+use lib.ListN.{length, length-reverseAux, length-map}
 use lib.Seq.{drop-length}
 use Rattle.papers.specs.Lists.{_∈_, sum}
 use Rattle.papers.specs.Tree.{t}
@@ -13,7 +13,7 @@ use Rattle.papers.specs.Room.{heldAfter, rooms}
 use Rattle.papers.specs.Order.{arranged, stepsOf}
 use Rattle.order_laws.specs.Held.{heldAfterAll, Enough}
 use Rattle.order_laws.specs.Subtrees.{Kin}
-use Rattle.order_laws.proofs.Rooms.{held-root, held-update, held-append}
+use Rattle.order_laws.proofs.Rooms.{held-update, held-append}
 use Rattle.order_laws.proofs.Frames.{held-above, rooms-above, enough-append, enough-above}
 use Rattle.order_laws.proofs.Arranged.{arranged-elements, arranged-length, steps-suc}
 

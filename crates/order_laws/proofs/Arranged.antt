@@ -6,9 +6,9 @@ use mathlib.Core.Logic.{_↔_}
 use mathlib.Core.List.{List, [], _∷_, _++_, flatMap, List·Memᴰ·head, List·Memᴰ·tail}
 use native.Mathlib.Omega.{arith}
 use lib.ListN.{length}
-use Rattle.papers.specs.Lists.{_∈_, Distinct, sort}
+use Rattle.papers.specs.Lists.{_∈_, Distinct}
 use Rattle.papers.specs.Order.{siblingKey, alone, arranged, stepsOf}
-use Rattle.list_laws.proofs.Sorts.{sort-elements, sort-length, sort-distinct, sort-same, sort-level}
+use Rattle.list_laws.proofs.Sorts.{sort-elements, sort-length, sort-distinct, sort-same}
 
 flatMap-same : (u v : ℕ → List ℕ) (cs : List ℕ) → ((c : ℕ) → c ∈ cs → u c ≡ v c) → flatMap u cs ≡ flatMap v cs
 unfolding flatMap
@@ -36,10 +36,6 @@ module _ (mark : ℕ) (size : ℕ → ℕ) (kids : ℕ → List ℕ) where
 
   -- ---- the steps of a subtree
 
-  pub steps-zero : (j : ℕ) → stepsOf mark size kids 0 j ≡ []
-  unfolding stepsOf
-  steps-zero j = refl
-
   pub steps-suc : (f j : ℕ) → stepsOf mark size kids (suc f) j ≡ flatMap (stepsOf mark size kids f) (arranged mark size kids (stepsOf mark size kids f) j) ++ (j ∷ [])
   unfolding stepsOf
   steps-suc f j = refl
@@ -56,8 +52,3 @@ module _ (mark : ℕ) (size : ℕ → ℕ) (kids : ℕ → List ℕ) where
       let kin = arranged mark size kids b j in
       let children : flatMap a (arranged mark size kids a j) ≡ flatMap b kin = ap (flatMap a) (arranged-same a b j same) ∙ flatMap-same a b kin (λ c m. same c (arranged-elements b j c .0 m)) in
       rw (steps-suc f j, steps-suc g j, children)
-
--- mark 0 leaves the children as they are, ascending
-pub arranged-zero : (size : ℕ → ℕ) (kids : ℕ → List ℕ) (steps : ℕ → List ℕ) (j : ℕ) → arranged 0 size kids steps j ≡ kids j
-unfolding arranged siblingKey
-arranged-zero size kids steps j = sort-level _ (λ c. refl) (kids j)

@@ -1,14 +1,14 @@
 -- Orders of subtrees: siblings one after the other, whichever way they are arranged, and then their parent.
 -- Assumes nothing.
 use Prim.Native.Nat.{ℕ, _<_}
-use mathlib.Core.Path.{_≡_, refl, sym}
+use mathlib.Core.Path.{_≡_, refl}
 use mathlib.Core.Logic.{_⊎_, inl, inr, _↔_, _≢_}
 use mathlib.Core.List.{List, [], _∷_, _++_, flatMap, reverse, reverseAux, reverseAux-eq, List·Memᴰ·head, List·Memᴰ·tail, List·Memᴰ·not-nil, List·Memᴰ·cases-cons, List·Memᴰ·append-cases, Memᴰ·append-left, Memᴰ·append-right, Memᴰ·cast}
 use native.Mathlib.Omega.{arith}
 use lib.Dec.{eqb}
 use borrow.Author.Tests.{eqb-true, eqb-false}
 use Rattle.papers.specs.Lists.{_∈_, Distinct}
-use Rattle.papers.specs.Tree.{Under, top, up}
+use Rattle.papers.specs.Tree.{Under, top}
 use Rattle.fill_laws.proofs.Subtrees.{under-trans, under-le}
 use Rattle.list_laws.proofs.Tests.{Test, passes, fails, test}
 use Rattle.order_laws.specs.Parents.{Tree}

@@ -1,6 +1,6 @@
 -- The greatest number of a list is one of them and none is greater; sums and greatest numbers of lists joined or raised.
 -- Assumes nothing.
-use Prim.Native.Nat.{ℕ, suc, _+_, _*_, _<_, _≤_, max}
+use Prim.Native.Nat.{ℕ, _+_, _*_, _<_, _≤_, max}
 use mathlib.Core.Path.{_≡_, refl}
 use mathlib.Core.Logic.{_⊎_, inl, inr}
 use mathlib.Core.List.{List, [], _∷_, _++_, map, List·Memᴰ·head, List·Memᴰ·tail, List·Memᴰ·not-nil, List·Memᴰ·cases-cons, Memᴰ·cast}
@@ -8,14 +8,6 @@ use native.Mathlib.Omega.{arith}
 use lib.ListN.{length}
 use Rattle.papers.specs.Lists.{_∈_, sum, greatest}
 use Rattle.list_laws.proofs.Tests.{below-or}
-
-pub greatest-nil : greatest [] ≡ 0
-unfolding greatest
-greatest-nil = refl
-
-pub greatest-cons : (x : ℕ) (l : List ℕ) → greatest (x ∷ l) ≡ max x (greatest l)
-unfolding greatest
-greatest-cons x l = refl
 
 pub greatest-least : (l : List ℕ) (b : ℕ) → ((r : ℕ) → r ∈ l → r ≤ b) → greatest l ≤ b
 unfolding greatest

@@ -16,7 +16,9 @@ pub mod RoomBounds
 pub mod Frames
 pub mod Alone
 pub mod Needs
+pub mod Siblings
 pub mod Works
 pub mod TogetherTest
 pub mod Waiting
 pub mod Takes
+pub mod Entries

@@ -2,8 +2,8 @@
 -- lies over the last update.
 -- Assumes nothing.
 use Prim.Native.Nat.{ℕ, zero, suc, _+_, _<_, _≤_, max}
-use mathlib.Core.Path.{_≡_, refl, sym, ap, _∙_}
-use mathlib.Core.List.{List, [], _∷_, _++_, flatMap, map, reverseAux, List·Memᴰ·head, List·Memᴰ·tail}
+use mathlib.Core.Path.{_≡_, refl, ap, _∙_}
+use mathlib.Core.List.{List, [], _∷_, _++_, flatMap, map, List·Memᴰ·head, List·Memᴰ·tail}
 use native.Mathlib.Omega.{arith}
 use lib.ListN.{length, length-append}
 use Rattle.papers.specs.Lists.{_∈_, sum, greatest}
@@ -15,7 +15,22 @@ use Rattle.order_laws.specs.Subtrees.{Kin, inTurn, butLast}
 use Rattle.order_laws.proofs.Rooms.{room-none, room-over, rooms-append, rooms-length}
 use Rattle.order_laws.proofs.Greatest.{greatest-append, greatest-raised}
 use Rattle.order_laws.proofs.Arranged.{arranged-elements, arranged-length, steps-suc}
-use Rattle.order_laws.proofs.Alone.{leaves, leaves-update, stacked, steps-held, steps-rooms, children-held}
+use Rattle.order_laws.proofs.Alone.{leaves-update, stacked, steps-held, steps-rooms, children-held}
+
+-- ---- one sibling more
+
+pub in-turn-next : (size need : ℕ → ℕ) (h : ℕ) (cs : List ℕ) (c : ℕ) → inTurn size need h (cs ++ (c ∷ [])) ≡ max (inTurn size need h cs) (h + sum (map (λ d. t (size d)) cs) + need c)
+unfolding inTurn sum
+in-turn-next size need h [] c = omega arith
+in-turn-next size need h (d ∷ cs) c = omega (arith, in-turn-next size need (h + t (size d)) cs c)
+
+pub but-last-next : (size : ℕ → ℕ) (cs : List ℕ) (c : ℕ) → butLast size (cs ++ (c ∷ [])) ≡ sum (map (λ d. t (size d)) cs)
+unfolding butLast sum
+but-last-next size [] c = refl
+but-last-next size (d ∷ []) c = refl
+but-last-next size (d ∷ e ∷ cs) c = ap (λ m. t (size d) + m) (but-last-next size (e ∷ cs) c)
+
+-- ---- a column after its children
 
 -- the front of a column over its children's updates
 front-over : (size : ℕ → ℕ) (r : ℕ) (c : ℕ) (cs held : List ℕ) (p : ℕ) → 0 < p → roomAt p r (stacked size (c ∷ cs) held) ≡ sum held + butLast size (c ∷ cs) + t (suc r)

@@ -3,7 +3,7 @@
 use Prim.Native.Nat.{ℕ, suc, _+_, _-_, _<_, _≤_}
 use mathlib.Core.Path.{_≡_, refl, sym, ap, _∙_}
 use mathlib.Core.Logic.{_⊎_, inl, inr, _↔_, _≢_}
-use mathlib.Core.List.{List, [], _∷_, _++_, append-assoc, append-nil, reverse, reverseAux, reverse-append, reverse-reverse, List·Memᴰ·head, List·Memᴰ·tail, List·Memᴰ·not-nil, List·Memᴰ·cases-cons, List·Memᴰ·append-cases, Memᴰ·append-left, Memᴰ·append-right, Memᴰ·cast, List·Memᴰ·eq-of-singleton}
+use mathlib.Core.List.{List, [], _∷_, _++_, reverse, reverseAux, reverse-append, reverse-reverse, List·Memᴰ·head, List·Memᴰ·tail, List·Memᴰ·not-nil, List·Memᴰ·cases-cons, List·Memᴰ·append-cases, Memᴰ·append-left, Memᴰ·append-right, Memᴰ·cast, List·Memᴰ·eq-of-singleton}
 use native.Mathlib.Omega.{arith}
 use native.Mathlib.Numerals.{add-one}
 use lib.Dec.{eqb}
@@ -19,7 +19,7 @@ use Rattle.order_laws.specs.Parents.{Tree}
 use Rattle.order_laws.specs.Done.{Ready, Valid}
 use Rattle.order_laws.proofs.Trees.{under-range}
 use Rattle.order_laws.proofs.Reversed.{reversed-mem}
-use Rattle.order_laws.proofs.Steps.{column-at, column-in}
+use Rattle.order_laws.proofs.Steps.{column-at}
 use Rattle.order_laws.proofs.Pieces.{Piece, together-piece, piece-together}
 
 -- ---- one step: the order is pre, then j, then rest
@@ -84,7 +84,7 @@ module _ (par : ℕ → ℕ) (pre : List ℕ) (j : ℕ) (rest : List ℕ) where
 -- ---- all steps
 module _ (par : ℕ → ℕ) where
   -- no column is done twice
-  valid-distinct : (js done : List ℕ) → Valid par done js → Distinct js × ((x : ℕ) → x ∈ js → ¬ (x ∈ done))
+  pub valid-distinct : (js done : List ℕ) → Valid par done js → Distinct js × ((x : ℕ) → x ∈ js → ¬ (x ∈ done))
   valid-distinct [] done v = (tt, λ x m k. List·Memᴰ·not-nil m)
   valid-distinct (j ∷ js) done v = go (valid-distinct js (j ∷ done) (v .1))
     where

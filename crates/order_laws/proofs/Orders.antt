@@ -1,23 +1,22 @@
 -- The order of every mark: the subtrees of the roots, each in one piece, since a column's steps are its children's subtrees and then itself.
 -- Assumes nothing.
 use Prim.Native.Nat.{ℕ, zero, suc, _<_, _≤_}
-use mathlib.Core.Path.{_≡_, refl}
+use mathlib.Core.Path.{_≡_}
 use mathlib.Core.Logic.{_↔_}
-use mathlib.Core.List.{List, [], _∷_, _++_, flatMap, List·Memᴰ·not-nil}
+use mathlib.Core.List.{List, [], flatMap, List·Memᴰ·not-nil}
 use native.Mathlib.Omega.{arith}
 use lib.ListN.{length}
-use Rattle.papers.specs.Lists.{_∈_, Distinct, upTo}
-use Rattle.papers.specs.Tree.{children, Under}
+use Rattle.papers.specs.Lists.{_∈_, upTo}
+use Rattle.papers.specs.Tree.{children}
 use Rattle.papers.specs.Order.{Ordered, arranged, stepsOf}
 use Rattle.fill_laws.proofs.Subtrees.{under-le}
 use Rattle.list_laws.proofs.Counts.{same-length}
 use Rattle.list_laws.proofs.UpTo.{upTo-range, upTo-into, upTo-distinct, length-upTo}
 use Rattle.order_laws.specs.Parents.{Tree}
-use Rattle.order_laws.specs.Done.{Valid}
-use Rattle.order_laws.proofs.Trees.{under-range, top-within, Rooted, rooted}
+use Rattle.order_laws.proofs.Trees.{under-range, top-within, rooted}
 use Rattle.order_laws.proofs.Subtrees.{children-are, children-of, children-distinct}
 use Rattle.order_laws.proofs.Forests.{SubtreeOrder, ForestOrder, forest, column-last}
-use Rattle.order_laws.proofs.Arranged.{arranged-elements, arranged-distinct, steps-zero, steps-suc}
+use Rattle.order_laws.proofs.Arranged.{arranged-elements, arranged-distinct, steps-suc}
 use Rattle.order_laws.proofs.Ordering.{valid-ordered}
 
 -- an order of the columns 1 to n has n steps

@@ -1,7 +1,7 @@
 -- The tree of a pattern's parents, and the order of its columns under each mark.
 -- Assumes nothing.
-use Prim.Native.Nat.{ℕ, zero, suc, _-_, _<_, _≤_}
-use mathlib.Core.Path.{_≡_, refl, ap}
+use Prim.Native.Nat.{ℕ, _-_, _≤_}
+use mathlib.Core.Path.{_≡_, refl}
 use mathlib.Core.Logic.{_↔_}
 use mathlib.Core.List.{List, [], _∷_, List·Memᴰ·head}
 use native.Mathlib.Omega.{arith}
@@ -13,7 +13,7 @@ use Rattle.papers.specs.Tree.{parent, rowCount}
 use Rattle.papers.specs.Order.{Ordered, orderOf}
 use Rattle.list_laws.proofs.Ascending.{asc-length}
 use Rattle.fill_laws.proofs.Fill.{R-asc, R-range}
-use Rattle.fill_laws.proofs.Parents.{parent-above, parent-within, parent-least}
+use Rattle.fill_laws.proofs.Parents.{parent-above, parent-within}
 use Rattle.order_laws.specs.Parents.{Tree}
 use Rattle.order_laws.proofs.Orders.{ordered-length, marked-ordered}
 

@@ -1,17 +1,23 @@
 -- The peak of an order is the greatest room in use of its steps.
 -- Assumes nothing.
-use Prim.Native.Nat.{ℕ, _<_, _≤_}
+use Prim.Native.Nat.{ℕ, _<_, _≤_, max}
 use mathlib.Core.Path.{_≡_, refl}
-use mathlib.Core.List.{List, []}
+use mathlib.Core.List.{List, [], _∷_, _++_}
 use native.Mathlib.Omega.{arith}
 use lib.ListN.{length}
 use Rattle.papers.specs.Lists.{_∈_, greatest}
 use Rattle.papers.specs.Job.{Pattern}
 use Rattle.papers.specs.Tree.{rowCount}
-use Rattle.papers.specs.Room.{rooms, peakOf}
+use Rattle.papers.specs.Room.{roomAt, rooms, peakOf}
 use Rattle.papers.specs.Order.{popsOf, roomsOf, peak}
-use Rattle.order_laws.proofs.Rooms.{rooms-length}
-use Rattle.order_laws.proofs.Greatest.{greatest-bound, greatest-in}
+use Rattle.order_laws.specs.Held.{heldAfterAll}
+use Rattle.order_laws.proofs.Rooms.{rooms-append, rooms-length}
+use Rattle.order_laws.proofs.Greatest.{greatest-bound, greatest-in, greatest-append}
+
+-- one step more
+pub peak-next : (size pops : ℕ → ℕ) (js : List ℕ) (j : ℕ) → peakOf size pops (js ++ (j ∷ [])) ≡ max (peakOf size pops js) (roomAt (pops j) (size j) (heldAfterAll size pops [] js))
+unfolding peakOf rooms greatest
+peak-next size pops js j = rw (rooms-append size pops [] js (j ∷ []), greatest-append) (omega arith)
 
 module _ (n : ℕ) (A : Pattern) where
   -- no step uses more room than the peak

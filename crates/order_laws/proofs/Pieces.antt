@@ -1,26 +1,16 @@
--- A subtree in one piece: where its steps are consecutive and its top last, they are the slice of its own length that ends at the top; so the
--- test of that slice finds whether they are.
+-- A subtree in one piece: its steps are consecutive and its top last just where they are a slice that ends at the top.
 -- Assumes nothing.
-use Prim.Native.Nat.{ℕ, zero, suc, _+_, _-_, _<_, _≤_}
-use mathlib.Core.Path.{_≡_, refl, sym, ap, _∙_}
-use mathlib.Core.Logic.{_⊎_, inl, inr, _↔_}
-use mathlib.Core.Bool.{Bool, true, false, not, _&&_}
-use mathlib.Core.List.{List, [], _∷_, List·Memᴰ·head, List·Memᴰ·tail, List·Memᴰ·not-nil, List·Memᴰ·cases-cons, Memᴰ·cast}
+use Prim.Native.Nat.{ℕ, suc, _-_, _<_, _≤_}
+use mathlib.Core.Path.{refl}
+use mathlib.Core.Logic.{_↔_}
+use mathlib.Core.List.{List}
 use native.Mathlib.Omega.{arith}
-use lib.Dec.{leb}
 use lib.ListN.{length}
-use lib.Seq.{slice, length-slice}
-use borrow.Author.Tests.{leb-true, le-leb}
-use Rattle.papers.specs.Lists.{_∈_, Distinct, member, every}
-use Rattle.papers.specs.Tree.{Under, top, isUnder, subtreeOf}
+use lib.Seq.{slice}
+use Rattle.papers.specs.Lists.{_∈_, Distinct}
+use Rattle.papers.specs.Tree.{Under, top}
 use Rattle.papers.specs.Order.{columnAt, Together}
-use Rattle.papers.specs.Check.{scattered}
-use Rattle.list_laws.proofs.Tests.{Test, passes, fails, test, true-false, not-true, and-both}
-use Rattle.list_laws.proofs.Members.{member-true, member-into}
-use Rattle.list_laws.proofs.Counts.{distinct-length, same-length}
-use Rattle.order_laws.specs.Parents.{Tree}
-use Rattle.order_laws.proofs.Subtrees.{under-test, subtree-is, subtree-distinct}
-use Rattle.order_laws.proofs.Steps.{StepOf, slice-steps, step-of, column-in, one-step, slice-distinct}
+use Rattle.order_laws.proofs.Steps.{slice-steps, step-of, one-step}
 
 -- the subtree of the column of step s is done in the steps after `from` up to s
 pub record Piece (par : ℕ → ℕ) (order : List ℕ) (s : ℕ) : Type 0 where

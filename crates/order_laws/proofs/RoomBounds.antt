@@ -1,14 +1,14 @@
 -- How much room steps can use: each finds at most one update a step done before it, none with more entries than the largest front.
 -- Assumes nothing.
-use Prim.Native.Nat.{ℕ, zero, suc, _+_, _*_, _^_, _<_, _≤_}
+use Prim.Native.Nat.{ℕ, zero, suc, _+_, _*_, _≤_}
 use mathlib.Core.Path.{_≡_, refl}
 use mathlib.Core.Logic.{_⊎_, inl, inr}
 use mathlib.Core.List.{List, [], _∷_, List·Memᴰ·head, List·Memᴰ·tail, List·Memᴰ·not-nil, List·Memᴰ·cases-cons}
 use native.Mathlib.Omega.{arith}
-use native.Mathlib.Nat.{mul-le-mul, le-trans}
+use native.Mathlib.Nat.{mul-le-mul}
 use lib.ListN.{length, drop, length-drop}
 use Rattle.papers.specs.Bounds.{maxColumns, maxPeak}
-use Rattle.papers.specs.Lists.{_∈_, sum, greatest}
+use Rattle.papers.specs.Lists.{_∈_}
 use Rattle.papers.specs.Job.{Pattern, Below}
 use Rattle.papers.specs.Tree.{t, parent, rowCount}
 use Rattle.papers.specs.Room.{roomAt, heldAfter, rooms, peakOf}

@@ -3,11 +3,11 @@
 use Prim.Native.Nat.{ℕ, zero, suc, _+_, _<_, _≤_}
 use mathlib.Core.Path.{_≡_, refl}
 use mathlib.Core.Logic.{_↔_, _≢_}
-use mathlib.Core.Bool.{true, false}
+use mathlib.Core.Bool.{true}
 use native.Mathlib.Omega.{arith}
 use lib.Dec.{eqb}
 use borrow.Author.Tests.{eqb-true, eqb-false, eq-eqb, ne-eqb}
-use Rattle.papers.specs.Lists.{_∈_, Asc, Distinct, keep, upTo}
+use Rattle.papers.specs.Lists.{_∈_, Asc, Distinct, upTo}
 use Rattle.papers.specs.Tree.{children, Under, top, up, isUnder, subtreeOf}
 use Rattle.list_laws.proofs.Tests.{Test, passes, fails, test, true-false}
 use Rattle.list_laws.proofs.Ascending.{asc-distinct}

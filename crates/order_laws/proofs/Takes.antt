@@ -4,7 +4,7 @@
 use Prim.Native.Nat.{ℕ, zero, suc, _<_, _≤_}
 use mathlib.Core.Path.{_≡_, refl, sym, ap, _∙_}
 use mathlib.Core.Logic.{_↔_}
-use mathlib.Core.List.{List, [], _∷_, _++_, reverse, reverse-append, List·Memᴰ·head}
+use mathlib.Core.List.{List, [], _∷_, reverse, reverse-append, List·Memᴰ·head}
 use native.Mathlib.Omega.{arith}
 use lib.ListN.{length, take, drop, take-append-drop}
 use lib.Seq.{take-suc, take-length}
@@ -24,8 +24,14 @@ no-elements [] h = refl
 no-elements (x ∷ l) h = absurd (h x (List·Memᴰ·head refl))
 
 -- the steps done, the last one first
-pub done-next : (order : List ℕ) (s : ℕ) → s < length order → reverse (take (suc s) order) ≡ columnAt order (suc s) ∷ reverse (take s order)
+done-next : (order : List ℕ) (s : ℕ) → s < length order → reverse (take (suc s) order) ≡ columnAt order (suc s) ∷ reverse (take s order)
 done-next order s h = rw (column-at order s) (ap reverse (take-suc order s 0 h) ∙ reverse-append (take s order) _)
+
+-- one step more
+pub held-next : (par pops : ℕ → ℕ) (order : List ℕ) (s : ℕ)
+    → heldColumns par pops order (suc s) ≡ pushedOn par (columnAt order (suc s)) (drop (pops (columnAt order (suc s))) (heldColumns par pops order s))
+unfolding heldColumns
+held-next par pops order s = refl
 
 module _ {par : ℕ → ℕ} {n : ℕ} (tree : Tree par n) (order : List ℕ) (o : Ordered par n order) where
   abbrev pops : ℕ → ℕ

@@ -1,6 +1,6 @@
 -- t(r), the entries of r rows: each row adds its own length, so t grows with r.
 -- Assumes nothing.
-use Prim.Native.Nat.{ℕ, zero, suc, _+_, _*_, _/_, _≤_}
+use Prim.Native.Nat.{ℕ, suc, _+_, _*_, _/_, _≤_}
 use mathlib.Core.Path.{_≡_, refl}
 use native.Mathlib.Omega.{arith}
 use native.Mathlib.Nat.{mul-le-mul}
@@ -10,19 +10,9 @@ pub t-is : (r : ℕ) → t r ≡ r * (r + 1) / 2
 unfolding t
 t-is r = refl
 
-pub t-zero : t 0 ≡ 0
-unfolding t
-t-zero = refl
-
 pub t-suc : (r : ℕ) → t (suc r) ≡ t r + suc r
 unfolding t
 t-suc r = omega arith
-
--- the product is even: nothing is lost in halving it
-pub t-twice : (r : ℕ) → t r * 2 ≡ r * (r + 1)
-unfolding t
-t-twice zero = refl
-t-twice (suc r) = omega (arith, t-twice r)
 
 -- the product before it is halved
 pub product-grows : (a b : ℕ) → a ≤ b → a * (a + 1) ≤ b * (b + 1)

@@ -4,7 +4,7 @@
 use Prim.Native.Nat.{ℕ, zero, suc, _<_, _≤_}
 use mathlib.Core.Path.{_≡_, refl, sym, ap, _∙_}
 use mathlib.Core.Logic.{_⊎_, inl, inr, _↔_, _≢_}
-use mathlib.Core.Bool.{Bool, true, false, not}
+use mathlib.Core.Bool.{Bool, true, false}
 use mathlib.Core.List.{List, [], _∷_, _++_, List·Memᴰ·head, List·Memᴰ·tail, List·Memᴰ·cases-cons, Memᴰ·append-left, Memᴰ·cast}
 use native.Mathlib.Omega.{arith}
 use lib.Dec.{eqb}
@@ -12,7 +12,7 @@ use lib.ListN.{length, take, drop, length-append}
 use lib.Seq.{drop-at, take-at}
 use borrow.Author.Tests.{eqb-true, eqb-false, eq-eqb, ne-eqb}
 use Rattle.papers.specs.Lists.{_∈_, Distinct, member, keep}
-use Rattle.papers.specs.Tree.{children, Under, top, up}
+use Rattle.papers.specs.Tree.{children, Under}
 use Rattle.list_laws.proofs.Tests.{Test, passes, fails, test, true-false, not-true}
 use Rattle.list_laws.proofs.Members.{member-into, member-out}
 use Rattle.list_laws.proofs.Keeps.{keep-yes, keep-no, keep-append, keep-none, keep-from, keep-into, keep-distinct, keep-same}
@@ -42,6 +42,14 @@ missing-more : (done : List ℕ) (p j : ℕ) → p ≢ j → missing (j ∷ done
 unfolding missing member
 missing-more done zero j h = refl
 missing-more done (suc p) j h = rw (ne-eqb (suc p) j h, member)
+
+pub pushed-root : (par : ℕ → ℕ) (j : ℕ) (held : List ℕ) → par j ≡ 0 → pushedOn par j held ≡ held
+unfolding pushedOn
+pushed-root par j held e = rw (eq-eqb (par j) 0 e, pushedOn)
+
+pub pushed-update : (par : ℕ → ℕ) (j : ℕ) (held : List ℕ) → 0 < par j → pushedOn par j held ≡ j ∷ held
+unfolding pushedOn
+pushed-update par j held h = rw (ne-eqb (par j) 0 (λ e. absurd (omega arith)), pushedOn)
 
 pub waiting-none : (par : ℕ → ℕ) → waiting par [] ≡ []
 unfolding waiting keep
@@ -113,16 +121,16 @@ module _ {par : ℕ → ℕ} {n : ℕ} (tree : Tree par n) (done : List ℕ) (j 
       ∙ (ap (λ l. l ++ keep (waits (j ∷ done)) before) (keep-none (waits (j ∷ done)) inside inside-after) ∙ keep-same (waits (j ∷ done)) (waits done) before before-after))
 
   waits-then : waiting par (j ∷ done) ≡ pushedOn par j (keep (waits done) before)
-  unfolding waiting waits pushedOn missing
+  unfolding waiting waits missing
   waits-then = go (test (eqb (par j) 0))
     where
       go : Test (eqb (par j) 0) → keep (waits (j ∷ done)) (j ∷ done) ≡ pushedOn par j (keep (waits done) before)
-      go (passes e) = keep-no (waits (j ∷ done)) j done (rw (eqb-true (par j) 0 e, missing)) ∙ (still ∙ rw (e, pushedOn))
+      go (passes e) = keep-no (waits (j ∷ done)) j done (rw (eqb-true (par j) 0 e, missing)) ∙ (still ∙ sym (pushed-root par j (keep (waits done) before) (eqb-true (par j) 0 e)))
       go (fails e) =
           let z : par j ≢ 0 = eqb-false (par j) 0 e in
           let h : 0 < par j = omega arith in
           let out : (par j ≡ j) ⊎ (par j ∈ done) → ⊥ = λ c. elim c [ inl q ↦ omega (arith, tree .above j h) | inr m ↦ later m ] in
-          keep-yes (waits (j ∷ done)) j done (missing-yes (j ∷ done) (par j) h (λ m. out (List·Memᴰ·cases-cons m))) ∙ (ap (λ l. j ∷ l) still ∙ rw (e, pushedOn))
+          keep-yes (waits (j ∷ done)) j done (missing-yes (j ∷ done) (par j) h (λ m. out (List·Memᴰ·cases-cons m))) ∙ (ap (λ l. j ∷ l) still ∙ sym (pushed-update par j (keep (waits done) before) h))
 
   taken-are : (x : ℕ) → (x ∈ keep isChild inside) ↔ (par x ≡ j)
   unfolding isChild

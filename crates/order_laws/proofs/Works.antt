@@ -1,19 +1,28 @@
 -- W, and the steps of a subtree, from its children's.
 -- Assumes nothing.
 use Prim.Native.Nat.{ℕ, zero, suc, _+_, _<_, _≤_, max}
-use mathlib.Core.Path.{_≡_, refl, sym, ap, _∙_}
-use mathlib.Core.List.{List, [], _∷_, _++_, flatMap}
+use mathlib.Core.Path.{_≡_, refl, ap, _∙_}
+use mathlib.Core.Logic.{_↔_}
+use mathlib.Core.List.{[], _∷_, _++_, flatMap, List·Memᴰ·not-nil}
 use native.Mathlib.Omega.{arith}
 use lib.ListN.{length}
-use Rattle.papers.specs.Lists.{_∈_, sort}
+use Rattle.papers.specs.Bounds.{maxColumns, maxPeak}
+use Rattle.papers.specs.Lists.{_∈_, Distinct, upTo}
 use Rattle.papers.specs.Job.{Pattern, Below}
-use Rattle.papers.specs.Tree.{t, parent, rowCount, children}
+use Rattle.papers.specs.Tree.{t, parent, rowCount, Under, subtreeOf}
 use Rattle.papers.specs.Room.{peakOf}
-use Rattle.papers.specs.Order.{siblingKey, alone, arranged, stepsOf, kidsOf, popsOf, W, orderOf}
+use Rattle.papers.specs.Order.{alone, arranged, stepsOf, kidsOf, popsOf, W, orderOf, peak}
+use Rattle.list_laws.proofs.Counts.{distinct-length, same-length}
+use Rattle.list_laws.proofs.UpTo.{upTo-into, length-upTo}
 use Rattle.order_laws.specs.Subtrees.{Kin, inTurn, butLast, subtreeSteps, siblingsOf}
-use Rattle.order_laws.proofs.Subtrees.{children-are}
+use Rattle.order_laws.proofs.Trees.{under-range}
+use Rattle.order_laws.proofs.Subtrees.{children-are, subtree-is, subtree-distinct}
+use Rattle.order_laws.proofs.Forests.{SubtreeOrder}
+use Rattle.order_laws.proofs.Ordering.{valid-distinct}
 use Rattle.order_laws.proofs.Arranged.{steps-suc, steps-enough}
+use Rattle.order_laws.proofs.Orders.{steps-order}
 use Rattle.order_laws.proofs.Patterns.{tree-of, root-rows}
+use Rattle.order_laws.proofs.RoomBounds.{peak-fits}
 use Rattle.order_laws.proofs.Needs.{need-children}
 
 -- the order: the subtrees of the roots
@@ -51,3 +60,33 @@ module _ {n : ℕ} {A : Pattern} (below : Below n A) where
     pub W-children : W mark n A j ≡ max (inTurn (rowCount A) (W mark n A) 0 (siblingsOf mark n A j)) (butLast (rowCount A) (siblingsOf mark n A j) + t (suc (rowCount A j)))
     unfolding siblingsOf W arranged alone
     W-children = ap (peakOf (rowCount A) (popsOf n A)) deeper ∙ need-children mark (rowCount A) (kidsOf n A) kin-of n j l (omega arith)
+
+    order-of : SubtreeOrder (parent A) j (stepsOf mark (rowCount A) (kidsOf n A) n j)
+    order-of = steps-order (tree-of below) mark (rowCount A) n j l u
+
+    -- a subtree's steps have its columns
+    pub subtree-columns : (x : ℕ) → (x ∈ subtreeSteps mark n A j) ↔ Under (parent A) j x
+    unfolding subtreeSteps
+    subtree-columns x = order-of .all x
+
+    -- each once
+    pub subtree-once : Distinct (subtreeSteps mark n A j)
+    unfolding subtreeSteps
+    subtree-once = valid-distinct (parent A) (stepsOf mark (rowCount A) (kidsOf n A) n j) [] (order-of .valid [] (λ x s m. List·Memᴰ·not-nil m)) .0
+
+    -- so there are as many under every mark
+    pub subtree-count : length (subtreeSteps mark n A j) ≡ length (subtreeOf (parent A) n j)
+    subtree-count =
+        same-length (subtreeSteps mark n A j) (subtreeOf (parent A) n j) subtree-once (subtree-distinct (parent A) n j)
+        (λ i m. subtree-is (tree-of below) j i l u .1 (subtree-columns i .0 m)) (λ i m. subtree-columns i .1 (subtree-is (tree-of below) j i l u .0 m))
+
+    within : (x : ℕ) → x ∈ subtreeSteps mark n A j → (1 ≤ x) × (x ≤ n)
+    within x m = under-range (tree-of below) j x l u (subtree-columns x .0 m)
+
+    few : length (subtreeSteps mark n A j) ≤ n
+    few = omega (arith, length-upTo n, distinct-length (subtreeSteps mark n A j) (upTo n) subtree-once (λ i m. let (a, b) = within i m in upTo-into n i a b))
+
+    -- W is no greater than a peak can be
+    pub W-fits : n ≤ maxColumns → W mark n A j ≤ maxPeak
+    unfolding W alone subtreeSteps peak
+    W-fits h = peak-fits below (subtreeSteps mark n A j) few within h

@@ -15,3 +15,4 @@ pub mod Run
 pub mod Text
 pub mod Call
 pub mod Conditions
+pub mod Sound

@@ -1,0 +1,1 @@
+// Laws of plans: what passes the check is sound, and what is written passes. No code.
