@@ -1,13 +1,13 @@
 -- Reading in a row: each part is read behind the one before it, and a field that is read is a number of its range that stands there in shortest
 -- form. So what is read are the bytes that stand there, number by number, and what stands there is read.
 -- Assumes nothing.
-use Prim.Native.Nat.{ℕ, _+_, _-_, _*_, _^_, _<_, _≤_}
+use Prim.Native.Nat.{ℕ, _+_, _*_, _^_, _<_, _≤_}
 use mathlib.Core.Path.{_≡_, refl, sym, ap, _∙_}
 use mathlib.Core.Bool.{Bool, true, false}
 use mathlib.Core.List.{List, [], _++_, append-assoc, append-nil}
 use native.Mathlib.Omega.{arith}
 use lib.Dec.{ltb}
-use lib.ListN.{length, getD, drop, length-append, length-drop, drop-of-length-le}
+use lib.ListN.{length, getD, drop, length-append, drop-of-length-le}
 use lib.Seq.{drop-at, drop-length}
 use borrow.Author.Tests.{ltb-false, le-ltb}
 use Rattle.papers.specs.Bounds.{edition, maxColumns, maxMark, maxLimit, maxPeak, maxGroups}

@@ -10,7 +10,6 @@ use native.Mathlib.Numerals.{add-one}
 use lib.ListN.{length, getD, take, length-take, drop-of-length-le}
 use lib.Seq.{slice, slice-cons}
 use Rattle.papers.specs.Lists.{least}
-use Rattle.papers.specs.Job.{columnOf}
 use Rattle.papers.specs.Refusals.{answer, untouched, passed, answerOf, startsTest, rowFault, rowsFault, columnFault, rowsTest}
 use Rattle.job_laws.proofs.Firsts.{answer-refused, answer-passed}
 use Rattle.job_laws.proofs.Faults.{faulty, faults-next, faults-pass, faults-refuse}

@@ -1,12 +1,14 @@
 -- The first test that refuses. Tests that pass may be left out in front, tests behind one that refuses do not matter, and what holds of each
 -- test's verdict holds of the first's.
 -- Assumes nothing.
-use Prim.Native.Nat.{ℕ}
+use Prim.Native.Nat.{ℕ, _<_, _≤_}
 use mathlib.Core.Path.{_≡_, refl, sym, _∙_}
 use mathlib.Core.Logic.{_↔_, _≢_}
 use mathlib.Core.Bool.{Bool, true, false}
 use mathlib.Core.List.{List, [], _∷_, _++_, map}
 use native.Mathlib.Omega.{arith}
+use lib.Dec.{ltb}
+use borrow.Author.Tests.{ltb-false, lt-ltb, le-ltb}
 use Rattle.papers.specs.declared.Answer.{Answer}
 use Rattle.papers.specs.Refusals.{answer, Leaves, Verdict, passed, refused, answerOf, first, refusedIf}
 
@@ -97,6 +99,15 @@ passed-if-iff b a l = (there b refl, passed-if b a l)
     there : (t : Bool) → b ≡ t → refusedIf b a l ≡ passed → b ≡ false
     there true e p = absurd (refused-passed (refused-if b a l e) p)
     there false e p = e
+
+-- a test that x is over a bound refuses just where it is
+pub over-refuses : (bound x : ℕ) (a : Answer) (l : Leaves) → bound < x → refusedIf (ltb bound x) a l ≡ refused a l
+over-refuses bound x a l h = refused-if (ltb bound x) a l (lt-ltb bound x h)
+
+pub over-passes-iff : (bound x : ℕ) (a : Answer) (l : Leaves) → (refusedIf (ltb bound x) a l ≡ passed) ↔ (x ≤ bound)
+over-passes-iff bound x a l =
+    let i = passed-if-iff (ltb bound x) a l in
+    (λ e. ltb-false bound x (i .0 e), λ h. i .1 (le-ltb bound x h))
 
 -- ---- the answer of a verdict
 

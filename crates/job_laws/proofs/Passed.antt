@@ -6,16 +6,14 @@ use mathlib.Core.Path.{_≡_}
 use mathlib.Core.Logic.{_↔_, ⊎-elim}
 use mathlib.Core.List.{List, [], List·Memᴰ·not-nil}
 use native.Mathlib.Omega.{arith}
-use lib.Dec.{ltb}
 use lib.ListN.{length, getD, List·getD-eq-default}
 use lib.Seq.{slice-empty, drop-nil}
-use borrow.Author.Tests.{ltb-false, le-ltb}
 use Rattle.papers.specs.Bounds.{maxColumns, maxMark, maxLimit}
 use Rattle.papers.specs.Lists.{_∈_, Asc}
 use Rattle.papers.specs.Job.{Job, start, columnOf, pattern, Below}
-use Rattle.papers.specs.Refusals.{answer, untouched, passed, refusedIf, first, columnsTest, markTest, limitTest, startsTest, rowsTest, jobTests}
+use Rattle.papers.specs.Refusals.{answer, untouched, passed, first, columnsTest, markTest, limitTest, startsTest, rowsTest, jobTests}
 use Rattle.list_laws.proofs.Tests.{below-or}
-use Rattle.job_laws.proofs.Firsts.{passed-if-iff, first-passed-iff}
+use Rattle.job_laws.proofs.Firsts.{first-passed-iff, over-passes-iff}
 use Rattle.job_laws.proofs.Starts.{Starts, starts-iff, start-at}
 use Rattle.job_laws.proofs.Rows.{rows-iff}
 
@@ -76,19 +74,15 @@ pub record Passed (job : Job) : Type 0 where
   pub limited : job .limit ≤ maxLimit
   pub lists : PassedLists (job .n) (job .starts) (job .rows)
 
-bound-iff : (bound x number : ℕ) → (refusedIf (ltb bound x) (answer number 0 0) untouched ≡ passed) ↔ (x ≤ bound)
-bound-iff bound x number =
-    let i = passed-if-iff (ltb bound x) (answer number 0 0) untouched in (λ e. ltb-false bound x (i .0 e), λ h. i .1 (le-ltb bound x h))
-
 -- a job passes 1 to 6 just where it is such a job
 pub passes-iff : (job : Job) → (first jobTests job ≡ passed) ↔ Passed job
 unfolding jobTests columnsTest markTest limitTest
 passes-iff job =
     let each = first-passed-iff jobTests job in
     let lists = lists-iff (job .n) (job .starts) (job .rows) in
-    let columns = bound-iff maxColumns (job .n) 1 in
-    let mark = bound-iff maxMark (job .mark) 2 in
-    let limit = bound-iff maxLimit (job .limit) 3 in (
+    let columns = over-passes-iff maxColumns (job .n) (answer 1 0 0) untouched in
+    let mark = over-passes-iff maxMark (job .mark) (answer 2 0 0) untouched in
+    let limit = over-passes-iff maxLimit (job .limit) (answer 3 0 0) untouched in (
       λ e. let t = each .0 e in record { few = columns .0 (t .0); marked = mark .0 (t .1 .0); limited = limit .0 (t .1 .1 .0); lists = lists .0 (t .1 .1 .1 .0, t .1 .1 .1 .1 .0) },
       λ p. let l = lists .1 (p .lists) in each .1 (columns .1 (p .few), (mark .1 (p .marked), (limit .1 (p .limited), (l .0, (l .1, tt))))),
     )

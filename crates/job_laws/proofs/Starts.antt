@@ -1,16 +1,16 @@
 -- The test of the starts (refusal 4): what each way out of it answers, and that starts pass it just where there are n + 1 of them, from 0 up to
 -- the row count, none below the one before.
 -- Assumes nothing.
-use Prim.Native.Nat.{ℕ, zero, suc, _+_, _-_, _<_, _≤_}
+use Prim.Native.Nat.{ℕ, zero, suc, _+_, _-_, _≤_}
 use mathlib.Core.Path.{_≡_, refl}
 use mathlib.Core.Logic.{_↔_, _≢_}
-use mathlib.Core.Bool.{true, false}
+use mathlib.Core.Bool.{false}
 use mathlib.Core.List.{List}
 use native.Mathlib.Omega.{arith}
-use lib.Dec.{eqb}
+use lib.Dec.{ltb, eqb}
 use lib.ListN.{length, getD}
 use lib.Seq.{slice}
-use borrow.Author.Tests.{ltb-false, lt-ltb, le-ltb, eqb-true, eqb-false, eq-eqb, ne-eqb}
+use borrow.Author.Tests.{ltb-false, le-ltb, eqb-true, eqb-false, eq-eqb, ne-eqb}
 use Rattle.papers.specs.Lists.{least}
 use Rattle.papers.specs.Job.{start, columnOf}
 use Rattle.papers.specs.Refusals.{answer, untouched, passed, refused, refusedIf, falls, startsTest}
@@ -35,11 +35,11 @@ pub column-at : (starts rows : List ℕ) (j : ℕ) → columnOf starts rows (suc
 unfolding columnOf
 column-at starts rows j = rw (start-at starts j, start-at starts (suc j))
 
-pub falls-true : (starts : List ℕ) (j : ℕ) → start starts (suc j) < start starts j → falls starts j ≡ true
+pub falls-at : (starts : List ℕ) (j : ℕ) → falls starts (suc j) ≡ ltb (getD starts (suc j) 0) (getD starts j 0)
 unfolding falls
-falls-true starts j h = lt-ltb (start starts (suc j)) (start starts j) h
+falls-at starts j = rw (start-at starts j, start-at starts (suc j))
 
-pub falls-false-iff : (starts : List ℕ) (j : ℕ) → (falls starts j ≡ false) ↔ (start starts j ≤ start starts (suc j))
+falls-false-iff : (starts : List ℕ) (j : ℕ) → (falls starts j ≡ false) ↔ (start starts j ≤ start starts (suc j))
 unfolding falls
 falls-false-iff starts j = (ltb-false (start starts (suc j)) (start starts j), le-ltb (start starts (suc j)) (start starts j))
 

@@ -1,7 +1,7 @@
 -- A refusal of a job is one of 1 to 6, counts nothing and leaves the lent slices untouched: each of its tests refuses so, hence the first does.
 -- Assumes nothing.
 use Prim.Native.Nat.{ℕ, _≤_}
-use mathlib.Core.Path.{_≡_, refl}
+use mathlib.Core.Path.{_≡_, refl, ap}
 use mathlib.Core.Bool.{Bool, true, false}
 use mathlib.Core.List.{List}
 use native.Mathlib.Omega.{arith}
@@ -58,10 +58,10 @@ pub job-untouched : (job : Job) {a : Answer} {l : Leaves} → first jobTests job
 job-untouched job e = rw e at (job-early job)
 
 -- the number 0 is given only where nothing is refused
-pub early-zero : (v : Verdict) → Early v → answerOf v .number ≡ 0 → v ≡ passed
+pub early-zero : (v : Verdict) → Early v → (r : Answer) → r ≡ answerOf v → r .number ≡ 0 → v ≡ passed
 unfolding answerOf
-early-zero passed h e = refl
-early-zero (refused a l) h e = absurd (omega arith)
+early-zero passed h r e z = refl
+early-zero (refused a l) h r e z = absurd (omega (arith, ap (λ a. a .number) e))
 
 pub answer-zero : (job : Job) → answerOf (first jobTests job) .number ≡ 0 → first jobTests job ≡ passed
-answer-zero job e = early-zero (first jobTests job) (job-early job) e
+answer-zero job z = early-zero (first jobTests job) (job-early job) (answerOf (first jobTests job)) refl z

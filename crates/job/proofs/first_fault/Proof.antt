@@ -1,51 +1,87 @@
+-- `job::first_fault` meets its contract: it makes the tests of a job in their order and answers for the first that refuses.
+-- Assumes nothing.
+use Prim.Native.Nat.{_<_, _≤_}
+use mathlib.Core.Path.{_≡_, ap, sym, _∙_}
+use mathlib.Core.Logic.{_≢_}
+use mathlib.Core.List.{List, [], _∷_}
 use borrow.Author.Needs.{needs}
+use Rattle.papers.specs.declared.Answer.{Answer}
+use Rattle.papers.specs.Bounds.{maxColumns, maxMark, maxLimit}
+use Rattle.papers.specs.Job.{Job}
+use Rattle.papers.specs.Refusals.{answer, untouched, Verdict, passed, refused, answerOf, first, columnsTest, markTest, limitTest, startsTest, rowsTest, jobTests}
+use Rattle.job_laws.proofs.Firsts.{first-passes, first-refuses, first-answers, first-last, over-refuses, over-passes-iff, answer-refused}
+use Rattle.job_laws.proofs.Untouched.{starts-early, early-zero}
 use Rattle.job.proofs.first_fault.Statement.{statement}
 use Rattle.job.proofs.first_fault.Tie as tie
-use Rattle.job.proofs.first_fault.Reads as reads
-use Rattle.job.proofs.first_fault.Lts as lts
-use Rattle.job.proofs.rows_fault.Reads as rows-fault-reads
-use Rattle.job.proofs.starts_fault.Reads as starts-fault-reads
-use Rattle.job.proofs.uncounted.Reads as uncounted-reads
 
--- src/lib.rt:101:9
+-- the tests of a job's lists: those behind the tests of its numbers
+abbrev list-tests : List (Job → Verdict)
+list-tests = (λ job. startsTest (job .n) (job .starts) (job .rows)) ∷ (λ job. rowsTest (job .n) (job .starts) (job .rows)) ∷ []
+
+module _ (job : Job) where
+  columns-refuses : maxColumns < job .n → first jobTests job ≡ refused (answer 1 0 0) untouched
+  unfolding jobTests columnsTest
+  columns-refuses h = first-refuses _ _ job (over-refuses maxColumns (job .n) _ _ h)
+
+  module _ (few : job .n ≤ maxColumns) where
+    columns-pass : first jobTests job ≡ first (markTest ∷ limitTest ∷ list-tests) job
+    unfolding jobTests columnsTest
+    columns-pass = first-passes _ _ job (over-passes-iff maxColumns (job .n) _ _ .1 few)
+
+    mark-refuses : maxMark < job .mark → first jobTests job ≡ refused (answer 2 0 0) untouched
+    unfolding markTest
+    mark-refuses h = columns-pass ∙ first-refuses _ _ job (over-refuses maxMark (job .mark) _ _ h)
+
+    module _ (marked : job .mark ≤ maxMark) where
+      mark-passes : first jobTests job ≡ first (limitTest ∷ list-tests) job
+      unfolding markTest
+      mark-passes = columns-pass ∙ first-passes _ _ job (over-passes-iff maxMark (job .mark) _ _ .1 marked)
+
+      limit-refuses : maxLimit < job .limit → first jobTests job ≡ refused (answer 3 0 0) untouched
+      unfolding limitTest
+      limit-refuses h = mark-passes ∙ first-refuses _ _ job (over-refuses maxLimit (job .limit) _ _ h)
+
+      module _ (limited : job .limit ≤ maxLimit) where
+        limit-passes : first jobTests job ≡ first list-tests job
+        unfolding limitTest
+        limit-passes = mark-passes ∙ first-passes _ _ job (over-passes-iff maxLimit (job .limit) _ _ .1 limited)
+
+        starts-refuse : (r : Answer) → r ≡ answerOf (startsTest (job .n) (job .starts) (job .rows)) → r .number ≢ 0 → r ≡ answerOf (first jobTests job)
+        starts-refuse r e h = e ∙ ap answerOf (sym (limit-passes ∙ first-answers _ _ job (λ z. h (ap (λ a. a .number) e ∙ z))))
+
+        rows-decide : startsTest (job .n) (job .starts) (job .rows) ≡ passed → (r : Answer) → r ≡ answerOf (rowsTest (job .n) (job .starts) (job .rows))
+            → r ≡ answerOf (first jobTests job)
+        rows-decide p r e = e ∙ ap answerOf (sym (limit-passes ∙ first-passes _ _ job p ∙ first-last _ job))
+
 uncounted-requires : tie.Need-uncounted-requires
 uncounted-requires c κs = search needs
 
--- src/lib.rt:101:9
 returns : tie.Need-returns
-returns c = ?
+returns c = answer-refused (columns-refuses _ (c .before .if1 .taken)) (c .uncounted .ensures)
 
--- src/lib.rt:104:9
 uncounted-requires-2 : tie.Need-uncounted-requires-2
 uncounted-requires-2 c κs = search needs
 
--- src/lib.rt:104:9
 returns-2 : tie.Need-returns-2
-returns-2 c = ?
+returns-2 c = answer-refused (mark-refuses _ (c .before .before .before .if1 .left) (c .before .if2 .taken)) (c .uncounted2 .ensures)
 
--- src/lib.rt:107:9
 uncounted-requires-3 : tie.Need-uncounted-requires-3
 uncounted-requires-3 c κs = search needs
 
--- src/lib.rt:107:9
 returns-3 : tie.Need-returns-3
-returns-3 c = ?
+returns-3 c = answer-refused (limit-refuses _ (c .before .before .before .before .before .if1 .left) (c .before .before .before .if2 .left) (c .before .if3 .taken)) (c .uncounted3 .ensures)
 
--- src/lib.rt:109:9
 starts-fault-requires : tie.Need-starts-fault-requires
 starts-fault-requires c κs = search needs
 
--- src/lib.rt:111:9
 returns-4 : tie.Need-returns-4
-returns-4 c = ?
+returns-4 c = starts-refuse _ (c .before .before .before .before .before .before .before .if1 .left) (c .before .before .before .before .before .if2 .left) (c .before .before .before .if3 .left) _ (c .before .before .starts-fault .ensures) (c .if4 .taken)
 
--- src/lib.rt:113:5
 rows-fault-requires : tie.Need-rows-fault-requires
-rows-fault-requires c κs = ?
+rows-fault-requires c κs = (search needs, early-zero _ (starts-early _ _ _) _ (c .before .before .starts-fault .ensures) (c .if4 .left))
 
--- src/lib.rt:97:1
 returns-5 : tie.Need-returns-5
-returns-5 c = ?
+returns-5 c = rows-decide _ (c .before .before .before .before .before .before .before .before .if1 .left) (c .before .before .before .before .before .before .if2 .left) (c .before .before .before .before .if3 .left) (early-zero _ (starts-early _ _ _) _ (c .before .before .before .starts-fault .ensures) (c .before .if4 .left)) _ (c .rows-fault .ensures)
 
 pub first-fault-spec : {M : Type 1} → statement M
 first-fault-spec =

@@ -1,12 +1,11 @@
+-- `job::rows_fault` meets its contract: the invariants of its two loops and what each way through them gives stand in `Reading`.
+-- Assumes nothing.
 use borrow.Author.Needs.{needs}
 use Prim.Native.Nat.{_-_}
 use native.Mathlib.Omega.{arith}
 use Rattle.job.proofs.Reading.{Columns, Rows, first-column, last-column, first-row, next-row, next-column, found}
 use Rattle.job.proofs.rows_fault.Statement.{statement}
 use Rattle.job.proofs.rows_fault.Tie as tie
-use Rattle.job.proofs.rows_fault.Reads as reads
-use Rattle.job.proofs.rows_fault.Lts as lts
-use Rattle.job.proofs.row_fault.Reads as row-fault-reads
 
 abbrev Inv-rows : tie.InvT-rows
 Inv-rows n starts rows number₀ place₀ done j i₀ end before₀ number place i before = Rows n starts rows j end number place i before
@@ -20,75 +19,57 @@ Inv-columns n starts rows number₀ place₀ done₀ number place done = Columns
 abbrev μ-columns : tie.MeasureT-columns
 μ-columns n starts rows number₀ place₀ done₀ number place done = n - done
 
--- src/lib.rt:71:5
 columns-holds : tie.Need-columns-holds Inv-rows μ-rows Inv-columns μ-columns
 columns-holds c = first-column (c .before .before .pre .1)
 
--- src/lib.rt:72:17
 add-j : tie.Need-add-j Inv-rows μ-rows Inv-columns μ-columns
 add-j c = search needs
 
--- src/lib.rt:73:21
 mul-i : tie.Need-mul-i Inv-rows μ-rows Inv-columns μ-columns
 mul-i c = search needs
 
--- src/lib.rt:73:21
 shared-slice-read-i : tie.Need-shared-slice-read-i Inv-rows μ-rows Inv-columns μ-columns
 shared-slice-read-i c = search needs
 
--- src/lib.rt:74:19
 mul-end : tie.Need-mul-end Inv-rows μ-rows Inv-columns μ-columns
 mul-end c = search needs
 
--- src/lib.rt:74:19
 shared-slice-read-end : tie.Need-shared-slice-read-end Inv-rows μ-rows Inv-columns μ-columns
 shared-slice-read-end c = search needs
 
--- src/lib.rt:76:9
 rows-holds : tie.Need-rows-holds Inv-rows μ-rows Inv-columns μ-columns
 rows-holds c = first-row (c .before .before .before .columns .inv) (c .before .before .columns-test .taken)
 
--- src/lib.rt:77:23
 mul-row : tie.Need-mul-row Inv-rows μ-rows Inv-columns μ-columns
 mul-row c = search needs
 
--- src/lib.rt:77:23
 shared-slice-read-row : tie.Need-shared-slice-read-row Inv-rows μ-rows Inv-columns μ-columns
 shared-slice-read-row c = search needs
 
--- src/lib.rt:77:23
 cast-row : tie.Need-cast-row Inv-rows μ-rows Inv-columns μ-columns
 cast-row c = omega (arith, c .shared-slice-known5 .given (c .before .before .rows .i))
 
--- src/lib.rt:78:17
 row-fault-requires : tie.Need-row-fault-requires Inv-rows μ-rows Inv-columns μ-columns
 row-fault-requires c κs = search needs
 
--- src/lib.rt:85:13
 add-i : tie.Need-add-i Inv-rows μ-rows Inv-columns μ-columns
 add-i c = search needs
 
--- src/lib.rt:76:9
 rows-less : tie.Need-rows-less Inv-rows μ-rows Inv-columns μ-columns
 rows-less c = search needs
 
--- src/lib.rt:76:9
 rows-again : tie.Need-rows-again Inv-rows μ-rows Inv-columns μ-columns
 rows-again c = next-row (c .before .before .before .before .rows .inv) _ (c .before .before .before .rows-test .taken) (c .before .row-fault .ensures) (c .if1 .left)
 
--- src/lib.rt:71:5
 columns-less : tie.Need-columns-less Inv-rows μ-rows Inv-columns μ-columns
 columns-less c = search needs
 
--- src/lib.rt:71:5
 columns-again : tie.Need-columns-again Inv-rows μ-rows Inv-columns μ-columns
 columns-again c = next-column (c .before .before .before .before .before .columns .inv) (c .before .before .before .before .columns-test .taken) (c .before .rows .inv) (c .rows-test .left)
 
--- src/lib.rt:63:1
 returns : tie.Need-returns Inv-rows μ-rows Inv-columns μ-columns
 returns c = last-column (c .before .columns .inv) (c .columns-test .left)
 
--- src/lib.rt:63:1
 returns-2 : tie.Need-returns-2 Inv-rows μ-rows Inv-columns μ-columns
 returns-2 c = found (c .before .before .before .before .before .before .before .before .columns .inv) (c .before .before .before .before .before .before .before .columns-test .taken) (c .before .before .before .before .rows .inv) _ (c .before .before .before .rows-test .taken) (c .before .row-fault .ensures) (c .if1 .taken)
 
