@@ -2,14 +2,14 @@
 // Nothing of the bytes is believed before its range is tested: a count read is at most the rows that its column can have, and a row that finds no
 // room is counted all the same.
 ghost use mathlib.Core.Path.{_≡_};
-ghost use Prim.Native.Nat.{ℕ, _+_, _^_, _≤_, _<_};
+ghost use Prim.Native.Nat.{ℕ, _+_, _-_, _^_, _≤_, _<_};
 ghost use mathlib.Core.List.{List};
 ghost use lib.ListN.{length, set};
 ghost use Rattle.papers.specs.Bounds.{maxColumns};
 ghost use Rattle.papers.specs.Lists.{flat};
 ghost use Rattle.papers.specs.Plan.{inField, field, readStep, readSteps, readRows, readList, readLists, readPlan};
 ghost use Rattle.papers.specs.declared.Number.the-variants.{Value};
-ghost use Rattle.plan_reader.specs.Reading.{reading, Told, StepIn, StepsIn, RowsIn, ListsIn, planReading, Keeps};
+ghost use Rattle.plan_reader.specs.Reading.{reading, Told, StepIn, StepsIn, RowsRead, RowsIn, ListsIn, planReading, Keeps};
 use papers::Number;
 
 // What reading a part of a plan answers: a number of that part and the place behind it; or a refusal's number and place.
@@ -22,6 +22,12 @@ pub enum Reading {
 pub enum PlanReading {
     Whole { peak: u64, rows: u64 },
     Faulty { number: u64, place: u64 },
+}
+
+// Rows read in one go: how many, and the last of them.
+pub struct ShortRows {
+    pub count: usize,
+    pub last: u64,
 }
 
 // A number of 32 bits.
@@ -53,7 +59,7 @@ fn in_range(at: usize, low: u64, high: u64, value: u64, next: usize) -> Reading
     Reading::Found { value, next }
 }
 
-// A field from low to high whose number starts at `at`. Most numbers have one group, which is read without the loop.
+// A field from low to high whose number starts at `at`.
 fn read_field(plan: &[u8], at: usize, low: u64, high: u64) -> Reading
     requires { ⌜ at ≤ length (now plan) ⌝ }
     ensures { λ r. ⌜ r ≡ reading (field low high (now (plan .entry)) at) ⌝ }
@@ -152,8 +158,56 @@ fn keep_row(rows: &mut [u32], i: usize, row: u64)
     }
 }
 
+fn least(a: usize, b: usize) -> usize
+    ensures { λ r. ⌜ (r ≤ a) × (r ≤ b) ⌝ }
+{
+    if a < b {
+        return a;
+    }
+    b
+}
+
+// How many gaps of one byte can be read and kept without a look at the ends: those left, the bytes that follow, the room behind place t.
+fn most_short(left: usize, bytes: usize, t: usize, room: usize) -> usize
+    ensures { λ r. ⌜ (r ≤ left) × (r ≤ bytes) × (r ≤ room - t) ⌝ }
+{
+    if room <= t {
+        return 0;
+    }
+    least(left, least(bytes, room - t))
+}
+
+// The rows behind row b whose gaps have one group, up to the first that has more, or is out of its range, or finds no room: keeps them from place t on.
+// Most rows are read here. The first i of `left` are kept, `last` is the last of them, or b.
+fn short_rows(
+    plan: &[u8],
+    at: usize,
+    n: u64,
+    b: u64,
+    left: u64,
+    t: usize,
+    rows: &mut [u32],
+) -> ShortRows
+    requires { ⌜ (at ≤ length (now plan)) × (n ≤ maxColumns) × (b ≤ n) ⌝ }
+    ensures { λ r. ⌜ RowsRead n (now (plan .entry)) b left at t (now (rows .entry)) (now (rows .exit)) (at + r .count) (r .last) (left - r .count) (t + r .count) ⌝ }
+{
+    let most = most_short(left as usize, plan.len() - at, t, rows.len());
+    let mut i = 0;
+    let mut last = b;
+    while i < most {
+        let gap = wide(plan[at + i]);
+        if gap == 0 || 127 < gap || n - last < gap {
+            return ShortRows { count: i, last };
+        }
+        last += gap;
+        rows[t + i] = narrow(last);
+        i += 1;
+    }
+    ShortRows { count: i, last }
+}
+
 // The rows of column j by their gaps, `count` of them from `at` on: keeps them from place t on while there is room, answers the place behind them,
-// kept or not. So far `total` rows are behind us, `row` is the last of them, or j, and `left` are to come.
+// kept or not. The rows before place `total` are read, `row` is the last of them, or j, and `left` are to come, the next at k.
 fn read_rows(
     plan: &[u8],
     at: usize,
@@ -171,12 +225,20 @@ fn read_rows(
     let mut left = count;
     let mut total = t;
     while 0 < left {
+        let short = short_rows(plan, k, n, row, left, total, rows);
+        row = short.last;
+        k += short.count;
+        total += short.count;
+        left -= short.count as u64;
+        if left == 0 {
+            break;
+        }
         match read_field(plan, k, 1, n - row) {
             Reading::Refused { number, place } => {
                 return Reading::Refused { number, place };
             }
             Reading::Found { value: gap, next } => {
-                row = row + gap;
+                row += gap;
                 keep_row(rows, total, row);
                 total += 1;
                 k = next;
@@ -208,7 +270,7 @@ fn read_list(plan: &[u8], at: usize, n: u64, j: u64, t: usize, rows: &mut [u32])
 // The lists of all columns from `at` on: keeps where each starts, and the rows while there is room; answers how many rows there are.
 // The lists of the columns before j are done, with `total` rows, and the next starts at k.
 fn read_lists(plan: &[u8], at: usize, n: u64, starts: &mut [u64], rows: &mut [u32]) -> Reading
-    requires { ⌜ (at ≤ length (now plan)) × (n ≤ maxColumns) × (n < length (now starts)) ⌝ }
+    requires { ⌜ (at ≤ length (now plan)) × (n ≤ maxColumns) × (n + 1 ≤ length (now starts)) ⌝ }
     ensures { λ r. ⌜ Told (λ lists. length (flat lists)) (ListsIn (now (starts .entry)) (now (starts .exit)) (now (rows .entry)) (now (rows .exit))) (readLists n 1 n (now (plan .entry)) at) r ⌝ }
 {
     let mut k = at;

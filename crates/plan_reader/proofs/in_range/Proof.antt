@@ -1,20 +1,20 @@
+-- A value in its range is found, one outside is 14 where it starts.
+-- Assumes nothing.
+use mathlib.Core.Logic.{⊎-elim}
 use borrow.Author.Needs.{needs}
+use borrow.Author.Tests.{ltb-true, ltb-false}
+use Rattle.plan_reader.proofs.Answers.{below-range, above-range, in-range}
 use Rattle.plan_reader.proofs.in_range.Statement.{statement}
 use Rattle.plan_reader.proofs.in_range.Tie as tie
-use Rattle.plan_reader.proofs.in_range.Reads as reads
-use Rattle.plan_reader.proofs.in_range.Lts as lts
 
--- src/lib.rt:50:20
 add-t9 : tie.Need-add-t9
 add-t9 c = search needs
 
--- src/lib.rt:48:9
 returns : tie.Need-returns
-returns c = ?
+returns c = ⊎-elim (λ x. below-range _ _ _ _ _ (x .taken)) (λ x. above-range _ _ _ _ _ (x .0 .left) (ltb-true _ _ (x .1 .taken))) (c .if1 .came)
 
--- src/lib.rt:43:1
 returns-2 : tie.Need-returns-2
-returns-2 c = ?
+returns-2 c = in-range _ _ _ _ _ (c .before .if1 .left) (ltb-false _ _ (c .if2 .left))
 
 pub in-range-spec : {M : Type 1} → statement M
 in-range-spec = tie.close (tie.spec add-t9 returns returns-2)

@@ -1,75 +1,58 @@
+-- A byte below 128 is a number by itself; any other number is what groups::get reads. Either way the field is that number in its range.
+-- Assumes nothing.
+use mathlib.Core.Path.{sym, _∙_}
 use borrow.Author.Needs.{needs}
+use Rattle.plan_reader.proofs.Answers.{ended-is-12, too-long-is-13, not-shortest-is-13, field-by-number, one-group}
 use Rattle.plan_reader.proofs.read_field.Statement.{statement}
 use Rattle.plan_reader.proofs.read_field.Tie as tie
-use Rattle.plan_reader.proofs.read_field.Reads as reads
-use Rattle.plan_reader.proofs.read_field.Lts as lts
-use Rattle.groups.proofs.get.Reads as get-reads
-use Rattle.plan_reader.proofs.in_range.Reads as in-range-reads
-use Rattle.plan_reader.proofs.wide.Reads as wide-reads
 
--- src/lib.rt:62:22
 shared-slice-read-wide : tie.Need-shared-slice-read-wide
 shared-slice-read-wide c = search needs
 
--- src/lib.rt:62:13
 wide-requires : tie.Need-wide-requires
 wide-requires c κs = search needs
 
--- src/lib.rt:64:47
 add-in-range : tie.Need-add-in-range
 add-in-range c = search needs
 
--- src/lib.rt:64:13
 in-range-requires : tie.Need-in-range-requires
 in-range-requires c κs = search needs
 
--- src/lib.rt:64:13
 returns : tie.Need-returns
-returns c = ?
+returns c = field-by-number _ _ _ _ (one-group _ _ (c .before .before .before .before .if1 .taken) (c .before .before .wide .ensures .0) (c .before .if2 .taken)) (c .in-range .ensures)
 
--- src/lib.rt:67:17
 add-place : tie.Need-add-place
 add-place c = search needs
 
--- src/lib.rt:68:11
 get-requires : tie.Need-get-requires
 get-requires c κs = search needs
 
--- src/lib.rt:69:25
 enum-known-value : tie.Need-enum-known-value
 enum-known-value c = search needs
 
--- src/lib.rt:70:13
 in-range-requires-2 : tie.Need-in-range-requires-2
 in-range-requires-2 c κs = search needs
 
--- src/lib.rt:70:13
 returns-2 : tie.Need-returns-2
-returns-2 c = ?
+returns-2 c = field-by-number _ _ _ _ (sym (c .before .before .value .given .1) ∙ c .before .before .before .before .get .ensures) (c .in-range2 .ensures)
 
--- src/lib.rt:73:13
 enum-told : tie.Need-enum-told
 enum-told c = search needs
 
--- src/lib.rt:73:13
 returns-3 : tie.Need-returns-3
-returns-3 c = ?
+returns-3 c = field-by-number _ _ _ _ (sym (c .enum-told .given .1) ∙ c .before .before .get .ensures) (ended-is-12 _ _ _)
 
--- src/lib.rt:76:13
 enum-told-2 : tie.Need-enum-told-2
 enum-told-2 c = search needs
 
--- src/lib.rt:76:13
 returns-4 : tie.Need-returns-4
-returns-4 c = ?
+returns-4 c = field-by-number _ _ _ _ (sym (c .enum-told2 .given .1) ∙ c .before .before .get .ensures) (too-long-is-13 _ _ _)
 
--- src/lib.rt:79:13
 enum-told-3 : tie.Need-enum-told-3
 enum-told-3 c = search needs
 
--- src/lib.rt:79:13
 returns-5 : tie.Need-returns-5
-returns-5 c = ?
+returns-5 c = field-by-number _ _ _ _ (sym (c .enum-told3 .given .1) ∙ c .before .before .get .ensures) (not-shortest-is-13 _ _ _)
 
 pub read-field-spec : {M : Type 1} → statement M
 read-field-spec =

@@ -1,82 +1,71 @@
+-- A step is its column and, behind it, its pops; either at fault is the step's fault.
+-- Assumes nothing.
+use mathlib.Core.Path.{refl, ap}
+use native.Mathlib.Omega.{arith}
+use lib.ListN.{set}
 use borrow.Author.Needs.{needs}
+use denote.Ref.{now}
+use Rattle.plan_reader.specs.Reading.{finds, refuses}
+use Rattle.plan_reader.proofs.Answers.{field-refused, field-found}
+use Rattle.plan_reader.proofs.Parts.{step-no-column, step-no-pops, step-got}
 use Rattle.plan_reader.proofs.read_step.Statement.{statement}
 use Rattle.plan_reader.proofs.read_step.Tie as tie
-use Rattle.plan_reader.proofs.read_step.Reads as reads
-use Rattle.plan_reader.proofs.read_step.Lts as lts
-use Rattle.plan_reader.proofs.narrow.Reads as narrow-reads
-use Rattle.plan_reader.proofs.read_field.Reads as read-field-reads
 
--- src/lib.rt:96:11
 read-field-requires : tie.Need-read-field-requires
 read-field-requires c κs = search needs
 
--- src/lib.rt:97:28
 enum-known-number : tie.Need-enum-known-number
 enum-known-number c = search needs
 
--- src/lib.rt:98:13
 returns : tie.Need-returns
-returns c = ?
+returns c = refuses _ _ (step-no-column _ _ _ (field-refused _ _ _ _ (c .before .before .before .read-field .ensures) (c .before .number .given .1))) refl
 
--- src/lib.rt:101:20
 enum-known-column : tie.Need-enum-known-column
 enum-known-column c = search needs
 
--- src/lib.rt:104:47
 sub-read-field : tie.Need-sub-read-field
 sub-read-field c = search needs
 
--- src/lib.rt:104:19
 read-field-requires-2 : tie.Need-read-field-requires-2
-read-field-requires-2 c κs = ?
+read-field-requires-2 c κs = field-found _ _ _ _ (c .before .before .before .read-field .ensures) (c .before .column .given .1) .1 .inside
 
--- src/lib.rt:105:36
 enum-known-number-2 : tie.Need-enum-known-number-2
 enum-known-number-2 c = search needs
 
--- src/lib.rt:106:21
 returns-2 : tie.Need-returns-2
-returns-2 c = ?
+returns-2 c = refuses _ _ (step-no-pops _ _ _ (field-found _ _ _ _ (c .before .before .before .before .before .before .before .read-field .ensures) (c .before .before .before .before .before .column .given .1) .0) (field-refused _ _ _ _ (c .before .before .before .read-field2 .ensures) (c .before .number2 .given .1))) refl
 
--- src/lib.rt:109:28
 enum-known-popped : tie.Need-enum-known-popped
 enum-known-popped c = search needs
 
--- src/lib.rt:112:32
 narrow-requires : tie.Need-narrow-requires
-narrow-requires c κs = ?
+narrow-requires c κs = let h = field-found _ _ _ _ (c .before .before .before .before .before .before .before .read-field .ensures) (c .before .before .before .before .before .column .given .1) .1 .high in let p = c .before .before .before .before .before .before .before .before .before .before .before .pre .1 in omega arith
 
--- src/lib.rt:112:21
 mul-order : tie.Need-mul-order
 mul-order c = search needs
 
--- src/lib.rt:112:21
 slice-write-order : tie.Need-slice-write-order
 slice-write-order c = search needs
 
--- src/lib.rt:113:31
 narrow-requires-2 : tie.Need-narrow-requires-2
-narrow-requires-2 c κs = ?
+narrow-requires-2 c κs = let h = field-found _ _ _ _ (c .before .before .before .before .read-field2 .ensures) (c .before .before .popped .given .1) .1 .high in let p = c .before .before .before .before .before .before .before .before .before .before .before .before .pre .1 in omega arith
 
--- src/lib.rt:113:21
 mul-pops : tie.Need-mul-pops
 mul-pops c = search needs
 
--- src/lib.rt:113:21
 slice-write-pops : tie.Need-slice-write-pops
 slice-write-pops c = search needs
 
--- src/lib.rt:114:21
 same-length : tie.Need-same-length
 same-length c = search needs
 
--- src/lib.rt:114:21
 same-length-2 : tie.Need-same-length-2
 same-length-2 c = search needs
 
--- src/lib.rt:114:21
 returns-3 : tie.Need-returns-3
-returns-3 c = ?
+returns-3 c =
+    finds _ _ (step-got _ _ _ (field-found _ _ _ _ (c .before .before .before .before .before .before .before .before .before .read-field .ensures) (c .before .before .before .before .before .before .before .column .given .1) .0) (field-found _ _ _ _ (c .before .before .before .before .before .read-field2 .ensures) (c .before .before .before .popped .given .1) .0)) refl
+    (ap (set (now (c .before .before .before .before .before .before .before .before .before .before .before .before .before .args .order)) (c .before .before .before .before .before .before .before .before .before .before .before .before .before .args .i)) (c .before .narrow .ensures), ap (set (now (c .before .before .before .before .before .before .before .before .before .before .before .before .before .args .pops)) (c .before .before .before .before .before .before .before .before .before .before .before .before .before .args .i)) (c .narrow2 .ensures))
 
 pub read-step-spec : {M : Type 1} → statement M
 read-step-spec =
