@@ -1,14 +1,12 @@
 -- A part of a plan and what is read behind it: one step of each list that is read, and what a loop that puts parts onto those it has read needs.
 -- Assumes nothing.
-use Prim.Native.Nat.{ℕ, zero, suc, _+_, _-_, _<_, _≤_}
+use Prim.Native.Nat.{ℕ, zero, suc, _+_, _-_, _<_}
 use mathlib.Core.List.{List, [], _∷_, _++_, append-assoc, append-nil}
 use mathlib.Core.Path.{_≡_, refl, sym, ap, _∙_}
 use native.Mathlib.Numerals.{add-one}
 use native.Mathlib.Omega.{arith}
 use lib.ListN.{length, length-append}
-use borrow.Author.Tests.{lt-ltb, le-ltb}
-use Rattle.papers.specs.Bounds.{maxPeak}
-use Rattle.papers.specs.Plan.{Read, got, bad, onto, field, readStep, readSteps, readRows, readList, readLists, atEnd, readPlan}
+use Rattle.papers.specs.Plan.{Read, got, bad, onto, field, readStep, readSteps, readRows, readList, readLists}
 use Rattle.bytes_laws.proofs.Fields.{then-got, then-bad, onto-got, onto-bad}
 
 -- ---- parts put onto those read before
@@ -113,33 +111,3 @@ module _ (n j : ℕ) (s : List ℕ) (at : ℕ) where
   unfolding readLists
   lists-next zero z e = absurd (omega arith)
   lists-next (suc k) z e = let q : suc k - 1 ≡ k = omega arith in rw (q, add-one) (then-got _ e)
-
--- ---- the whole plan
-
-module _ (n : ℕ) (s : List ℕ) (at : ℕ) where
-  pub plan-no-steps : {c p : ℕ} → readSteps n n s at ≡ bad c p → readPlan n s at ≡ bad c p
-  unfolding readPlan
-  plan-no-steps e = then-bad _ e
-
-  module _ {steps : List (ℕ × ℕ)} {k : ℕ} (e : readSteps n n s at ≡ got steps k) where
-    pub plan-no-lists : {c p : ℕ} → readLists n 1 n s k ≡ bad c p → readPlan n s at ≡ bad c p
-    unfolding readPlan
-    plan-no-lists f = then-got _ e ∙ then-bad _ f
-
-    module _ {lists : List (List ℕ)} {m : ℕ} (f : readLists n 1 n s k ≡ got lists m) where
-      pub plan-no-peak : {c p : ℕ} → field 0 maxPeak s m ≡ bad c p → readPlan n s at ≡ bad c p
-      unfolding readPlan
-      plan-no-peak g = then-got _ e ∙ then-got _ f ∙ then-bad _ g
-
-      module _ {peak end : ℕ} (g : field 0 maxPeak s m ≡ got peak end) where
-        plan-peak : readPlan n s at ≡ atEnd (record { steps = steps; lists = lists; peak = peak }) s end
-        unfolding readPlan
-        plan-peak = then-got _ e ∙ then-got _ f ∙ then-got _ g
-
-        pub plan-over : end < length s → readPlan n s at ≡ bad 15 (end + 1)
-        unfolding atEnd
-        plan-over h = plan-peak ∙ rw (lt-ltb end (length s) h, atEnd)
-
-        pub plan-got : length s ≤ end → readPlan n s at ≡ got (record { steps = steps; lists = lists; peak = peak }) end
-        unfolding atEnd
-        plan-got h = plan-peak ∙ rw (le-ltb end (length s) h, atEnd)

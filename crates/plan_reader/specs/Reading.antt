@@ -6,8 +6,9 @@ use mathlib.Core.Path.{_≡_}
 use mathlib.Core.List.{List}
 use lib.ListN.{length, set}
 use lib.Seq.{sets}
+use Rattle.papers.specs.Bounds.{maxPeak}
 use Rattle.papers.specs.Lists.{flat, startsFrom}
-use Rattle.papers.specs.Plan.{Plan, columnsIn, popsIn, Read, got, bad, onto, readRows}
+use Rattle.papers.specs.Plan.{Plan, columnsIn, popsIn, Read, got, bad, then, onto, field, readRows, atEnd}
 use Rattle.plan_reader.specs.declared.Reading.{Reading}
 use Rattle.plan_reader.specs.declared.Reading.the-variants.{Found, Refused}
 use Rattle.plan_reader.specs.declared.PlanReading.{PlanReading}
@@ -56,6 +57,14 @@ ListsIn starts₀ starts rows₀ rows lists = (starts ≡ sets starts₀ 0 (star
 unfoldable pub planReading : Read Plan → PlanReading
 planReading (got plan next) = Whole (plan .peak) (length (flat (plan .lists)))
 planReading (bad number place) = Faulty number place
+
+-- its last part: the peak, with nothing after it; and the answer for it, of a plan whose lists have so many rows
+unfoldable pub readPeak : List ℕ → ℕ → Read ℕ
+readPeak s at = then (field 0 maxPeak s at) λ peak at. atEnd peak s at
+
+unfoldable pub peakReading : ℕ → Read ℕ → PlanReading
+peakReading rows (got peak next) = Whole peak rows
+peakReading rows (bad number place) = Faulty number place
 
 -- what is kept of a plan that is read to its end
 pub record PlanIn (plan : Plan) (order₀ order pops₀ pops starts₀ starts rows₀ rows : List ℕ) : Type 0 where

@@ -9,7 +9,7 @@ ghost use Rattle.papers.specs.Bounds.{maxColumns};
 ghost use Rattle.papers.specs.Lists.{flat};
 ghost use Rattle.papers.specs.Plan.{inField, field, readStep, readSteps, readRows, readList, readLists, readPlan};
 ghost use Rattle.papers.specs.declared.Number.the-variants.{Value};
-ghost use Rattle.plan_reader.specs.Reading.{reading, Told, StepIn, StepsIn, RowsRead, RowsIn, ListsIn, planReading, Keeps};
+ghost use Rattle.plan_reader.specs.Reading.{reading, Told, StepIn, StepsIn, RowsRead, RowsIn, ListsIn, peakReading, readPeak, planReading, Keeps};
 use papers::Number;
 
 // What reading a part of a plan answers: a number of that part and the place behind it; or a refusal's number and place.
@@ -296,6 +296,27 @@ fn read_lists(plan: &[u8], at: usize, n: u64, starts: &mut [u64], rows: &mut [u3
     }
 }
 
+// The declared peak that starts at `at`, with nothing after it, of a plan whose lists have `rows` rows.
+fn read_peak(plan: &[u8], at: usize, rows: u64) -> PlanReading
+    requires { ⌜ at ≤ length (now plan) ⌝ }
+    ensures { λ r. ⌜ r ≡ peakReading rows (readPeak (now (plan .entry)) at) ⌝ }
+{
+    match read_field(plan, at, 0, papers::MAX_PEAK) {
+        Reading::Refused { number, place } => {
+            return PlanReading::Faulty { number, place };
+        }
+        Reading::Found { value: peak, next } => {
+            if next < plan.len() {
+                return PlanReading::Faulty {
+                    number: 15,
+                    place: next as u64 + 1,
+                };
+            }
+            return PlanReading::Whole { peak, rows };
+        }
+    }
+}
+
 // The plan behind a key that ends at `at`, to the end of the bytes: keeps its steps, where its lists start and, while there is room, their rows.
 pub fn read_plan(
     n: u64,
@@ -321,26 +342,9 @@ pub fn read_plan(
             Reading::Refused { number, place } => {
                 return PlanReading::Faulty { number, place };
             }
-            Reading::Found {
-                value: total,
-                next: last,
-            } => match read_field(plan, last, 0, papers::MAX_PEAK) {
-                Reading::Refused { number, place } => {
-                    return PlanReading::Faulty { number, place };
-                }
-                Reading::Found {
-                    value: peak,
-                    next: end,
-                } => {
-                    if end < plan.len() {
-                        return PlanReading::Faulty {
-                            number: 15,
-                            place: end as u64 + 1,
-                        };
-                    }
-                    return PlanReading::Whole { peak, rows: total };
-                }
-            },
+            Reading::Found { value: total, next } => {
+                return read_peak(plan, next, total);
+            }
         },
     }
 }
