@@ -1,6 +1,3 @@
-pub mod Answers
-pub mod Parts
 pub mod Steps
-pub mod Rows
 pub mod Lists
 pub mod Wholes

@@ -1,20 +1,43 @@
 -- The loop over the columns' lists: the lists left, put onto those read, are all lists; where they start, and their rows, are kept.
 -- Assumes nothing.
-use Prim.Native.Nat.{ℕ, _+_, _-_, _<_, _≤_}
+use Prim.Native.Nat.{zero, suc, ℕ, _+_, _-_, _<_, _≤_}
 use mathlib.Core.List.{List, [], _∷_, _++_, append-nil}
 use mathlib.Core.Path.{_≡_, refl, sym, ap, _∙_}
+use native.Mathlib.Numerals.{add-one}
 use native.Mathlib.Omega.{arith}
 use lib.ListN.{length, set, length-append}
 use lib.Seq.{sets, length-sets, set-set}
 use Rattle.papers.specs.Lists.{flat, startsFrom}
-use Rattle.papers.specs.Plan.{bad, onto, readList, readLists}
+use Rattle.papers.specs.Plan.{got, bad, onto, readList, readLists}
 use Rattle.list_laws.proofs.Stores.{sets-append, sets-more, flat-append, starts-more, length-starts}
+use Rattle.bytes_laws.proofs.Fields.{then-got, then-bad}
 use Rattle.bytes_laws.proofs.Reaches.{list-reach}
-use Rattle.plan_reader.specs.Reading.{Told, finds, RowsIn, ListsIn}
-use Rattle.plan_reader.specs.declared.Reading.the-variants.{Found, Refused}
-use Rattle.plan_reader.specs.declared.Reading.{Reading}
-use Rattle.plan_reader.proofs.Answers.{told-found, told-refused}
-use Rattle.plan_reader.proofs.Parts.{onto-nil, more, fails, ends, length-more, lists-none, lists-bad, lists-next}
+use Rattle.list_reader.proofs.Answers.{told-found, told-refused}
+use Rattle.list_reader.proofs.Onto.{onto-nil, more, fails, ends, length-more}
+use Rattle.list_reader.specs.Reading.{Told, finds, RowsIn}
+use Rattle.list_reader.specs.declared.Reading.the-variants.{Found, Refused}
+use Rattle.list_reader.specs.declared.Reading.{Reading}
+use Rattle.plan_reader.specs.Plans.{ListsIn}
+
+-- ---- a list and the lists behind it
+
+module _ (n j : ℕ) (s : List ℕ) (at : ℕ) where
+  lists-none : (k : ℕ) → k ≡ 0 → readLists n j k s at ≡ got [] at
+  unfolding readLists
+  lists-none zero z = refl
+  lists-none (suc k) z = absurd (omega arith)
+
+  lists-bad : (k : ℕ) {c p : ℕ} → 0 < k → readList n j s at ≡ bad c p → readLists n j k s at ≡ bad c p
+  unfolding readLists
+  lists-bad zero z e = absurd (omega arith)
+  lists-bad (suc k) z e = then-bad _ e
+
+  lists-next : (k : ℕ) {rows : List ℕ} {m : ℕ} → 0 < k → readList n j s at ≡ got rows m → readLists n j k s at ≡ onto (rows ∷ []) (readLists n (j + 1) (k - 1) s m)
+  unfolding readLists
+  lists-next zero z e = absurd (omega arith)
+  lists-next (suc k) z e = let q : suc k - 1 ≡ k = omega arith in rw (q, add-one) (then-got _ e)
+
+-- ---- lists read so far
 
 -- the lists of the columns before j are read and kept, with `total` rows, and the next starts at k
 pub record Lists (n : ℕ) (s : List ℕ) (at : ℕ) (starts₀ rows₀ starts rows : List ℕ) (k j total : ℕ) : Type 0 where

@@ -1,19 +1,54 @@
 -- The loop over the steps: the steps left, put onto those read, are all steps; and those read are kept.
 -- Assumes nothing.
-use Prim.Native.Nat.{ℕ, _+_, _-_, _<_, _≤_}
+use Prim.Native.Nat.{zero, suc, ℕ, _+_, _-_, _<_, _≤_}
 use mathlib.Core.List.{List, [], _∷_, _++_, map-append}
 use mathlib.Core.Path.{_≡_, refl, ap, _∙_}
 use native.Mathlib.Omega.{arith}
 use lib.ListN.{length, length-map}
 use lib.Seq.{sets, length-sets}
-use Rattle.papers.specs.Plan.{columnsIn, popsIn, bad, onto, readStep, readSteps}
+use Rattle.papers.specs.Plan.{field, got, columnsIn, popsIn, bad, onto, readStep, readSteps}
 use Rattle.list_laws.proofs.Stores.{sets-more}
+use Rattle.bytes_laws.proofs.Fields.{then-got, then-bad}
 use Rattle.bytes_laws.proofs.Reaches.{step-reach}
-use Rattle.plan_reader.specs.Reading.{Told, finds, StepIn, StepsIn}
-use Rattle.plan_reader.specs.declared.Reading.the-variants.{Found, Refused}
-use Rattle.plan_reader.specs.declared.Reading.{Reading}
-use Rattle.plan_reader.proofs.Answers.{told-found, told-refused}
-use Rattle.plan_reader.proofs.Parts.{onto-nil, more, fails, ends, length-more, steps-none, steps-bad, steps-next}
+use Rattle.list_reader.proofs.Answers.{told-found, told-refused}
+use Rattle.list_reader.proofs.Onto.{onto-nil, more, fails, ends, length-more}
+use Rattle.list_reader.specs.Reading.{Told, finds}
+use Rattle.list_reader.specs.declared.Reading.the-variants.{Found, Refused}
+use Rattle.list_reader.specs.declared.Reading.{Reading}
+use Rattle.plan_reader.specs.Plans.{StepIn, StepsIn}
+
+-- ---- a step and the steps behind it
+
+module _ (n : ℕ) (s : List ℕ) (at : ℕ) where
+  pub step-no-column : {c p : ℕ} → field 1 n s at ≡ bad c p → readStep n s at ≡ bad c p
+  unfolding readStep
+  step-no-column e = then-bad _ e
+
+  module _ {column m : ℕ} (e : field 1 n s at ≡ got column m) where
+    pub step-no-pops : {c p : ℕ} → field 0 (n - 1) s m ≡ bad c p → readStep n s at ≡ bad c p
+    unfolding readStep
+    step-no-pops f = then-got _ e ∙ then-bad _ f
+
+    pub step-got : {pops k : ℕ} → field 0 (n - 1) s m ≡ got pops k → readStep n s at ≡ got (column, pops) k
+    unfolding readStep
+    step-got f = then-got _ e ∙ then-got _ f
+
+  steps-none : (k : ℕ) → k ≡ 0 → readSteps n k s at ≡ got [] at
+  unfolding readSteps
+  steps-none zero z = refl
+  steps-none (suc k) z = absurd (omega arith)
+
+  steps-bad : (k : ℕ) {c p : ℕ} → 0 < k → readStep n s at ≡ bad c p → readSteps n k s at ≡ bad c p
+  unfolding readSteps
+  steps-bad zero z e = absurd (omega arith)
+  steps-bad (suc k) z e = then-bad _ e
+
+  steps-next : (k : ℕ) {x : ℕ × ℕ} {m : ℕ} → 0 < k → readStep n s at ≡ got x m → readSteps n k s at ≡ onto (x ∷ []) (readSteps n (k - 1) s m)
+  unfolding readSteps
+  steps-next zero z e = absurd (omega arith)
+  steps-next (suc k) z e = let q : suc k - 1 ≡ k = omega arith in rw q (then-got _ e)
+
+-- ---- steps read so far
 
 -- the first i steps are read and kept, and the next starts at k
 pub record Steps (n : ℕ) (s : List ℕ) (at : ℕ) (order₀ pops₀ order pops : List ℕ) (k i : ℕ) : Type 0 where

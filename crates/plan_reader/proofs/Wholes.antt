@@ -13,7 +13,7 @@ use Rattle.papers.specs.Lists.{flat}
 use Rattle.papers.specs.Plan.{Plan, Read, got, bad, then, field, readSteps, readLists, atEnd, readPlan}
 use Rattle.bytes_laws.proofs.Fields.{got-bad, then-got, then-bad, then-only}
 use Rattle.bytes_laws.proofs.Plans.{end-only}
-use Rattle.plan_reader.specs.Reading.{StepsIn, ListsIn, planReading, readPeak, peakReading, PlanIn, Keeps}
+use Rattle.plan_reader.specs.Plans.{StepsIn, ListsIn, planReading, readPeak, peakReading, PlanIn, Keeps}
 use Rattle.plan_reader.specs.declared.PlanReading.the-variants.{Whole, Faulty}
 use Rattle.plan_reader.specs.declared.PlanReading.{PlanReading}
 

@@ -5,8 +5,8 @@ use lib.ListN.{set}
 use lib.Seq.{set-out}
 use borrow.Author.Needs.{needs}
 use denote.Ref.{now}
-use Rattle.plan_reader.proofs.keep_row.Statement.{statement}
-use Rattle.plan_reader.proofs.keep_row.Tie as tie
+use Rattle.list_reader.proofs.keep_row.Statement.{statement}
+use Rattle.list_reader.proofs.keep_row.Tie as tie
 
 narrow-requires : tie.Need-narrow-requires
 narrow-requires c κs = search needs

@@ -3,11 +3,11 @@
 use mathlib.Core.Path.{refl}
 use native.Mathlib.Omega.{arith}
 use borrow.Author.Needs.{needs}
-use Rattle.plan_reader.specs.Reading.{refuses}
-use Rattle.plan_reader.proofs.Answers.{field-refused, field-found, told-of}
-use Rattle.plan_reader.proofs.Parts.{list-bad, list-got}
-use Rattle.plan_reader.proofs.read_list.Statement.{statement}
-use Rattle.plan_reader.proofs.read_list.Tie as tie
+use Rattle.list_reader.specs.Reading.{refuses}
+use Rattle.list_reader.proofs.Answers.{field-refused, field-found, told-of}
+use Rattle.list_reader.proofs.Rows.{list-bad, list-got}
+use Rattle.list_reader.proofs.read_list.Statement.{statement}
+use Rattle.list_reader.proofs.read_list.Tie as tie
 
 sub-read-field : tie.Need-sub-read-field
 sub-read-field c = search needs

@@ -2,9 +2,9 @@
 -- Assumes nothing.
 use mathlib.Core.Path.{sym, _∙_}
 use borrow.Author.Needs.{needs}
-use Rattle.plan_reader.proofs.Answers.{ended-is-12, too-long-is-13, not-shortest-is-13, field-by-number, one-group}
-use Rattle.plan_reader.proofs.read_field.Statement.{statement}
-use Rattle.plan_reader.proofs.read_field.Tie as tie
+use Rattle.list_reader.proofs.Answers.{ended-is-12, too-long-is-13, not-shortest-is-13, field-by-number, one-group}
+use Rattle.list_reader.proofs.read_field.Statement.{statement}
+use Rattle.list_reader.proofs.read_field.Tie as tie
 
 shared-slice-read-wide : tie.Need-shared-slice-read-wide
 shared-slice-read-wide c = search needs

@@ -6,10 +6,10 @@ use native.Mathlib.Omega.{arith}
 use lib.ListN.{set}
 use borrow.Author.Needs.{needs}
 use borrow.Author.Tests.{ltb-false}
-use Rattle.plan_reader.specs.Reading.{RowsRead}
-use Rattle.plan_reader.proofs.Rows.{rows-long, short-start, short-turn}
-use Rattle.plan_reader.proofs.short_rows.Statement.{statement}
-use Rattle.plan_reader.proofs.short_rows.Tie as tie
+use Rattle.list_reader.specs.Reading.{RowsRead}
+use Rattle.list_reader.proofs.Rows.{rows-long, short-start, short-turn}
+use Rattle.list_reader.proofs.short_rows.Statement.{statement}
+use Rattle.list_reader.proofs.short_rows.Tie as tie
 
 abbrev Inv-loop : tie.InvT-loop
 Inv-loop plan at n b left t rows₀ most i₀ last₀ rows i last = RowsRead n plan b left at t rows₀ rows (at + i) last (left - i) (t + i)

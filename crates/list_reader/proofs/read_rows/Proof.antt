@@ -4,11 +4,11 @@
 use mathlib.Core.Path.{refl}
 use native.Mathlib.Omega.{arith}
 use borrow.Author.Needs.{needs}
-use Rattle.plan_reader.specs.Reading.{refuses, RowsRead}
-use Rattle.plan_reader.proofs.Answers.{field-refused, field-found}
-use Rattle.plan_reader.proofs.Rows.{rows-start, rows-one, rows-both, rows-long, rows-fault, rows-stop}
-use Rattle.plan_reader.proofs.read_rows.Statement.{statement}
-use Rattle.plan_reader.proofs.read_rows.Tie as tie
+use Rattle.list_reader.specs.Reading.{refuses, RowsRead}
+use Rattle.list_reader.proofs.Answers.{field-refused, field-found}
+use Rattle.list_reader.proofs.Rows.{rows-start, rows-one, rows-both, rows-long, rows-fault, rows-stop}
+use Rattle.list_reader.proofs.read_rows.Statement.{statement}
+use Rattle.list_reader.proofs.read_rows.Tie as tie
 
 abbrev Inv-loop : tie.InvT-loop
 Inv-loop plan at n j count t rows₀ k₀ row₀ left₀ total₀ rows k row left total = RowsRead n plan j count at t rows₀ rows k row left total

@@ -1,19 +1,51 @@
 -- The rows of a column: what is read behind rows that are read is read behind the first (rows-both), so a loop may take them one by one or many at
 -- once. Each row takes a byte, so their total stays within the place.
 -- Assumes nothing.
-use Prim.Native.Nat.{ℕ, _+_, _-_, _<_, _≤_}
+use Prim.Native.Nat.{zero, suc, ℕ, _+_, _-_, _<_, _≤_}
 use mathlib.Core.List.{List, [], _∷_, _++_}
 use mathlib.Core.Path.{_≡_, refl, sym, ap, _∙_}
 use native.Mathlib.Omega.{arith}
 use lib.ListN.{length, getD, set, length-append}
 use lib.Seq.{length-sets}
-use Rattle.papers.specs.Plan.{got, bad, field, readRows}
+use Rattle.papers.specs.Plan.{onto, readList, got, bad, field, readRows}
 use Rattle.list_laws.proofs.Stores.{sets-append}
 use Rattle.bytes_laws.proofs.Fields as fields
-use Rattle.plan_reader.specs.Reading.{Told, finds, RowsRead, RowsIn}
-use Rattle.plan_reader.specs.declared.Reading.the-variants.{Found}
-use Rattle.plan_reader.proofs.Answers.{in-range, field-by-number, one-group, field-found}
-use Rattle.plan_reader.proofs.Parts.{onto-nil, more, fails, ends, rows-none, rows-bad, rows-next}
+use Rattle.bytes_laws.proofs.Fields.{then-got, then-bad}
+use Rattle.list_reader.specs.Reading.{Told, finds, RowsRead, RowsIn}
+use Rattle.list_reader.specs.declared.Reading.the-variants.{Found}
+use Rattle.list_reader.proofs.Answers.{in-range, field-by-number, one-group, field-found}
+use Rattle.list_reader.proofs.Onto.{onto-nil, more, fails, ends}
+
+-- ---- a row and the rows behind it
+
+module _ (n b : ℕ) (s : List ℕ) (at : ℕ) where
+  rows-none : (k : ℕ) → k ≡ 0 → readRows n b k s at ≡ got [] at
+  unfolding readRows
+  rows-none zero z = refl
+  rows-none (suc k) z = absurd (omega arith)
+
+  rows-bad : (k : ℕ) {c p : ℕ} → 0 < k → field 1 (n - b) s at ≡ bad c p → readRows n b k s at ≡ bad c p
+  unfolding readRows
+  rows-bad zero z e = absurd (omega arith)
+  rows-bad (suc k) z e = then-bad _ e
+
+  rows-next : (k : ℕ) {gap m : ℕ} → 0 < k → field 1 (n - b) s at ≡ got gap m → readRows n b k s at ≡ onto ((b + gap) ∷ []) (readRows n (b + gap) (k - 1) s m)
+  unfolding readRows
+  rows-next zero z e = absurd (omega arith)
+  rows-next (suc k) z e = let q : suc k - 1 ≡ k = omega arith in rw q (then-got _ e)
+
+-- ---- the count and the rows behind it
+
+module _ (n j : ℕ) (s : List ℕ) (at : ℕ) where
+  pub list-bad : {c p : ℕ} → field 0 (n - j) s at ≡ bad c p → readList n j s at ≡ bad c p
+  unfolding readList
+  list-bad e = then-bad _ e
+
+  pub list-got : {count m : ℕ} → field 0 (n - j) s at ≡ got count m → readList n j s at ≡ readRows n j count s m
+  unfolding readList
+  list-got e = then-got _ e
+
+-- ---- rows read so far
 
 -- none read yet
 pub rows-start : (n : ℕ) (s : List ℕ) (j count at t : ℕ) (rows : List ℕ) → at ≤ length s → j ≤ n → RowsRead n s j count at t rows rows at j count t
