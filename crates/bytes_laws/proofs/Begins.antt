@@ -25,7 +25,7 @@ use Rattle.bytes_laws.proofs.Fields.{spans-end, spans-to-end}
 use Rattle.bytes_laws.proofs.Plans.{Fit, plan-back, plan-only}
 
 -- byte p does not differ just where it is the key's
-pub agrees-iff : (key plan : List ℕ) (p : ℕ) → (keyDiffers key plan p ≡ false) ↔ Agrees key plan p
+agrees-iff : (key plan : List ℕ) (p : ℕ) → (keyDiffers key plan p ≡ false) ↔ Agrees key plan p
 unfolding keyDiffers
 agrees-iff key plan p = (there (test (leb p (length plan))), back)
   where

@@ -10,7 +10,7 @@ use lib.Dec.{ltb}
 use lib.ListN.{length, getD, drop, length-append, drop-of-length-le}
 use lib.Seq.{drop-at, drop-length}
 use borrow.Author.Tests.{ltb-false, le-ltb}
-use Rattle.papers.specs.Bounds.{edition, maxColumns, maxMark, maxLimit, maxPeak, maxGroups}
+use Rattle.papers.specs.Bounds.{maxGroups}
 use Rattle.papers.specs.Numbers.{bytesOf, readNumber}
 use Rattle.papers.specs.Plan.{Read, got, bad, then, onto, inField, field}
 use Rattle.papers.specs.declared.Number.{Number}
@@ -90,10 +90,6 @@ pub spans-to-end : {s : List ℕ} {at next : ℕ} (w : List ℕ) → Spans s at 
 spans-to-end {s} w a h = a .form ∙ ap (λ (l : List ℕ). w ++ l) (drop-of-length-le s h) ∙ append-nil w
 
 -- ---- one field
-
--- the paper's bounds are numbers that the groups hold
-pub bounds-fit : (edition < 2 ^ (7 * maxGroups)) × (maxColumns < 2 ^ (7 * maxGroups)) × (maxMark < 2 ^ (7 * maxGroups)) × (maxLimit < 2 ^ (7 * maxGroups)) × (maxPeak < 2 ^ (7 * maxGroups))
-bounds-fit = (omega arith, omega arith, omega arith, omega arith, omega arith)
 
 -- a field that was read
 pub record Found (lo hi : ℕ) (s : List ℕ) (at v next : ℕ) : Type 0 where

@@ -6,3 +6,6 @@ pub mod Gaps
 pub mod Plans
 pub mod Begins
 pub mod Reaches
+pub mod Writing
+pub mod Groups
+pub mod Stands

@@ -4,3 +4,7 @@ pub mod Starts
 pub mod Rows
 pub mod Passed
 pub mod Untouched
+pub mod Laid
+pub mod Keys
+pub mod Readable
+pub mod Outcomes

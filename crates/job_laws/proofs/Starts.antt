@@ -39,7 +39,8 @@ pub falls-at : (starts : List ℕ) (j : ℕ) → falls starts (suc j) ≡ ltb (g
 unfolding falls
 falls-at starts j = rw (start-at starts j, start-at starts (suc j))
 
-falls-false-iff : (starts : List ℕ) (j : ℕ) → (falls starts j ≡ false) ↔ (start starts j ≤ start starts (suc j))
+-- column j's start does not fall just where the one behind its rows is no less
+pub falls-false-iff : (starts : List ℕ) (j : ℕ) → (falls starts j ≡ false) ↔ (start starts j ≤ start starts (suc j))
 unfolding falls
 falls-false-iff starts j = (ltb-false (start starts (suc j)) (start starts j), le-ltb (start starts (suc j)) (start starts j))
 

@@ -4,7 +4,7 @@
 use Prim.Native.Nat.{ℕ, suc, _+_}
 use mathlib.Core.Path.{_≡_, refl}
 use mathlib.Core.Bool.{Bool, true, false, _&&_}
-use mathlib.Core.List.{List, [], _∷_, flatMap}
+use mathlib.Core.List.{List, [], _∷_, _++_, flatMap}
 use lib.Dec.{eqb}
 use lib.ListN.{length, replicate, take, drop}
 use Rattle.papers.specs.Bounds.{workLength}
@@ -14,12 +14,13 @@ use Rattle.papers.specs.Job.{Job, start, columnOf, pattern}
 use Rattle.papers.specs.Fill.{gather, lists, R}
 use Rattle.papers.specs.Tree.{parent, t, children, isUnder, subtreeOf}
 use Rattle.papers.specs.Room.{topUpdate, roomAt, heldAfter, rooms, peakOf}
-use Rattle.papers.specs.Order.{columnAt, siblingKey, alone, arranged, stepsOf, orderOf, peak}
+use Rattle.papers.specs.Order.{columnAt, siblingKey, alone, arranged, stepsOf, orderOf, roomsOf, peak}
 use Rattle.papers.specs.Key.{gapsOf, listNumbers, listsNumbers, listsOf, keyNumbers, keyOf}
 use Rattle.papers.specs.Plan.{planOf, stepNumbers, planNumbers, planBytes, then, onto, inField, field, readStep, readSteps, readRows, readList, readLists, atEnd, readPlan}
 use Rattle.papers.specs.Refusals.{answer, Lent, first, refusedIf, refusedAt, outcome, columnsTest, markTest, limitTest, falls, startsTest, rowFault, rowsFault, columnFault, rowsTest, jobTests, allZero, holding, lengthsTest, factorRowsTest, peakTest, bytesTest}
 use Rattle.papers.specs.Analysis.{holdingPlan, analysisTests, analysisDone, analysed, planTests, planDone, planZero, planWritten}
 use Rattle.papers.specs.Check.{keyDiffers, keyTest, planRead, readTest, repeated, repeatTest, listTest, scattered, subtreeTest, popsTest, truePeak, declaredTest, ofPlan, checkTests, checkDone, checked}
+use Rattle.papers.specs.Text.{isDigit, after, cut, afterLines, onWord, wordsOf, isDecimal, allDecimal, valueOf, numbersOf, numbersAt, headOf, rowsOfLine, isRowLine, textHead, textLists, textJob, inputTest, headTest, lineFault, rowLinesTest, endTest, textTests, digitsOf, decimalOf, printed, refusalLine, stepLines, listingOf, buffers, jobPrinted, programPrints}
 use Rattle.papers.specs.declared.Answer.{Answer}
 
 -- ---- what a piece says
@@ -47,12 +48,14 @@ pub data Piece : Type 0 where
   plan : Job → List ℕ → Piece
   -- the check of these bytes answers this
   check : Job → List ℕ → Answer → Piece
+  -- for this standard input the program prints this
+  prints : List ℕ → List ℕ → Piece
 
 sameAnswer : Answer → Answer → Bool
 sameAnswer a b = eqb (a .number) (b .number) && eqb (a .place) (b .place) && eqb (a .count) (b .count)
 
 pub holds : Piece → Bool
-unfolding lentFor sameAnswer flatMap upTo head0 member same every keep sum greatest merge insert sort least flat startsFrom thenZeros groupsOf bytesOf encode over lastGroup readFrom readNumber start columnOf gather lists R parent t children isUnder subtreeOf topUpdate roomAt heldAfter rooms peakOf columnAt siblingKey alone arranged stepsOf orderOf peak gapsOf listNumbers listsNumbers listsOf keyNumbers keyOf planOf stepNumbers planNumbers planBytes then onto inField field readStep readSteps readRows readList readLists atEnd readPlan first refusedIf refusedAt outcome columnsTest markTest limitTest falls startsTest rowFault rowsFault columnFault rowsTest jobTests allZero holding lengthsTest factorRowsTest peakTest bytesTest holdingPlan analysisTests analysisDone analysed planTests planDone planZero planWritten keyDiffers keyTest planRead readTest repeated repeatTest listTest scattered subtreeTest popsTest truePeak declaredTest ofPlan checkTests checkDone checked
+unfolding lentFor sameAnswer flatMap upTo head0 member same every keep sum greatest merge insert sort least flat startsFrom thenZeros groupsOf bytesOf encode over lastGroup readFrom readNumber start columnOf gather lists R parent t children isUnder subtreeOf topUpdate roomAt heldAfter rooms peakOf columnAt siblingKey alone arranged stepsOf orderOf peak gapsOf listNumbers listsNumbers listsOf keyNumbers keyOf planOf stepNumbers planNumbers planBytes then onto inField field readStep readSteps readRows readList readLists atEnd readPlan first refusedIf refusedAt outcome columnsTest markTest limitTest falls startsTest rowFault rowsFault columnFault rowsTest jobTests allZero holding lengthsTest factorRowsTest peakTest bytesTest holdingPlan analysisTests analysisDone analysed planTests planDone planZero planWritten keyDiffers keyTest planRead readTest repeated repeatTest listTest scattered subtreeTest popsTest truePeak declaredTest ofPlan checkTests checkDone checked roomsOf isDigit after cut afterLines onWord wordsOf isDecimal allDecimal valueOf numbersOf numbersAt headOf rowsOfLine isRowLine textHead textLists textJob inputTest headTest lineFault rowLinesTest endTest textTests digitsOf decimalOf printed refusalLine stepLines listingOf buffers jobPrinted programPrints
 holds (number x bytes) = same (bytesOf x) bytes
 holds (analysis job a) = sameAnswer (analysed job (lentFor (job .n)) .answer) a
 holds (order job columns) = same (analysed job (lentFor (job .n)) .lent .order) columns
@@ -60,7 +63,8 @@ holds (fill job j at rows) =
     same (R (pattern job) j) rows && same (take (length rows) (drop at (analysed job (lentFor (job .n)) .lent .factorRows))) rows
 holds (plan job bytes) =
     let written = planWritten job (record { lent = lentFor (job .n); bytes = replicate (length bytes + 3) 7 }) in
-    sameAnswer (written .answer) (answer 0 0 (length bytes)) && same (take (length bytes) (written .lent .bytes)) bytes
+    sameAnswer (written .answer) (answer 0 0 (length bytes)) && same (written .lent .bytes) (bytes ++ (0 ∷ 0 ∷ 0 ∷ []))
+holds (prints text out) = same (programPrints (record { text = text; more = false })) out
 holds (check job bytes a) = sameAnswer (checked job bytes (lentFor (job .n)) .answer) a
 
 pub all : List Piece → Bool
@@ -107,8 +111,35 @@ unfolding jobOf
 nine mark =
     jobOf 9 mark 20 ((2 ∷ 8 ∷ 9 ∷ []) ∷ [] ∷ (4 ∷ 7 ∷ []) ∷ (8 ∷ 9 ∷ []) ∷ (6 ∷ 8 ∷ []) ∷ (7 ∷ []) ∷ (9 ∷ []) ∷ [] ∷ [] ∷ [])
 
+-- the paper's example of a job text, and what the program prints for it
+nineText : List ℕ
+nineText =
+    57 ∷ 32 ∷ 50 ∷ 48 ∷ 10 ∷
+    51 ∷ 32 ∷ 50 ∷ 32 ∷ 56 ∷ 32 ∷ 57 ∷ 10 ∷
+    48 ∷ 10 ∷
+    50 ∷ 32 ∷ 52 ∷ 32 ∷ 55 ∷ 10 ∷
+    50 ∷ 32 ∷ 56 ∷ 32 ∷ 57 ∷ 10 ∷
+    50 ∷ 32 ∷ 54 ∷ 32 ∷ 56 ∷ 10 ∷
+    49 ∷ 32 ∷ 55 ∷ 10 ∷
+    49 ∷ 32 ∷ 57 ∷ 10 ∷
+    48 ∷ 10 ∷
+    48 ∷ 10 ∷ []
+
+nineListing : List ℕ
+nineListing =
+    112 ∷ 108 ∷ 97 ∷ 110 ∷ 32 ∷ 57 ∷ 32 ∷ 48 ∷ 32 ∷ 49 ∷ 53 ∷ 10 ∷
+    49 ∷ 32 ∷ 48 ∷ 32 ∷ 49 ∷ 48 ∷ 32 ∷ 50 ∷ 32 ∷ 56 ∷ 32 ∷ 57 ∷ 10 ∷
+    50 ∷ 32 ∷ 49 ∷ 32 ∷ 54 ∷ 32 ∷ 56 ∷ 32 ∷ 57 ∷ 10 ∷
+    51 ∷ 32 ∷ 48 ∷ 32 ∷ 57 ∷ 32 ∷ 52 ∷ 32 ∷ 55 ∷ 10 ∷
+    52 ∷ 32 ∷ 49 ∷ 32 ∷ 49 ∷ 51 ∷ 32 ∷ 55 ∷ 32 ∷ 56 ∷ 32 ∷ 57 ∷ 10 ∷
+    53 ∷ 32 ∷ 48 ∷ 32 ∷ 49 ∷ 53 ∷ 32 ∷ 54 ∷ 32 ∷ 56 ∷ 10 ∷
+    54 ∷ 32 ∷ 49 ∷ 32 ∷ 49 ∷ 53 ∷ 32 ∷ 55 ∷ 32 ∷ 56 ∷ 10 ∷
+    55 ∷ 32 ∷ 50 ∷ 32 ∷ 49 ∷ 53 ∷ 32 ∷ 56 ∷ 32 ∷ 57 ∷ 10 ∷
+    56 ∷ 32 ∷ 50 ∷ 32 ∷ 54 ∷ 32 ∷ 57 ∷ 10 ∷
+    57 ∷ 32 ∷ 49 ∷ 32 ∷ 49 ∷ 10 ∷ []
+
 pub pieces : List Piece
-unfolding none pair pairBytes loose dense filling crossed star nine
+unfolding none pair pairBytes loose dense filling crossed star nine nineText nineListing
 pieces =
     -- n 0, limit 0
     plan none (0x01 ∷ 0x00 ∷ 0x00 ∷ 0x00 ∷ 0x00 ∷ [])
@@ -142,6 +173,7 @@ pieces =
     ∷ order (nine 0) (1 ∷ 2 ∷ 3 ∷ 4 ∷ 5 ∷ 6 ∷ 7 ∷ 8 ∷ 9 ∷ [])
     ∷ analysis (nine 1) (answer 0 0 13)
     ∷ order (nine 1) (3 ∷ 4 ∷ 5 ∷ 6 ∷ 7 ∷ 1 ∷ 2 ∷ 8 ∷ 9 ∷ [])
+    ∷ prints nineText nineListing
     -- numbers
     ∷ number 0 (0x00 ∷ [])
     ∷ number 300 (0xAC ∷ 0x02 ∷ [])

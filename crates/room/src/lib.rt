@@ -1,1 +1,88 @@
 // Pops, room in use and the peak of an order.
+ghost use mathlib.Core.Path.{_≡_};
+ghost use mathlib.Core.List.{map};
+ghost use Prim.Native.Nat.{ℕ, _+_, _<_, _≤_, _^_, min, max};
+ghost use lib.ListN.{length, getD};
+ghost use Rattle.papers.specs.Bounds.{maxColumns};
+ghost use Rattle.papers.specs.Lists.{upTo};
+ghost use Rattle.papers.specs.Tree.{t};
+ghost use Rattle.papers.specs.Room.{peakOf};
+ghost use Rattle.room.specs.Rows.{countAt, rowsIn, Column, mostEntries};
+ghost use Rattle.room.specs.Steps.{rowsAt, popsAt, Stepped, Counted};
+
+// t(rows): the entries of a lower triangle.
+pub fn triangle(rows: u64) -> u64
+    requires { ⌜ rows ≤ maxColumns + 1 ⌝ }
+    ensures { λ r. ⌜ (r ≡ t rows) × (r ≤ mostEntries) ⌝ }
+{
+    rows * (rows + 1) / 2
+}
+
+// The greater of two rooms.
+pub fn greater(a: u64, b: u64) -> u64
+    ensures { λ r. ⌜ r ≡ max a b ⌝ }
+{
+    if a < b { b } else { a }
+}
+
+// 0 of 0, and 1 of any other count.
+fn at_most_one(count: u64) -> usize
+    ensures { λ r. ⌜ r ≡ min count 1 ⌝ }
+{
+    if count == 0 { 0 } else { 1 }
+}
+
+// The rows of column j.
+pub fn rows_of(factor: &[u64], j: usize) -> u64
+    requires { ⌜ Column (now factor) j ⌝ }
+    ensures { λ r. ⌜ (r ≡ rowsIn (now (factor .entry)) j) × (r ≤ maxColumns) ⌝ }
+{
+    factor[j] - factor[j - 1]
+}
+
+// The length of the list from start i to the next one.
+fn count_at(starts: &[u64], i: usize) -> u64
+    requires { ⌜ (i + 1 < length (now starts)) × (getD (now starts) i 0 ≤ getD (now starts) (i + 1) 0) ⌝ }
+    ensures { λ r. ⌜ r ≡ countAt (now (starts .entry)) i ⌝ }
+{
+    starts[i + 1] - starts[i]
+}
+
+// The pops of each step: the number of its column's children, whose lists lie by their starts. The first k steps are counted.
+pub fn count_pops(starts: &[u64], order: &[u32], pops: &mut [u32])
+    requires { ⌜ Counted (now starts) (now order) ⌝ }
+    requires room { ⌜ length (now pops) ≡ length (now order) ⌝ }
+    ensures { λ _. ⌜ now (pops .exit) ≡ map (countAt (now (starts .entry))) (now (order .entry)) ⌝ }
+{
+    let mut k = 0;
+    while k < pops.len() {
+        pops[k] = count_at(starts, order[k] as usize) as u32;
+        k += 1;
+    }
+}
+
+// The peak: the greatest room in use of the steps, each of its column's rows and its pops. below[d] has the entries of the lowest d updates
+// held, so a front that lies over the top update begins at below[depth - 1], and pops and pushes are one store.
+pub fn peak(factor: &[u64], order: &[u32], pops: &[u32], below: &mut [u64]) -> u64
+    requires { ⌜ Stepped (now factor) (now order) (now pops) ⌝ }
+    requires room { ⌜ length (now order) < length (now below) ⌝ }
+    ensures { λ r. ⌜ r ≡ peakOf (rowsAt (now (factor .entry)) (now (order .entry))) (popsAt (now (pops .entry))) (upTo (length (now (order .entry)))) ⌝ }
+{
+    below[0] = 0;
+    let mut depth = 0;
+    let mut most = 0;
+    let mut k = 0;
+    while k < order.len() {
+        let p = pops[k] as usize;
+        let rows = rows_of(factor, order[k] as usize);
+        most = greater(
+            most,
+            below[depth - at_most_one(p as u64)] + triangle(rows + 1),
+        );
+        depth -= p;
+        below[depth + 1] = below[depth] + triangle(rows);
+        depth += at_most_one(rows);
+        k += 1;
+    }
+    most
+}

@@ -1,0 +1,54 @@
+-- The stage of the lists: cleared slices are long enough for it, and what it does not write stays zero.
+-- Assumes nothing.
+use Prim.Native.Nat.{ℕ, _+_, _≤_}
+use mathlib.Core.Path.{_≡_, refl, sym, ap, _∙_}
+use mathlib.Core.List.{List, _++_}
+use native.Mathlib.Omega.{arith}
+use lib.ListN.{length, take, drop, length-replicate}
+use lib.Seq.{length-take-le, drop-at}
+use Rattle.papers.specs.Lists.{zeros}
+use Rattle.papers.specs.Job.{Pattern}
+use Rattle.papers.specs.Refusals.{Lent, allZero}
+use Rattle.structure.specs.Stored.{Lengths, Listed}
+use Rattle.lent.specs.Six.{six, LongEnough}
+use Rattle.lent.proofs.Sixes.{EachZero, each-zero}
+use Rattle.analysis.specs.Stages.{Listing}
+
+-- a part of n places has n places
+pub part-long : (n : ℕ) (l : List ℕ) → n ≤ length l → n ≡ length (take n l)
+part-long n l h = sym (length-take-le n l h)
+
+-- clearing leaves the lengths
+pub zero-long : (l₀ : List ℕ) {l : List ℕ} → l ≡ zeros l₀ → length l ≡ length l₀
+zero-long l₀ e = ap length e ∙ length-replicate (length l₀) 0
+
+module _ (n : ℕ) (before lent : Lent) (long : LongEnough n before) (cleared : lent ≡ allZero before) where
+  each : EachZero before lent
+  each = each-zero before lent cleared
+
+  pub order-long : n ≤ length (lent .order)
+  order-long = omega (arith, zero-long (before .order) (each .order), long .order)
+
+  pub pops-long : n ≤ length (lent .pops)
+  pops-long = omega (arith, zero-long (before .pops) (each .pops), long .pops)
+
+  pub listing-lengths : Lengths n (lent .parents) (lent .factorStarts) (take n (lent .order)) (take n (lent .pops)) (lent .work)
+  listing-lengths =
+      record {
+        parents-long = omega (arith, zero-long (before .parents) (each .parents), long .parents);
+        starts-long = omega (arith, zero-long (before .factorStarts) (each .starts), long .starts);
+        room-x = omega (arith, part-long n (lent .order) order-long);
+        room-y = omega (arith, part-long n (lent .pops) pops-long);
+        work-long = omega (arith, zero-long (before .work) (each .work), long .work);
+      }
+
+  -- x and y were left in the front of order and pops
+  pub listing-made : (done : ℕ) (A : Pattern) (p s r x y w : List ℕ) → length x ≡ length (take n (lent .order)) → length y ≡ length (take n (lent .pops))
+      → Listed n done A (lent .parents) (lent .factorStarts) (lent .factorRows) p s r
+      → Listing n done A before (six p (x ++ drop n (lent .order)) (y ++ drop n (lent .pops)) s r w)
+  listing-made done A p s r x y w a b h =
+      record {
+        listed = rw (each .parents, each .starts, each .rows) at h;
+        order = drop-at x (drop n (lent .order)) n (a ∙ sym (part-long n (lent .order) order-long)) ∙ ap (drop n) (each .order);
+        pops = drop-at y (drop n (lent .pops)) n (b ∙ sym (part-long n (lent .pops) pops-long)) ∙ ap (drop n) (each .pops);
+      }

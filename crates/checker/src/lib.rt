@@ -1,1 +1,0 @@
-// The check of a plan's bytes for a job: its entry point.

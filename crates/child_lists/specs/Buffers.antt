@@ -1,0 +1,22 @@
+-- Two buffers that take turns: a list is held in one of them, and joining writes into the other.
+-- Assumes nothing.
+use Prim.Native.Nat.{ℕ, zero, suc, _≤_}
+use mathlib.Core.List.{List}
+use lib.ListN.{length, take}
+use Rattle.papers.specs.Lists.{merge}
+
+-- the buffer whose turn it is
+unfoldable pub buffer : ℕ → List ℕ → List ℕ → List ℕ
+buffer zero x y = x
+buffer (suc turn) x y = y
+
+-- the first len numbers of it
+abbrev pub held : ℕ → ℕ → List ℕ → List ℕ → List ℕ
+held turn len x y = take len (buffer turn x y)
+
+-- either buffer has room for the list held and for more joined to it
+pub record Roomy (turn len : ℕ) (more x y : List ℕ) : Type 0 where
+  pub held-x : len ≤ length x
+  pub held-y : len ≤ length y
+  pub joined-x : length (merge (held turn len x y) more) ≤ length x
+  pub joined-y : length (merge (held turn len x y) more) ≤ length y

@@ -1,0 +1,120 @@
+// The rows of a column's children joined to its own: children are linked in work, and a child that brings no new row is passed over.
+// In work the first child of column j stands at j, the sibling behind column c at n + c, and the mark of row i at n + n + i.
+ghost use mathlib.Core.Path.{_≡_};
+ghost use Prim.Native.Nat.{_-_, _≤_};
+ghost use lib.ListN.{length, getD};
+ghost use Rattle.papers.specs.Lists.{merge, every};
+ghost use Rattle.child_lists.specs.Marks.{marked, isMarked, Markable};
+ghost use Rattle.child_lists.specs.Buffers.{held, Roomy};
+ghost use Rattle.child_lists.specs.Children.{Child, handedOn, Linked, Longest, Joining, Joined};
+
+// Where a gathered list stands: its first len rows in the first buffer where turn is 0, else in the second.
+pub struct Gathered {
+    pub turn: usize,
+    pub len: usize,
+}
+
+// The rows that column c hands on to its parent: its list but the least row, which is the parent.
+pub fn handed_on<'a>(c: usize, fstarts: &[u64], frows: &'a [u32]) -> &'a [u32]
+    requires child { ⌜ Child (now fstarts) c ⌝ }
+    requires stored { ⌜ getD (now fstarts) c 0 ≤ length (now frows) ⌝ }
+    ensures { λ r. ⌜ now r ≡ handedOn (now (fstarts .entry)) (now (frows .entry)) c ⌝ }
+{
+    let s = fstarts[c - 1] as usize;
+    let e = fstarts[c] as usize;
+    &frows[s + 1..e]
+}
+
+// The child with the most rows of those linked from c on. Of those before d none has more than best.
+pub fn longest(n: usize, c: usize, fstarts: &[u64], work: &[u64]) -> usize
+    requires { ⌜ Linked n c (now fstarts) (now work) ⌝ }
+    ensures { λ r. ⌜ Longest n c (now (fstarts .entry)) (now (work .entry)) r ⌝ }
+{
+    let mut best = c;
+    let mut most = 0;
+    let mut d = c;
+    while d != 0 {
+        let rows = fstarts[d] - fstarts[d - 1];
+        if most < rows {
+            best = d;
+            most = rows;
+            d = work[n + d] as usize;
+        } else {
+            d = work[n + d] as usize;
+        }
+    }
+    best
+}
+
+// Marks the rows of a list for column j.
+pub fn mark(n: usize, j: usize, list: &[u32], work: &mut [u64])
+    requires { ⌜ Markable n (now list) (now work) ⌝ }
+    ensures { λ _. ⌜ now (work .exit) ≡ marked n j (now (list .entry)) (now (work .entry)) ⌝ }
+{
+    let mut k = 0;
+    while k < list.len() {
+        work[n + n + list[k] as usize] = j as u64;
+        k += 1;
+    }
+}
+
+// Whether every row of a list is marked for column j. All rows before k are.
+pub fn covered(n: usize, j: usize, list: &[u32], work: &[u64]) -> bool
+    requires { ⌜ Markable n (now list) (now work) ⌝ }
+    ensures { λ r. ⌜ r ≡ every (isMarked n j (now (work .entry))) (now (list .entry)) ⌝ }
+{
+    let mut k = 0;
+    while k < list.len() {
+        if work[n + n + list[k] as usize] != j as u64 {
+            return false;
+        }
+        k += 1;
+    }
+    true
+}
+
+// Joins further rows to the list of len rows that the buffer of this turn holds, into the other buffer. Answers how many there are then.
+pub fn join_rows(turn: usize, len: usize, more: &[u32], x: &mut [u32], y: &mut [u32]) -> usize
+    requires { ⌜ Roomy turn len (now more) (now x) (now y) ⌝ }
+    ensures counts { λ r. ⌜ r ≡ length (merge (held turn len (now (x .entry)) (now (y .entry))) (now (more .entry))) ⌝ }
+    ensures holds { λ r. ⌜ held (1 - turn) r (now (x .exit)) (now (y .exit)) ≡ merge (held turn len (now (x .entry)) (now (y .entry))) (now (more .entry)) ⌝ }
+{
+    if turn == 0 {
+        joiner::unite(&x[..len], more, y)
+    } else {
+        joiner::unite(&y[..len], more, x)
+    }
+}
+
+// Joins the rows of the children from c on to the len rows of x. A child all of whose rows are marked brings nothing and is passed over;
+// of one that is joined only its own rows are marked.
+pub fn join_children(
+    n: usize,
+    j: usize,
+    c: usize,
+    len: usize,
+    fstarts: &[u64],
+    frows: &[u32],
+    work: &mut [u64],
+    x: &mut [u32],
+    y: &mut [u32],
+) -> Gathered
+    requires { ⌜ Joining n j c len (now fstarts) (now frows) (now work) (now x) (now y) ⌝ }
+    ensures { λ r. ⌜ Joined n j c len (now (fstarts .entry)) (now (frows .entry)) (now (work .entry)) (now (x .entry)) (now (y .entry)) (r .turn) (r .len) (now (work .exit)) (now (x .exit)) (now (y .exit)) ⌝ }
+{
+    let mut d = c;
+    let mut turn = 0;
+    let mut count = len;
+    while d != 0 {
+        let more = handed_on(d, fstarts, frows);
+        if covered(n, j, more, work) {
+            d = work[n + d] as usize;
+        } else {
+            count = join_rows(turn, count, more, x, y);
+            mark(n, j, more, work);
+            turn = 1 - turn;
+            d = work[n + d] as usize;
+        }
+    }
+    Gathered { turn, len: count }
+}

@@ -1,0 +1,81 @@
+-- The lists of the columns 1 to m one behind the other: one column more, and where the list of one of them stands.
+-- Assumes nothing.
+use Prim.Native.Nat.{ℕ, zero, suc, _+_, _-_, _<_, _≤_}
+use mathlib.Core.Path.{_≡_, refl, sym, ap, _∙_}
+use mathlib.Core.Logic.{⊎-elim}
+use mathlib.Core.List.{List, [], _∷_, _++_, map, append-nil}
+use native.Mathlib.Omega.{arith}
+use native.Mathlib.Nat.{le-suc-iff}
+use native.Mathlib.Numerals.{add-one}
+use lib.ListN.{length, take, drop, length-append, length-map}
+use lib.Seq.{take-all, take-append-le, take-take, take-add, drop-at}
+use Rattle.papers.specs.Lists.{upTo, flat, startsFrom}
+use Rattle.papers.specs.Key.{listsOf}
+use Rattle.list_laws.proofs.UpTo.{length-upTo}
+use Rattle.list_laws.proofs.Stores.{flat-append, starts-more}
+use Rattle.column_laws.specs.Chains.{part}
+
+pub map-upTo {ℓ} : {B : Type ℓ} (f : ℕ → B) (m : ℕ) → map f (upTo (suc m)) ≡ map f (upTo m) ++ (f (suc m) ∷ [])
+unfolding upTo
+map-upTo f m = go (upTo m)
+  where
+    go : (l : List ℕ) → map f (l ++ (suc m ∷ [])) ≡ map f l ++ (f (suc m) ∷ [])
+    go [] = refl
+    go (x ∷ xs) = ap (λ t. f x ∷ t) (go xs)
+
+module _ (B : ℕ → List ℕ) where
+  pub lists-more : (m : ℕ) → listsOf (suc m) B ≡ listsOf m B ++ (B (suc m) ∷ [])
+  unfolding listsOf
+  lists-more m = map-upTo B m
+
+  pub length-lists : (m : ℕ) → length (listsOf m B) ≡ m
+  unfolding listsOf
+  length-lists m = length-map (upTo m) B ∙ length-upTo m
+
+  pub flat-more : (m : ℕ) → flat (listsOf (suc m) B) ≡ flat (listsOf m B) ++ B (suc m)
+  unfolding flat
+  flat-more m = rw (lists-more m, flat-append (listsOf m B) (B (suc m) ∷ []), append-nil (B (suc m)))
+
+  pub length-more : (m : ℕ) → length (flat (listsOf (suc m) B)) ≡ length (flat (listsOf m B)) + length (B (suc m))
+  length-more m = ap length (flat-more m) ∙ length-append (flat (listsOf m B)) (B (suc m))
+
+  pub starts-next : (m : ℕ) → startsFrom 0 (listsOf (suc m) B) ≡ startsFrom 0 (listsOf m B) ++ (length (flat (listsOf (suc m) B)) ∷ [])
+  starts-next m =
+      let e : 0 + length (flat (listsOf m B)) + length (B (suc m)) ≡ length (flat (listsOf (suc m) B)) = omega (arith, length-more m) in
+      rw (lists-more m, starts-more 0 (listsOf m B) (B (suc m)), ← lists-more m, e)
+
+  pub length-grows : (k m : ℕ) → k ≤ m → length (flat (listsOf k B)) ≤ length (flat (listsOf m B))
+  length-grows k zero h = let e : k ≡ 0 = omega arith in rw e (omega arith)
+  length-grows k (suc m) h =
+      ⊎-elim
+      (λ (l : k ≤ m). omega (arith, length-grows k m l, length-more m))
+      (λ (l : k ≡ suc m). rw l (omega arith))
+      (le-suc-iff .0 h)
+
+  first-part : (k m : ℕ) → k ≤ m → take (length (flat (listsOf k B))) (flat (listsOf m B)) ≡ flat (listsOf k B)
+  first-part k zero h = let e : k ≡ 0 = omega arith in rw e (take-all (length (flat (listsOf 0 B))) (flat (listsOf 0 B)) (omega arith))
+  first-part k (suc m) h =
+      ⊎-elim
+      (λ (l : k ≤ m). rw (flat-more m, take-append-le (length (flat (listsOf k B))) (flat (listsOf m B)) (B (suc m)) (length-grows k m l)) (first-part k m l))
+      (λ (l : k ≡ suc m). rw l (take-all (length (flat (listsOf (suc m) B))) (flat (listsOf (suc m) B)) (omega arith)))
+      (le-suc-iff .0 h)
+
+  -- where the lists of m columns stand at the front of rows, that of column k + 1 stands between the ends of k and of k + 1
+  pub list-at : (k m : ℕ) (rows : List ℕ) → k < m → take (length (flat (listsOf m B))) rows ≡ flat (listsOf m B)
+      → part (length (flat (listsOf k B))) (length (flat (listsOf (suc k) B))) rows ≡ B (suc k)
+  list-at k m rows h e =
+      let s = length-more k in
+      let z : length (flat (listsOf (suc k) B)) - length (flat (listsOf k B)) ≡ length (B (suc k)) = omega arith in
+      let whole : take (length (flat (listsOf k B)) + length (B (suc k))) rows ≡ flat (listsOf k B) ++ B (suc k) = rw (← s, ← flat-more k) (front (suc k) h) in
+      let split : flat (listsOf k B) ++ take (length (B (suc k))) (drop (length (flat (listsOf k B))) rows) ≡ flat (listsOf k B) ++ B (suc k) =
+      rw (take-add (length (flat (listsOf k B))) (length (B (suc k))) rows, front k (omega arith)) at whole in
+      rw z (sym (behind (take (length (B (suc k))) (drop (length (flat (listsOf k B))) rows))) ∙ ap (drop (length (flat (listsOf k B)))) split ∙ behind (B (suc k)))
+    where
+      front : (i : ℕ) → i ≤ m → take (length (flat (listsOf i B))) rows ≡ flat (listsOf i B)
+      front i l =
+          sym (take-take (length (flat (listsOf i B))) (length (flat (listsOf m B))) rows (length-grows i m l))
+          ∙ ap (take (length (flat (listsOf i B)))) e
+          ∙ first-part i m l
+
+      behind : (l : List ℕ) → drop (length (flat (listsOf k B))) (flat (listsOf k B) ++ l) ≡ l
+      behind l = drop-at (flat (listsOf k B)) l (length (flat (listsOf k B))) refl

@@ -1,0 +1,4 @@
+pub mod Columns
+pub mod Every
+pub mod Places
+pub mod Sweeps

@@ -1,0 +1,84 @@
+-- The sweep of an update's rows through a front. The update's rows ascend, so the rows of the front before the last one found are below the
+-- next; a row is in the front if it is the column or stands at its place.
+-- Assumes nothing.
+use Prim.Native.Nat.{ℕ, _+_, _<_, _≤_}
+use mathlib.Core.Path.{_≡_, refl, sym, _∙_}
+use mathlib.Core.Logic.{_⊎_, inl, inr, _≢_}
+use mathlib.Core.Bool.{Bool, true, false}
+use mathlib.Core.List.{List, _∷_, List·Memᴰ·head, List·Memᴰ·tail, List·Memᴰ·cases-cons}
+use native.Mathlib.Omega.{arith}
+use native.Mathlib.Numerals.{add-one}
+use lib.ListN.{length, getD, drop, drop-of-length-le}
+use lib.Seq.{drop-cons}
+use Rattle.papers.specs.Lists.{_∈_, Asc, member, every}
+use Rattle.list_laws.proofs.Tests.{Compare, below, level, above, compare}
+use Rattle.list_laws.proofs.Members.{member-into, member-out}
+use Rattle.front.specs.Search.{Bracket}
+use Rattle.front.proofs.Every.{every-none, every-yes, every-no}
+use Rattle.front.proofs.Places.{places-ascend, found-there, found-nowhere}
+
+-- whether a row stands in the front
+abbrev pub inFront : ℕ → List ℕ → ℕ → Bool
+inFront column rows i = member i (column ∷ rows)
+
+-- the first i rows of the update stand in the front; the front's rows before `found` are below the next
+pub record Swept (column : ℕ) (rows update : List ℕ) (found i : ℕ) : Type 0 where
+  pub within : found ≤ length rows
+  pub before : i < length update → (k : ℕ) → k < found → getD rows k 0 < getD update i 0
+  pub same : every (inFront column rows) (drop i update) ≡ every (inFront column rows) update
+
+pub swept-start : (column : ℕ) (rows update : List ℕ) → Swept column rows update 0 0
+swept-start column rows update = record { within = omega arith; before = λ h k l. absurd (omega arith); same = refl }
+
+module _ {column : ℕ} {rows update : List ℕ} {found i : ℕ} (s : Swept column rows update found i) where
+  -- all rows are passed
+  pub swept-end : length update ≤ i → true ≡ every (inFront column rows) update
+  swept-end h = sym (every-none (inFront column rows)) ∙ (rw (drop-of-length-le update h) at (s .same))
+
+  module _ (h : i < length update) where
+    next : drop i update ≡ getD update i 0 ∷ drop (i + 1) update
+    next = rw add-one (drop-cons update i 0 h)
+
+    -- the next row is searched from `found` on
+    pub to-seek : Bracket rows (getD update i 0) found (length rows)
+    to-seek = record { rising = s .within; within = omega arith; before = s .before h; behind = λ k l u. absurd (omega arith) }
+
+    goes-on : inFront column rows (getD update i 0) ≡ true → every (inFront column rows) (drop (i + 1) update) ≡ every (inFront column rows) update
+    goes-on e = sym (every-yes (inFront column rows) (getD update i 0) (drop (i + 1) update) e) ∙ (rw (← next) (s .same))
+
+    module _ (ascending : Asc 0 update) where
+      -- it is the column
+      pub swept-column : getD update i 0 ≡ column → Swept column rows update found (i + 1)
+      swept-column e = record {
+        within = s .within;
+        before = λ l k q. omega (arith, s .before h k q, places-ascend 0 update ascending i (i + 1) (omega arith) l);
+        same = goes-on (member-into (getD update i 0) (column ∷ rows) (List·Memᴰ·head e));
+      }
+
+      -- it stands at its place
+      pub swept-row : {place : ℕ} → Bracket rows (getD update i 0) place place → place < length rows → getD rows place 0 ≡ getD update i 0
+          → Swept column rows update (place + 1) (i + 1)
+      swept-row {place} b l e = record {
+        within = omega arith;
+        before = λ u k q. omega (arith, at-most k q, places-ascend 0 update ascending i (i + 1) (omega arith) u);
+        same = goes-on (member-into (getD update i 0) (column ∷ rows) (List·Memᴰ·tail (found-there rows (getD update i 0) place l e)));
+      }
+        where
+          at-most : (k : ℕ) → k < place + 1 → getD rows k 0 ≤ getD update i 0
+          at-most k q = go (compare k place)
+            where
+              go : Compare k place → getD rows k 0 ≤ getD update i 0
+              go (below h) = omega (arith, b .before k h)
+              go (level d) = rw d (omega arith)
+              go (above h) = absurd (omega arith)
+
+    -- it is neither
+    pub swept-missing : {place : ℕ} → Asc 0 rows → getD update i 0 ≢ column → Bracket rows (getD update i 0) place place
+        → (place < length rows → getD rows place 0 ≢ getD update i 0) → false ≡ every (inFront column rows) update
+    swept-missing {place} ascending other b none =
+        sym (every-no (inFront column rows) (getD update i 0) (drop (i + 1) update) (member-out (getD update i 0) (column ∷ rows) (λ m. go (List·Memᴰ·cases-cons m))))
+        ∙ (rw (← next) (s .same))
+      where
+        go : (getD update i 0 ≡ column) ⊎ (getD update i 0 ∈ rows) → ⊥
+        go (inl e) = other e
+        go (inr m) = found-nowhere ascending b none m

@@ -1,0 +1,66 @@
+-- The loop's invariant: the row's place lies from low on and no later than high. The measure is how far they lie apart.
+-- Assumes nothing.
+use Prim.Native.Nat.{_-_}
+use native.Mathlib.Omega.{arith}
+use borrow.Author.Needs.{needs}
+use Rattle.front.proofs.Places.{narrow-above, narrow-below, one-place}
+use Rattle.front.specs.Search.{Bracket}
+use Rattle.front.proofs.bisect.Statement.{statement}
+use Rattle.front.proofs.bisect.Tie as tie
+
+abbrev Inv-loop : tie.InvT-loop
+Inv-loop rows row lo hi low₀ high₀ low high = Bracket rows row low high
+
+abbrev μ-loop : tie.MeasureT-loop
+μ-loop rows row lo hi low₀ high₀ low high = high - low
+
+loop-holds : tie.Need-loop-holds Inv-loop μ-loop
+loop-holds c = c .pre .1
+
+sub-middle : tie.Need-sub-middle Inv-loop μ-loop
+sub-middle c = search needs
+
+add-middle : tie.Need-add-middle Inv-loop μ-loop
+add-middle c = search needs
+
+mul-if1 : tie.Need-mul-if1 Inv-loop μ-loop
+mul-if1 c = search needs
+
+shared-slice-read-if1 : tie.Need-shared-slice-read-if1 Inv-loop μ-loop
+shared-slice-read-if1 c = search needs
+
+add-low : tie.Need-add-low Inv-loop μ-loop
+add-low c = search needs
+
+loop-less : tie.Need-loop-less Inv-loop μ-loop
+loop-less c = search needs
+
+loop-again : tie.Need-loop-again Inv-loop μ-loop
+loop-again c = narrow-above (c .before .before .before .before .pre .0) (c .before .before .before .loop .inv) (omega arith) (c .if1 .taken)
+
+loop-less-2 : tie.Need-loop-less-2 Inv-loop μ-loop
+loop-less-2 c = search needs
+
+loop-again-2 : tie.Need-loop-again-2 Inv-loop μ-loop
+loop-again-2 c = narrow-below (c .before .before .before .before .pre .0) (c .before .before .before .loop .inv) (omega arith) (omega arith) (c .if1 .left)
+
+returns : tie.Need-returns Inv-loop μ-loop
+returns c = one-place (c .before .loop .inv) (c .loop-test .left)
+
+pub bisect-spec : {M : Type 1} → statement M
+bisect-spec =
+    tie.close
+    (tie.spec
+    Inv-loop
+    μ-loop
+    loop-holds
+    sub-middle
+    add-middle
+    mul-if1
+    shared-slice-read-if1
+    add-low
+    loop-less
+    loop-again
+    loop-less-2
+    loop-again-2
+    returns)

@@ -1,0 +1,22 @@
+-- A column has fewer rows than there are columns, so their triangle can be computed.
+-- Assumes nothing.
+use mathlib.Core.Path.{ap, _∙_}
+use native.Mathlib.Omega.{arith}
+use lib.ListN.{length}
+use borrow.Author.Needs.{needs}
+use Rattle.papers.specs.Tree.{t}
+use Rattle.front.proofs.Columns.{column-fits}
+use Rattle.front.proofs.entries_of.Statement.{statement}
+use Rattle.front.proofs.entries_of.Tie as tie
+
+rows-of-requires : tie.Need-rows-of-requires
+rows-of-requires c κs = search needs
+
+triangle-requires : tie.Need-triangle-requires
+triangle-requires c κs = let few = c .before .before .before .pre .0 .few in omega (arith, column-fits (c .before .before .before .pre .0) (c .before .before .before .pre .1), ap length (c .rows-of .ensures))
+
+returns : tie.Need-returns
+returns c = c .triangle .ensures ∙ ap (λ l. t (length l)) (c .before .rows-of .ensures)
+
+pub entries-of-spec : {M : Type 1} → statement M
+entries-of-spec = tie.close (tie.spec rows-of-requires triangle-requires returns)

@@ -1,0 +1,52 @@
+-- The two starts of a column lie in order and inside the rows, so the part between them is there, and it is the column's rows.
+-- Assumes nothing.
+use native.Mathlib.Omega.{arith}
+use borrow.Author.Needs.{needs}
+use Rattle.front.proofs.Columns.{lies, part-is-column}
+use Rattle.front.proofs.rows_of.Statement.{statement}
+use Rattle.front.proofs.rows_of.Tie as tie
+
+sub-from : tie.Need-sub-from
+sub-from c = search needs
+
+mul-from : tie.Need-mul-from
+mul-from c = search needs
+
+shared-slice-read-from : tie.Need-shared-slice-read-from
+shared-slice-read-from c = let l = lies (c .before .pre .0) (c .before .pre .1) in omega arith
+
+mul-end : tie.Need-mul-end
+mul-end c = search needs
+
+shared-slice-read-end : tie.Need-shared-slice-read-end
+shared-slice-read-end c = lies (c .before .before .pre .0) (c .before .before .pre .1) .listed
+
+mul-result : tie.Need-mul-result
+mul-result c = let l = lies (c .before .before .pre .0) (c .before .before .pre .1) in omega arith
+
+sub-result : tie.Need-sub-result
+sub-result c = lies (c .before .before .pre .0) (c .before .before .pre .1) .rising
+
+part-result-start : tie.Need-part-result-start
+part-result-start c = lies (c .before .before .pre .0) (c .before .before .pre .1) .rising
+
+part-result-end : tie.Need-part-result-end
+part-result-end c = lies (c .before .before .pre .0) (c .before .before .pre .1) .within
+
+returns : tie.Need-returns
+returns c = part-is-column (c .before .before .before .pre .0) (c .before .before .before .pre .1)
+
+pub rows-of-spec : {M : Type 1} → statement M
+rows-of-spec =
+    tie.close
+    (tie.spec
+    sub-from
+    mul-from
+    shared-slice-read-from
+    mul-end
+    shared-slice-read-end
+    mul-result
+    sub-result
+    part-result-start
+    part-result-end
+    returns)

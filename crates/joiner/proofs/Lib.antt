@@ -1,0 +1,4 @@
+pub mod Joins
+pub mod Joining
+pub mod Copying
+pub mod Uniting

@@ -1,0 +1,121 @@
+-- The numbers of one list, row by row: the rows from i on ascend above the one before them, so the next gap is the next row less that one. They are
+-- counted and written alike, so the two loops share what is said of the rows.
+-- Assumes nothing.
+use Prim.Native.Nat.{ℕ, suc, _+_, _-_, _*_, _<_, _≤_}
+use mathlib.Core.Path.{_≡_, refl, ap}
+use mathlib.Core.List.{List, [], _∷_}
+use native.Mathlib.Omega.{arith}
+use native.Mathlib.Numerals.{add-one}
+use lib.ListN.{length, getD, take, length-take, drop-of-length-le}
+use lib.Seq.{slice, slice-cons, length-slice, sets}
+use Rattle.papers.specs.Bounds.{maxColumns, maxGroups}
+use Rattle.papers.specs.Lists.{Asc}
+use Rattle.papers.specs.Numbers.{bytesOf, encode}
+use Rattle.papers.specs.Key.{gapsOf, listNumbers}
+use Rattle.bytes_laws.proofs.Writing.{Left, left-all, left-number, left-none, left-short, Writes, writes-all, writes-number, room-number, writes-none, writes-last}
+use Rattle.key.specs.ListAt.{ListAt}
+
+-- the rows from i up to `to` are left, behind the row `before`
+pub record RowsLeft (rows : List ℕ) (to before i : ℕ) : Type 0 where
+  pub inside : to ≤ length rows
+  pub high : i ≤ to
+  pub ascending : Asc before (slice i to rows)
+
+pub rows-all : {j : ℕ} {rows : List ℕ} {from to : ℕ} → ListAt j rows from to → RowsLeft rows to j from
+rows-all l = record { inside = l .inside; high = l .rises; ascending = l .ascending }
+
+module _ {rows : List ℕ} {to before i row : ℕ} (l : RowsLeft rows to before i) (h : i < to) (e : row ≡ getD rows i 0) where
+  next-row : slice i to rows ≡ row ∷ slice (i + 1) to rows
+  next-row = rw (add-one, e) (slice-cons i to rows 0 h (l .inside))
+
+  pub gaps-next : gapsOf before (slice i to rows) ≡ (row - before) ∷ gapsOf row (slice (i + 1) to rows)
+  unfolding gapsOf
+  gaps-next = rw next-row
+
+  ascends : (before < row) × Asc row (slice (i + 1) to rows)
+  ascends = let a : Asc before (row ∷ slice (i + 1) to rows) = rw next-row at (l .ascending) in a
+
+  pub row-above : before < row
+  row-above = ascends .0
+
+  pub rows-next : RowsLeft rows to row (i + 1)
+  rows-next = record { inside = l .inside; high = omega arith; ascending = ascends .1 }
+
+pub gaps-none : {rows : List ℕ} {to before i : ℕ} → RowsLeft rows to before i → to ≤ i → gapsOf before (slice i to rows) ≡ []
+unfolding gapsOf
+gaps-none {rows} {to} {i = i} l h =
+    let d : length (take to rows) ≤ i = rw length-take (omega arith) in
+    rw (drop-of-length-le (take to rows) d)
+
+pub length-gaps : (b : ℕ) (l : List ℕ) → length (gapsOf b l) ≡ length l
+unfolding gapsOf
+length-gaps b [] = refl
+length-gaps b (x ∷ xs) = ap suc (length-gaps x xs)
+
+-- the numbers of a list: its count, and its gaps
+pub list-is : {j : ℕ} {rows : List ℕ} {from to : ℕ} → ListAt j rows from to → listNumbers j (slice from to rows) ≡ (to - from) ∷ gapsOf j (slice from to rows)
+unfolding listNumbers
+list-is {j} {rows} {from} {to} l = ap (λ (n : ℕ). n ∷ gapsOf j (slice from to rows)) (length-slice from to rows (l .inside))
+
+-- ---- counted
+
+pub record CountsRows (j : ℕ) (rows : List ℕ) (from to first total before i : ℕ) : Type 0 where
+  pub rows-left : RowsLeft rows to before i
+  pub counted : Left (gapsOf j (slice from to rows)) first (gapsOf before (slice i to rows)) total
+
+module _ {j : ℕ} {rows : List ℕ} {from to first total before i : ℕ} where
+  pub count-turn : {row m : ℕ} → CountsRows j rows from to first total before i → i < to → row ≡ getD rows i 0 → m ≡ length (bytesOf (row - before))
+      → CountsRows j rows from to first (total + m) row (i + 1)
+  count-turn c h e f =
+      record { rows-left = rows-next (c .rows-left) h e; counted = left-number (c .counted) (gaps-next (c .rows-left) h e) f }
+
+  -- the count stays small
+  pub count-short : ListAt j rows from to → CountsRows j rows from to first total before i → total ≤ first + maxGroups * maxColumns
+  count-short l c =
+      let few = l .few in
+      omega (arith, left-short (c .counted), length-gaps j (slice from to rows), length-slice from to rows (l .inside))
+
+  pub count-stop : ListAt j rows from to → CountsRows j rows from to first total before i → to ≤ i → first ≡ length (bytesOf (to - from))
+      → total ≡ length (encode (listNumbers j (slice from to rows)))
+  count-stop l c h e =
+      let whole : Left (listNumbers j (slice from to rows)) 0 (gapsOf j (slice from to rows)) (0 + first) = left-number left-all (list-is l) e in
+      let p = whole .place in
+      omega (arith, left-none (c .counted) (gaps-none (c .rows-left) h))
+
+-- ---- written
+
+pub record WritesRows (j : ℕ) (rows : List ℕ) (from to : ℕ) (d₀ : List ℕ) (first : ℕ) (d : List ℕ) (next before i : ℕ) : Type 0 where
+  pub rows-left : RowsLeft rows to before i
+  pub written : Writes (gapsOf j (slice from to rows)) d₀ first (gapsOf before (slice i to rows)) d next
+  pub room : first + length (encode (gapsOf j (slice from to rows))) ≤ length d₀
+
+-- there is room for the count
+pub count-room : (entry : List ℕ) (at : ℕ) {j : ℕ} {rows : List ℕ} {from to : ℕ} → ListAt j rows from to
+    → at + length (encode (listNumbers j (slice from to rows))) ≤ length entry → at + length (bytesOf (to - from)) ≤ length entry
+count-room entry at l r = room-number (writes-all {d₀ = entry}) (list-is l) r
+
+module _ (entry : List ℕ) (at : ℕ) {j : ℕ} {rows : List ℕ} {from to first : ℕ} {d₀ : List ℕ} (l : ListAt j rows from to) (e : first ≡ at + length (bytesOf (to - from)))
+    (f : d₀ ≡ sets entry at (bytesOf (to - from))) where
+  -- the count is written, the gaps are left
+  behind-count : Writes (listNumbers j (slice from to rows)) entry at (gapsOf j (slice from to rows)) d₀ first
+  behind-count = writes-number writes-all (list-is l) e f
+
+  pub write-start : at + length (encode (listNumbers j (slice from to rows))) ≤ length entry → WritesRows j rows from to d₀ first d₀ first j from
+  write-start r =
+      let p = behind-count .left .place in
+      let q = behind-count .long in
+      record { rows-left = rows-all l; written = writes-all; room = omega arith }
+
+  pub write-stop : {d : List ℕ} {next before i : ℕ} → WritesRows j rows from to d₀ first d next before i → to ≤ i
+      → (next ≡ at + length (encode (listNumbers j (slice from to rows)))) × (d ≡ sets entry at (encode (listNumbers j (slice from to rows))))
+  write-stop w h = let (p, q) = writes-none (w .written) (gaps-none (w .rows-left) h) in writes-last behind-count p q
+
+module _ {j : ℕ} {rows : List ℕ} {from to : ℕ} {d₀ : List ℕ} {first : ℕ} {d : List ℕ} {next before i : ℕ} (w : WritesRows j rows from to d₀ first d next before i)
+    (h : i < to) {row : ℕ} (e : row ≡ getD rows i 0) where
+  pub write-room : next + length (bytesOf (row - before)) ≤ length d
+  write-room = room-number (w .written) (gaps-next (w .rows-left) h e) (w .room)
+
+  pub write-turn : {m : ℕ} {d′ : List ℕ} → m ≡ next + length (bytesOf (row - before)) → d′ ≡ sets d next (bytesOf (row - before))
+      → WritesRows j rows from to d₀ first d′ m row (i + 1)
+  write-turn f g =
+      record { rows-left = rows-next (w .rows-left) h e; written = writes-number (w .written) (gaps-next (w .rows-left) h e) f g; room = w .room }

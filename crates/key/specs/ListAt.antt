@@ -1,0 +1,15 @@
+-- What the writer of one list asks of it.
+-- Assumes nothing.
+use Prim.Native.Nat.{ℕ, _-_, _≤_}
+use mathlib.Core.List.{List}
+use lib.ListN.{length}
+use lib.Seq.{slice}
+use Rattle.papers.specs.Bounds.{maxColumns}
+use Rattle.papers.specs.Lists.{Asc}
+
+-- the rows from `from` up to `to` can be a list of column j: they ascend above j, and are no more than there are columns
+pub record ListAt (j : ℕ) (rows : List ℕ) (from to : ℕ) : Type 0 where
+  pub rises : from ≤ to
+  pub inside : to ≤ length rows
+  pub ascending : Asc j (slice from to rows)
+  pub few : to - from ≤ maxColumns

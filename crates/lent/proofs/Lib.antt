@@ -1,0 +1,2 @@
+pub mod Sixes
+pub mod Shorts

@@ -1,0 +1,24 @@
+-- The six slices that an analysis or a check is lent, as one value.
+-- Assumes nothing.
+use Prim.Native.Nat.{ℕ, _+_, _≤_}
+use mathlib.Core.Bool.{Bool, _||_}
+use mathlib.Core.List.{List}
+use lib.Dec.{ltb}
+use lib.ListN.{length}
+use Rattle.papers.specs.Bounds.{workLength}
+use Rattle.papers.specs.Refusals.{Lent}
+
+abbrev pub six : List ℕ → List ℕ → List ℕ → List ℕ → List ℕ → List ℕ → Lent
+six parents order pops starts rows work = record { parents = parents; order = order; pops = pops; factorStarts = starts; factorRows = rows; work = work }
+
+-- one of them is below its fixed length for n columns, by their lengths
+abbrev pub isShort : ℕ → ℕ → ℕ → ℕ → ℕ → ℕ → Bool
+isShort n parents order pops starts work = ltb parents n || ltb order n || ltb pops n || ltb starts (n + 1) || ltb work (workLength n)
+
+-- each of them has its fixed length for n columns
+pub record LongEnough (n : ℕ) (lent : Lent) : Type 0 where
+  pub parents : n ≤ length (lent .parents)
+  pub order : n ≤ length (lent .order)
+  pub pops : n ≤ length (lent .pops)
+  pub starts : n + 1 ≤ length (lent .factorStarts)
+  pub work : workLength n ≤ length (lent .work)

@@ -1,0 +1,6 @@
+pub mod Keys
+pub mod Turns
+pub mod Parts
+pub mod Placing
+pub mod Works
+pub mod Arranging

@@ -1,0 +1,56 @@
+-- The W of a column and its children by the mark, where the W of the children are known: by them they are sorted, and from theirs is its own.
+-- Assumes nothing.
+use Prim.Native.Nat.{ℕ, suc, _+_, _*_, _<_, _≤_, max}
+use mathlib.Core.Path.{_≡_, refl, sym, ap, _∙_}
+use mathlib.Core.List.{List, [], _∷_, List·Memᴰ·head, List·Memᴰ·tail, List·Memᴰ·not-nil}
+use native.Mathlib.Omega.{arith}
+use lib.ListN.{length, getD}
+use Rattle.papers.specs.Bounds.{maxColumns}
+use Rattle.papers.specs.Lists.{_∈_, sort}
+use Rattle.papers.specs.Tree.{t}
+use Rattle.papers.specs.Room.{rooms, peakOf}
+use Rattle.papers.specs.Order.{siblingKey, alone, arranged, stepsOf}
+use Rattle.list_laws.proofs.Sorts.{sort-same, sort-elements}
+use Rattle.order_laws.specs.Subtrees.{inTurn, butLast}
+use Rattle.order_laws.proofs.Greatest.{greatest-least}
+use Rattle.order_laws.proofs.Arranged.{steps-enough}
+use Rattle.order_laws.proofs.RoomBounds.{rooms-bound}
+use Rattle.order_laws.proofs.Needs.{need-children}
+use Rattle.room.specs.Rows.{rowsIn, mostEntries}
+use Rattle.room.proofs.Entries.{entries-fit}
+use Rattle.order.specs.Arranged.{keyAt, needAt, Family, aloneIn, arrangedIn}
+
+in-turn-same : (size need other : ℕ → ℕ) (h : ℕ) (cs : List ℕ) → ((c : ℕ) → c ∈ cs → need c ≡ other c) → inTurn size need h cs ≡ inTurn size other h cs
+unfolding inTurn
+in-turn-same size need other h [] e = refl
+in-turn-same size need other h (c ∷ cs) e = rw (e c (List·Memᴰ·head refl), in-turn-same size need other (h + t (size c)) cs (λ d m. e d (List·Memᴰ·tail m)))
+
+module _ {mark : ℕ} {factor : List ℕ} {kids : ℕ → List ℕ} {n : ℕ} (family : Family mark factor kids n) where
+  -- W is no greater than n fronts
+  pub alone-light : (j : ℕ) → 0 < j → j ≤ n → aloneIn mark factor kids n j ≤ maxColumns * mostEntries
+  unfolding alone peakOf
+  alone-light j l u =
+      let steps = stepsOf mark (rowsIn factor) kids n j in
+      let pops : ℕ → ℕ = λ i. length (kids i) in
+      omega (
+        arith,
+        greatest-least (rooms (rowsIn factor) pops [] steps) (n * mostEntries)
+            (rooms-bound (rowsIn factor) pops n mostEntries [] steps (λ i m. entries-fit (suc (rowsIn factor i)) (omega (arith, family .rows i))) (λ x m. absurd (List·Memᴰ·not-nil m)) (omega (arith, family .short j l u))),
+        family .few,
+      )
+
+  module _ (rooms : List ℕ) (j : ℕ) (low : 0 < j) (high : j ≤ n) (known : (c : ℕ) → c ∈ kids j → getD rooms c 0 ≡ aloneIn mark factor kids n c) where
+    -- the children sorted by the keys are the children by the mark
+    pub sorted-arranged : sort (keyAt mark factor rooms j) (kids j) ≡ arrangedIn mark factor kids n j
+    unfolding arranged
+    sorted-arranged = sort-same _ _ (kids j) (λ c m. ap (siblingKey mark (rowsIn factor j) (rowsIn factor c)) (known c m))
+
+    -- the W found from the children's is that of the column
+    pub need-alone : needAt factor rooms (arrangedIn mark factor kids n j) j ≡ aloneIn mark factor kids n j
+    unfolding alone arranged
+    need-alone =
+        let cs = arrangedIn mark factor kids n j in
+        let own : ℕ → ℕ = λ c. aloneIn mark factor kids n c in
+        let same = in-turn-same (rowsIn factor) (λ c. getD rooms c 0) own 0 cs (λ c m. known c (sort-elements _ c (kids j) .0 m)) in
+        let deeper = ap (peakOf (rowsIn factor) (λ i. length (kids i))) (steps-enough mark (rowsIn factor) kids (family .kin .lower) n (suc n) j low high (omega arith)) in
+        rw same (sym (deeper ∙ need-children mark (rowsIn factor) kids (family .kin) n j low (omega arith)))

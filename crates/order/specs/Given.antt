@@ -1,0 +1,40 @@
+-- The tree and the rows that an order is made from, as slices hold them; and the order, in the paper's terms.
+-- Assumes nothing.
+use Prim.Native.Nat.{ℕ, _+_, _-_, _*_, _<_, _≤_}
+use mathlib.Core.Path.{_≡_}
+use mathlib.Core.Logic.{_↔_}
+use mathlib.Core.List.{List, flatMap}
+use lib.ListN.{length, getD}
+use Rattle.papers.specs.Bounds.{maxColumns, maxMark}
+use Rattle.papers.specs.Order.{stepsOf}
+use Rattle.tree.specs.Parents.{parentIn, TreeIn, kidsIn}
+use Rattle.room.specs.Rows.{rowsIn}
+
+-- parents rise, factor starts rise; a column has rows exactly if it has a parent, and no more than there may be columns
+pub record Rowed (parents factor : List ℕ) : Type 0 where
+  pub tree : TreeIn parents
+  pub starts : length factor ≡ length parents + 1
+  pub rise : (j : ℕ) → 0 < j → j ≤ length parents → getD factor (j - 1) 0 ≤ getD factor j 0
+  pub few : (j : ℕ) → 0 < j → j ≤ length parents → rowsIn factor j ≤ maxColumns
+  pub roots : (j : ℕ) → 0 < j → j ≤ length parents → (rowsIn factor j ≡ 0) ↔ (parentIn parents j ≡ 0)
+
+-- what the order is asked: of so many lent places for order, pops and work
+pub record Given (mark : ℕ) (parents factor : List ℕ) (order pops work : ℕ) : Type 0 where
+  pub rowed : Rowed parents factor
+  pub columns : length parents ≤ maxColumns
+  pub marked : mark ≤ maxMark
+  pub order-length : order ≡ length parents
+  pub pops-length : pops ≡ length parents
+  pub work-length : 8 * length parents + 8 ≤ work
+
+-- the pops of column j: the number of its children
+abbrev pub popsIn : List ℕ → ℕ → ℕ
+popsIn parents j = length (kidsIn parents j)
+
+-- the steps of column j's subtree, siblings by the mark
+abbrev pub stepsIn : ℕ → List ℕ → List ℕ → ℕ → List ℕ
+stepsIn mark parents factor j = stepsOf mark (rowsIn factor) (kidsIn parents) (length parents) j
+
+-- the order: the subtrees of the roots, ascending
+abbrev pub orderIn : ℕ → List ℕ → List ℕ → List ℕ
+orderIn mark parents factor = flatMap (stepsIn mark parents factor) (kidsIn parents 0)

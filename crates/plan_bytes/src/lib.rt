@@ -1,1 +1,0 @@
-// The plan of a job, written into a lent slice: its entry point.

@@ -1,0 +1,45 @@
+-- The steps of a plan, taken apart into their columns and their pops, and put together again.
+-- Assumes nothing.
+use Prim.Native.Nat.{ℕ, zero, suc, _-_, _<_, _≤_}
+use mathlib.Core.Path.{_≡_, refl, ap}
+use mathlib.Core.Logic.{_⊎_, inl, inr}
+use mathlib.Core.List.{List, [], _∷_, map, List·Memᴰ·head, List·Memᴰ·tail, List·Memᴰ·not-nil, List·Memᴰ·cases-cons}
+use native.Mathlib.Omega.{arith}
+use lib.ListN.{length, getD}
+use Rattle.papers.specs.Lists.{_∈_}
+use Rattle.papers.specs.Plan.{columnsIn, popsIn}
+use Rattle.bytes_laws.proofs.Plans.{StepsFit}
+
+-- what stands at a place of a list of images
+pub map-at : {B C : Type 0} (f : B → C) (l : List B) (k : ℕ) (b : B) (c : C) → k < length l → getD (map f l) k c ≡ f (getD l k b)
+map-at f [] k b c h = absurd (omega arith)
+map-at f (x ∷ l) zero b c h = refl
+map-at f (x ∷ l) (suc k) b c h = map-at f l k b c (omega arith)
+
+-- steps made of columns, each with its pops
+pub columns-made : (pops : ℕ → ℕ) (order : List ℕ) → columnsIn (map (λ j. (j, pops j)) order) ≡ order
+columns-made pops [] = refl
+columns-made pops (j ∷ js) = ap (λ l. j ∷ l) (columns-made pops js)
+
+pub pops-made : (pops : ℕ → ℕ) (order : List ℕ) → popsIn (map (λ j. (j, pops j)) order) ≡ map pops order
+pops-made pops [] = refl
+pops-made pops (j ∷ js) = ap (λ l. pops j ∷ l) (pops-made pops js)
+
+-- steps lie in their ranges, if their columns do and their pops are those of the columns
+pub steps-fit : (n : ℕ) (pops : ℕ → ℕ) (steps : List (ℕ × ℕ)) → ((j : ℕ) → j ∈ columnsIn steps → (1 ≤ j) × (j ≤ n) × (pops j ≤ n - 1)) → popsIn steps ≡ map pops (columnsIn steps)
+    → StepsFit n steps
+steps-fit n pops [] h e = tt
+steps-fit n pops (x ∷ xs) h e =
+    let (l, u, few) = h (x .0) (List·Memᴰ·head refl) in
+    let own : x .1 ≡ pops (x .0) = cc in
+    let rest : popsIn xs ≡ map pops (columnsIn xs) = cc in
+    ((l, u, omega arith), steps-fit n pops xs (λ j m. h j (List·Memᴰ·tail m)) rest)
+
+-- the columns of steps that lie in their ranges
+pub columns-within : (n : ℕ) (steps : List (ℕ × ℕ)) → StepsFit n steps → (j : ℕ) → j ∈ columnsIn steps → (1 ≤ j) × (j ≤ n)
+columns-within n [] f j m = absurd (List·Memᴰ·not-nil m)
+columns-within n (x ∷ xs) f j m = go (List·Memᴰ·cases-cons m) (λ k. columns-within n xs (f .1) j k)
+  where
+    go : (j ≡ x .0) ⊎ (j ∈ columnsIn xs) → (j ∈ columnsIn xs → (1 ≤ j) × (j ≤ n)) → (1 ≤ j) × (j ≤ n)
+    go (inl e) ih = rw e (f .0 .0, f .0 .1)
+    go (inr k) ih = ih k

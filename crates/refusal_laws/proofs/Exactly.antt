@@ -1,0 +1,107 @@
+-- The outcome of an entry point is decided by the first test that refuses, so where its tests agree with its conditions, and each refusal has a
+-- number and leaves what that number must, the outcome is exactly what the conditions say.
+-- Assumes nothing.
+use Prim.Native.Nat.{ℕ, zero, suc, _<_, _≤_}
+use mathlib.Core.Path.{_≡_, refl, sym, ap, _∙_}
+use mathlib.Core.Logic.{_↔_}
+use mathlib.Core.Bool.{Bool, true, false}
+use mathlib.Core.List.{List, _++_, map}
+use native.Mathlib.Omega.{arith}
+use Rattle.papers.specs.declared.Answer.{Answer}
+use Rattle.papers.specs.Refusals.{Leaves, untouched, zeroed, Verdict, passed, refused, first, refusedIf, refusedAt, Outcome, outcome}
+use Rattle.papers.specs.Conditions.{Condition, Answered, Unrefused}
+use Rattle.refusal_laws.specs.Exactly.{Exactly}
+use Rattle.job_laws.proofs.Firsts.{refused-passed, first-append-passed, first-append-refused, first-map}
+use Rattle.refusal_laws.proofs.Agreements.{Refuses, one-answer, AgreeEach, answered-iff, passed-iff}
+
+-- two outcomes that a contract allows, each being the one that it states, coincide
+pub outcomes-coincide : {S : Type 0} {stated x y : Outcome S} → x ≡ stated → y ≡ stated → x ≡ y
+outcomes-coincide e f = e ∙ sym f
+
+-- ---- what a refusal leaves
+
+-- a refusal has a number; 1 to 7 leave the lent slices untouched, any other zero
+abbrev pub Leaving : Verdict → Type 0
+Leaving passed = Unit {0}
+Leaving (refused a untouched) = (1 ≤ a .number) × (a .number ≤ 7)
+Leaving (refused a zeroed) = 7 < a .number
+
+infixr 5 _&_
+-- the verdict of one test, and those of the tests behind it
+abbrev pub _&_ : {A B : Type 0} → A → B → A × B
+a & b = (a, b)
+
+pub leaving-if : (b : Bool) (a : Answer) (l : Leaves) → Leaving (refused a l) → Leaving (refusedIf b a l)
+unfolding refusedIf
+leaving-if true a l h = h
+leaving-if false a l h = tt
+
+pub leaving-at : (number place count : ℕ) → 7 < number → Leaving (refusedAt number place count zeroed)
+unfolding refusedAt
+leaving-at number zero count h = tt
+leaving-at number (suc p) count h = h
+
+-- tests of a part of the call, then others
+pub leaving-behind : {C D : Type 0} (part : C → D) (ts : List (D → Verdict)) (us : List (C → Verdict)) (call : C) → Leaving (first ts (part call)) → Leaving (first us call)
+    → Leaving (first (map (λ test call. test (part call)) ts ++ us) call)
+leaving-behind {C} part ts us call h g = go (first ts (part call)) refl
+  where
+    front : List (C → Verdict)
+    front = map (λ test call. test (part call)) ts
+
+    go : (v : Verdict) → first ts (part call) ≡ v → Leaving (first (front ++ us) call)
+    go passed q = rw (first-append-passed front us call (first-map part ts call ∙ q)) g
+    go (refused a l) q = rw (first-append-refused front us call (first-map part ts call ∙ q)) (rw q at h)
+
+-- ---- the outcome
+
+module _ {C S : Type 0} (tests : List (C → Verdict)) (done : C → Outcome S) (zeroing : S → S) (call : C) (lent : S) where
+  outcome-done : first tests call ≡ passed → outcome tests done zeroing call lent ≡ done call
+  unfolding outcome
+  outcome-done p = rw (p, outcome)
+
+  outcome-untouched : {a : Answer} → first tests call ≡ refused a untouched → outcome tests done zeroing call lent ≡ record { answer = a; lent = lent }
+  unfolding outcome
+  outcome-untouched p = rw (p, outcome)
+
+  outcome-zeroed : {a : Answer} → first tests call ≡ refused a zeroed → outcome tests done zeroing call lent ≡ record { answer = a; lent = zeroing lent }
+  unfolding outcome
+  outcome-zeroed p = rw (p, outcome)
+
+  module _ (conditions : List (Condition C)) (agree : AgreeEach tests conditions call) where
+    -- the outcome by the conditions, where a call that passes the tests is done
+    pub outcome-exactly : Leaving (first tests call) → (first tests call ≡ passed → done call .answer .number ≡ 0)
+        → Exactly conditions call lent (zeroing lent) (done call) (outcome tests done zeroing call lent)
+    outcome-exactly leaving finished = go (first tests call) refl
+      where
+        given : (a : Answer) → Refuses (first tests call) a ↔ Answered conditions call a
+        given a = answered-iff tests conditions call agree a
+
+        none : (first tests call ≡ passed) ↔ Unrefused conditions call
+        none = passed-iff tests conditions call agree
+
+        refusal : (b : Answer) (l : Leaves) (left : S) → first tests call ≡ refused b l → 1 ≤ b .number → (b .number ≤ 7 → left ≡ lent) → (7 < b .number → left ≡ zeroing lent)
+            → Exactly conditions call lent (zeroing lent) (done call) (record { answer = b; lent = left })
+        refusal b l left q h early late = record {
+          refused-iff = λ a z. (λ e. given a .0 (l, rw (← e) q), λ r. one-answer q (given a .1 r .1));
+          done-iff = (λ e. absurd (omega arith), λ u. absurd (refused-passed q (none .1 u)));
+          when-done = λ e. absurd (omega arith);
+          untouched = λ k e. early e;
+          zeroed = late;
+        }
+
+        go : (v : Verdict) → first tests call ≡ v → Exactly conditions call lent (zeroing lent) (done call) (outcome tests done zeroing call lent)
+        go passed q =
+            let z = finished q in
+            rw (outcome-done q)
+            (record {
+              refused-iff = λ a h. (λ e. absurd (omega (arith, ap (λ (b : Answer). b .number) e)), λ r. absurd (refused-passed (given a .1 r .1) q));
+              done-iff = (λ e. none .0 q, λ u. z);
+              when-done = λ e. refl;
+              untouched = λ l h. absurd (omega arith);
+              zeroed = λ h. absurd (omega arith);
+            })
+        go (refused b untouched) q =
+            let h = rw q at leaving in rw (outcome-untouched q) (refusal b untouched lent q (h .0) (λ e. refl) (λ e. absurd (omega arith)))
+        go (refused b zeroed) q =
+            let h = rw q at leaving in rw (outcome-zeroed q) (refusal b zeroed (zeroing lent) q (omega arith) (λ e. absurd (omega arith)) (λ e. refl))

@@ -1,0 +1,110 @@
+-- The tests of a job (1 to 6) against their conditions. Each way out of the test of the starts is one way in which starts
+-- are bad, and starts that are bad in none are the ones that pass.
+-- Assumes nothing.
+use Prim.Native.Nat.{ℕ, zero, suc, _+_, _<_, _≤_}
+use mathlib.Core.Path.{_≡_, refl}
+use mathlib.Core.Logic.{_↔_, _⊎_, inl, inr, _≢_}
+use mathlib.Core.Bool.{true}
+use native.Mathlib.Decide.{ℕ-discrete}
+use native.Mathlib.Omega.{arith}
+use lib.ListN.{length}
+use borrow.Author.Tests.{ltb-true, lt-ltb}
+use Rattle.papers.specs.declared.Answer.{Answer}
+use Rattle.papers.specs.Bounds.{maxColumns, maxMark, maxLimit}
+use Rattle.papers.specs.Lists.{least}
+use Rattle.papers.specs.Job.{Job, start}
+use Rattle.papers.specs.Refusals.{answer, untouched, Verdict, passed, refused, first, falls, columnsTest, markTest, limitTest, startsTest, jobTests}
+use Rattle.papers.specs.Conditions.{Columns, columns, jobConditions, Least, ColumnsOver, MarkUnknown, LimitOver, Falls, BadStarts, miscounted, not-zero, falls as falls-at, last, StartsBad}
+use Rattle.list_laws.proofs.Leasts.{least-zero-iff}
+use Rattle.job_laws.proofs.Untouched.{Early, job-untouched}
+use Rattle.job_laws.proofs.Starts.{falls-false-iff, starts-few, starts-from, starts-fall, starts-end, starts-pass}
+use Rattle.refusal_laws.proofs.Agreements.{Agree, agree-by, AgreeEach, _▸_}
+use Rattle.refusal_laws.proofs.Exactly.{Leaving}
+use Rattle.refusal_laws.proofs.Tests.{below-iff, agree-if, found-iff}
+use Rattle.refusal_laws.proofs.Rows.{rows-agree}
+
+-- 1
+pub columns-agree : (n : ℕ) → Agree (columnsTest n) (ColumnsOver n)
+unfolding columnsTest
+columns-agree n = agree-if _ _ untouched (below-iff maxColumns n)
+
+-- 2
+pub mark-agree : (job : Job) → Agree (markTest job) (MarkUnknown job)
+unfolding markTest
+mark-agree job = agree-if _ _ untouched (λ e. over (ltb-true maxMark (job .mark) e), λ h. lt-ltb maxMark (job .mark) (omega (arith, h .0, h .1, h .2)))
+  where
+    over : maxMark < job .mark → (job .mark ≢ 0) × (job .mark ≢ 1) × (job .mark ≢ 2)
+    over h = (λ e. omega arith, λ e. omega arith, λ e. omega arith)
+
+-- 3
+pub limit-agree : (job : Job) → Agree (limitTest job) (LimitOver job)
+unfolding limitTest
+limit-agree job = agree-if _ _ untouched (below-iff maxLimit (job .limit))
+
+-- 4
+module _ (c : Columns) where
+  falls-iff : (j : ℕ) → (falls (c .starts) j ≡ true) ↔ Falls (c .starts) j
+  unfolding falls
+  falls-iff j = below-iff (start (c .starts) (suc j)) (start (c .starts) j)
+
+  least-fall : (j : ℕ) → (least (falls (c .starts)) (c .n) ≡ suc j) ↔ Least (Falls (c .starts)) (c .n) (suc j)
+  least-fall = found-iff (falls (c .starts)) (c .n) (λ k l h. falls-iff k)
+
+  no-fall : ((k : ℕ) → 1 ≤ k → k ≤ c .n → ¬ Falls (c .starts) k) ↔ (least (falls (c .starts)) (c .n) ≡ 0)
+  no-fall =
+      let i = least-zero-iff (falls (c .starts)) (c .n) in (
+        λ h. i .1 (λ k l u. falls-false-iff (c .starts) k .1 (omega (arith, h k l u))),
+        λ z k l u q. absurd (omega (arith, falls-false-iff (c .starts) k .0 (i .0 z k l u))),
+      )
+
+  fall : length (c .starts) ≡ c .n + 1 → start (c .starts) 1 ≡ 0 → (j : ℕ) → Least (Falls (c .starts)) (c .n) j
+      → startsTest (c .n) (c .starts) (c .rows) ≡ refused (answer 4 j 0) untouched
+  fall long from-zero zero h = absurd (omega (arith, h .0 .0))
+  fall long from-zero (suc j) h = starts-fall (c .n) (c .starts) (c .rows) long from-zero j (least-fall j .1 h)
+
+  pub starts-agree : Agree (startsTest (c .n) (c .starts) (c .rows)) (StartsBad c)
+  starts-agree =
+      agree-by _ _ (λ a h. (untouched, rw (h .2) (gives (h .0) (h .1))))
+      (go (ℕ-discrete (length (c .starts)) (c .n + 1)) (ℕ-discrete (start (c .starts) 1) 0) (least (falls (c .starts)) (c .n)) refl
+      (ℕ-discrete (start (c .starts) (suc (c .n))) (length (c .rows))))
+    where
+      gives : (p : ℕ) → BadStarts c p → startsTest (c .n) (c .starts) (c .rows) ≡ refused (answer 4 p 0) untouched
+      gives p (miscounted h) = starts-few (c .n) (c .starts) (c .rows) h
+      gives p (not-zero long h) = starts-from (c .n) (c .starts) (c .rows) long h
+      gives p (falls-at long from-zero l u f none) = fall long from-zero p ((l, u), f, none)
+      gives p (last long from-zero none h) = starts-end (c .n) (c .starts) (c .rows) long from-zero (no-fall .0 none) h
+
+      four : (p : ℕ) → BadStarts c p → (startsTest (c .n) (c .starts) (c .rows) ≡ passed) ⊎ ((a : Answer) × StartsBad c a)
+      four p b = inr (answer 4 p 0, (p, b, refl))
+
+      go : Dec (length (c .starts) ≡ c .n + 1) → Dec (start (c .starts) 1 ≡ 0) → (p : ℕ) → least (falls (c .starts)) (c .n) ≡ p
+          → Dec (start (c .starts) (suc (c .n)) ≡ length (c .rows)) → (startsTest (c .n) (c .starts) (c .rows) ≡ passed) ⊎ ((a : Answer) × StartsBad c a)
+      go (no a) b p z d = four 0 (miscounted a)
+      go (yes a) (no b) p z d = four 0 (not-zero a b)
+      go (yes a) (yes b) (suc j) z d = let (r, f, none) = least-fall j .0 z in four (suc j) (falls-at a b (r .0) (r .1) f none)
+      go (yes a) (yes b) zero z (no d) = four (c .n) (last a b (no-fall .1 z) d)
+      go (yes a) (yes b) zero z (yes d) = inl (starts-pass (c .n) (c .starts) (c .rows) a b z d)
+
+-- ---- 1 to 6
+
+pub job-agree : (job : Job) → AgreeEach jobTests jobConditions job
+unfolding jobTests
+job-agree job =
+    columns-agree (job .n)
+    ▸ λ p. mark-agree job
+    ▸ λ p. limit-agree job
+    ▸ λ p. starts-agree (columns job)
+    ▸ λ p. rows-agree (columns job)
+    ▸ λ p. tt
+
+-- a refusal of 1 to 6 leaves what it must
+pub early-leaving : (v : Verdict) → Early v → Leaving v
+early-leaving passed h = tt
+early-leaving (refused a l) h = rw (h .0) (h .1, omega (arith, h .2))
+
+pub job-leaving : (job : Job) → Leaving (first jobTests job)
+job-leaving job = go (first jobTests job) refl
+  where
+    go : (v : Verdict) → first jobTests job ≡ v → Leaving v
+    go passed e = tt
+    go (refused a l) e = early-leaving (refused a l) (job-untouched job e)

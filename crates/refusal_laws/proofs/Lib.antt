@@ -1,0 +1,17 @@
+pub mod Agreements
+pub mod Exactly
+pub mod Tests
+pub mod Rows
+pub mod Job
+pub mod Slices
+pub mod Analysis
+pub mod Run
+pub mod Text
+pub mod Fields
+pub mod Readings
+pub mod PlanBytes
+pub mod PlanTests
+pub mod Check
+pub mod Printed
+pub mod Program
+pub mod Call

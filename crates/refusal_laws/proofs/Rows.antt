@@ -1,0 +1,178 @@
+-- The test of the rows (5 and 6) against its condition: it goes through the rows in reading order, so the fault that it names is that of the first
+-- row with one.
+-- Assumes nothing.
+use Prim.Native.Nat.{ℕ, zero, suc, _-_, _<_, _≤_}
+use mathlib.Core.Path.{_≡_, refl, sym, _∙_}
+use mathlib.Core.Logic.{_↔_, _⊎_, inl, inr}
+use mathlib.Core.List.{List, [], _∷_}
+use native.Mathlib.Omega.{arith}
+use lib.ListN.{length, getD}
+use Rattle.papers.specs.declared.Answer.{Answer}
+use Rattle.papers.specs.Job.{columnOf}
+use Rattle.papers.specs.Refusals.{answer, untouched, rowFault, rowsFault, columnFault, rowsTest}
+use Rattle.papers.specs.Conditions.{Columns, Least, rowOf, IsRow, Outside, NotAbove, RowFine, FineBefore, BadRow, five, six}
+use Rattle.list_laws.proofs.Tests.{Compare, below, level, above, compare, below-or}
+use Rattle.job_laws.proofs.Rows.{row-low, row-over, row-falls, row-fine, rows-fault, rows-next}
+use Rattle.refusal_laws.proofs.Agreements.{Agree, agree-same}
+use Rattle.refusal_laws.proofs.Tests.{below-iff, agree-at}
+
+module _ (n j : ℕ) where
+  -- the fault of row k of rows behind row `before`
+  abbrev faultOf : ℕ → List ℕ → ℕ → ℕ
+  faultOf before rs k = rowFault n j (getD (before ∷ rs) k 0) (getD rs k 0)
+
+  -- what the test finds in them, with what that says of each row
+  data Scan (before : ℕ) (rs : List ℕ) : Type 0 where
+    fine : rowsFault n j before rs ≡ 0 → ((k : ℕ) → k < length rs → faultOf before rs k ≡ 0) → Scan before rs
+    fault : (k f : ℕ) → rowsFault n j before rs ≡ suc f → k < length rs → faultOf before rs k ≡ suc f → ((i : ℕ) → i < k → faultOf before rs i ≡ 0)
+        → Scan before rs
+
+  scan : (before : ℕ) (rs : List ℕ) → Scan before rs
+  unfolding rowsFault
+  scan before [] = fine refl (λ k l. absurd (omega arith))
+  scan before (r ∷ rs) = go (rowFault n j before r) refl (scan r rs)
+    where
+      also : (b : ℕ) → rowFault n j before r ≡ 0 → ((i : ℕ) → i < b → faultOf r rs i ≡ 0) → (i : ℕ) → i < suc b → faultOf before (r ∷ rs) i ≡ 0
+      also b e h zero l = e
+      also b e h (suc i) l = h i (omega arith)
+
+      go : (g : ℕ) → rowFault n j before r ≡ g → Scan r rs → Scan before (r ∷ rs)
+      go zero e (fine q h) = fine (rows-next n j before r rs e ∙ q) (also (length rs) e h)
+      go zero e (fault k f q l x h) = fault (suc k) f (rows-next n j before r rs e ∙ q) (omega arith) x (also k e h)
+      go (suc g) e s = fault 0 g (rows-fault n j before r rs (omega arith) ∙ e) (omega arith) e (λ i l. absurd (omega arith))
+
+  fine-iff : (before : ℕ) (rs : List ℕ) → (rowsFault n j before rs ≡ 0) ↔ ((k : ℕ) → k < length rs → faultOf before rs k ≡ 0)
+  fine-iff before rs = (λ z. there z (scan before rs), λ h. back h (scan before rs))
+    where
+      there : rowsFault n j before rs ≡ 0 → Scan before rs → (k : ℕ) → k < length rs → faultOf before rs k ≡ 0
+      there z (fine q h) = h
+      there z (fault k f q l x h) = absurd (omega arith)
+
+      back : ((k : ℕ) → k < length rs → faultOf before rs k ≡ 0) → Scan before rs → rowsFault n j before rs ≡ 0
+      back h (fine q g) = q
+      back h (fault k f q l x g) = absurd (omega (arith, h k l))
+
+  fault-iff : (before : ℕ) (rs : List ℕ) (f : ℕ)
+      → (rowsFault n j before rs ≡ suc f) ↔ ((k : ℕ) × (k < length rs) × (faultOf before rs k ≡ suc f) × ((i : ℕ) → i < k → faultOf before rs i ≡ 0))
+  fault-iff before rs f = (λ e. there e (scan before rs), λ h. back h (scan before rs))
+    where
+      At : Type 0
+      At = (k : ℕ) × (k < length rs) × (faultOf before rs k ≡ suc f) × ((i : ℕ) → i < k → faultOf before rs i ≡ 0)
+
+      there : rowsFault n j before rs ≡ suc f → Scan before rs → At
+      there e (fine q h) = absurd (omega arith)
+      there e (fault k g q l x h) = (k, l, omega arith, h)
+
+      meet : (k g : ℕ) → rowsFault n j before rs ≡ suc g → faultOf before rs k ≡ suc g → ((i : ℕ) → i < k → faultOf before rs i ≡ 0) → (h : At) → Compare k (h .0)
+          → rowsFault n j before rs ≡ suc f
+      meet k g q x m h (below l) = absurd (omega (arith, h .3 k l))
+      meet k g q x m h (level e) = q ∙ sym x ∙ rw e (h .2)
+      meet k g q x m h (above l) = absurd (omega (arith, m (h .0) l, h .2))
+
+      back : At → Scan before rs → rowsFault n j before rs ≡ suc f
+      back h (fine q m) = absurd (omega (arith, m (h .0) (h .1), h .2))
+      back h (fault k g q l x m) = meet k g q x m h (compare k (h .0))
+
+module _ (c : Columns) where
+  -- the fault of row k of column j
+  abbrev faultAt : ℕ → ℕ → ℕ
+  faultAt j k = faultOf (c .n) j j (columnOf (c .starts) (c .rows) j) k
+
+  -- a row: outside, or not above the one before it, or fine
+  data RowIs (j k : ℕ) : Type 0 where
+    outside : faultAt j k ≡ 5 → Outside c j k → RowIs j k
+    fallen : faultAt j k ≡ 6 → ¬ Outside c j k → NotAbove c j k → RowIs j k
+    clear : faultAt j k ≡ 0 → RowFine c j k → RowIs j k
+
+  row-is : (j k : ℕ) → RowIs j k
+  row-is j k = go k (below-or j (rowOf c j k)) (below-or (c .n) (rowOf c j k))
+    where
+      inside : (k : ℕ) → j < rowOf c j k → rowOf c j k ≤ c .n → ¬ Outside c j k
+      inside k a b (inl h) = omega arith
+      inside k a b (inr h) = omega arith
+
+      behind : (k : ℕ) → j < rowOf c j (suc k) → rowOf c j (suc k) ≤ c .n → (rowOf c j k < rowOf c j (suc k)) ⊎ (rowOf c j (suc k) ≤ rowOf c j k) → RowIs j (suc k)
+      behind k a b (inl d) = clear (row-fine (c .n) j _ (rowOf c j (suc k)) a b d) (inside (suc k) a b, λ h. let e : suc k - 1 ≡ k = omega arith in omega (arith, rw e at (h .1)))
+      behind k a b (inr d) =
+          let e : suc k - 1 ≡ k = omega arith in fallen (row-falls (c .n) j _ (rowOf c j (suc k)) a b d) (inside (suc k) a b) (omega arith, rw e d)
+
+      go : (k : ℕ) → (j < rowOf c j k) ⊎ (rowOf c j k ≤ j) → (c .n < rowOf c j k) ⊎ (rowOf c j k ≤ c .n) → RowIs j k
+      go k (inr a) b = outside (row-low (c .n) j _ (rowOf c j k) a) (inl a)
+      go k (inl a) (inl b) = outside (row-over (c .n) j _ (rowOf c j k) a b) (inr b)
+      go zero (inl a) (inr b) = clear (row-fine (c .n) j j (rowOf c j 0) a b a) (inside 0 a b, λ h. omega (arith, h .0))
+      go (suc k) (inl a) (inr b) = behind k a b (below-or (rowOf c j k) (rowOf c j (suc k)))
+
+  row-fine-iff : (j k : ℕ) → RowFine c j k ↔ (faultAt j k ≡ 0)
+  row-fine-iff j k = (λ h. there h (row-is j k), λ e. back e (row-is j k))
+    where
+      there : RowFine c j k → RowIs j k → faultAt j k ≡ 0
+      there h (outside e o) = absurd (h .0 o)
+      there h (fallen e o a) = absurd (h .1 a)
+      there h (clear e f) = e
+
+      back : faultAt j k ≡ 0 → RowIs j k → RowFine c j k
+      back z (outside e o) = absurd (omega arith)
+      back z (fallen e o a) = absurd (omega arith)
+      back z (clear e f) = f
+
+  -- a column's fault is that of its first row at fault
+  abbrev faultIn : ℕ → ℕ
+  faultIn j = columnFault (c .n) (c .starts) (c .rows) j
+
+  column-fine-iff : (j : ℕ) → (faultIn j ≡ 0) ↔ ((k : ℕ) → k < length (columnOf (c .starts) (c .rows) j) → RowFine c j k)
+  unfolding columnFault
+  column-fine-iff j =
+      let i = fine-iff (c .n) j j (columnOf (c .starts) (c .rows) j) in
+      (λ z k l. row-fine-iff j k .1 (i .0 z k l), λ h. i .1 (λ k l. row-fine-iff j k .0 (h k l)))
+
+  column-fault-iff : (j f : ℕ)
+      → (faultIn j ≡ suc f) ↔ ((k : ℕ) × (k < length (columnOf (c .starts) (c .rows) j)) × (faultAt j k ≡ suc f) × ((i : ℕ) → i < k → RowFine c j i))
+  unfolding columnFault
+  column-fault-iff j f =
+      let t = fault-iff (c .n) j j (columnOf (c .starts) (c .rows) j) f in (
+        λ e. let (k, l, x, m) = t .0 e in (k, l, x, λ i h. row-fine-iff j i .1 (m i h)),
+        λ (k, l, x, m). t .1 (k, l, x, λ i h. row-fine-iff j i .0 (m i h)),
+      )
+
+  -- the test names the least column at fault
+  abbrev Named : Answer → Type 0
+  Named a = (j : ℕ) × Least (λ j. 0 < faultIn j) (c .n) j × (a ≡ answer (faultIn j) j 0)
+
+  named : (j k f : ℕ) → IsRow c j k → FineBefore c j k → faultAt j k ≡ suc f → Named (answer (suc f) j 0)
+  named j k f here before e =
+      let q = column-fault-iff j f .1 (k, here .2, e, before .1) in
+      (j, ((here .0, here .1), omega arith, λ i l h p. absurd (omega (arith, column-fine-iff i .1 (λ m u. before .0 i m h (l, omega arith, u))))), cc)
+
+  from-named : (a : Answer) (j : ℕ) → Least (λ j. 0 < faultIn j) (c .n) j → (f : ℕ) → faultIn j ≡ f → a ≡ answer f j 0 → BadRow c a
+  from-named a j l zero e q = absurd (omega (arith, l .1))
+  from-named a j l (suc f) e q = let (k, u, x, m) = column-fault-iff j f .0 e in go k (l .0 .0, l .0 .1, u) x (earlier, m) (row-is j k)
+    where
+      earlier : (i r : ℕ) → i < j → IsRow c i r → RowFine c i r
+      earlier i r h s = column-fine-iff i .0 (let z = l .2 i (s .0) h in omega arith) r (s .2)
+
+      go : (k : ℕ) → IsRow c j k → faultAt j k ≡ suc f → FineBefore c j k → RowIs j k → BadRow c a
+      go k here x before (outside y o) = let z : a ≡ answer 5 j 0 = cc in rw z (five here before o)
+      go k here x before (fallen y o n) = let z : a ≡ answer 6 j 0 = cc in rw z (six here before o n)
+      go k here x before (clear y n) = absurd (omega arith)
+
+  named-iff : (a : Answer) → Named a ↔ BadRow c a
+  named-iff a = (λ (j, l, q). from-named a j l (faultIn j) refl q, back a)
+    where
+      is-five : {j k : ℕ} → Outside c j k → RowIs j k → faultAt j k ≡ 5
+      is-five o (outside e p) = e
+      is-five o (fallen e p x) = absurd (p o)
+      is-five o (clear e f) = absurd (f .0 o)
+
+      is-six : {j k : ℕ} → ¬ Outside c j k → NotAbove c j k → RowIs j k → faultAt j k ≡ 6
+      is-six o x (outside e p) = absurd (o p)
+      is-six o x (fallen e p y) = e
+      is-six o x (clear e f) = absurd (f .1 x)
+
+      back : (a : Answer) → BadRow c a → Named a
+      back a (five {j = j} {k = k} here before o) = named j k 4 here before (is-five o (row-is j k))
+      back a (six {j = j} {k = k} here before o x) = named j k 5 here before (is-six o x (row-is j k))
+
+  -- 5 and 6
+  pub rows-agree : Agree (rowsTest (c .n) (c .starts) (c .rows)) (BadRow c)
+  unfolding rowsTest
+  rows-agree = agree-same _ (agree-at _ (c .n) (λ k l h. below-iff 0 (faultIn k)) faultIn (λ j. 0) untouched) named-iff

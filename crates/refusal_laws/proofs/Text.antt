@@ -1,0 +1,134 @@
+-- The tests of a job text against their conditions, line by line.
+-- Assumes nothing.
+use Prim.Native.Nat.{ℕ, suc, _<_}
+use mathlib.Core.Path.{_≡_, refl, _∙_}
+use mathlib.Core.Logic.{_↔_, _⊎_, inl, inr}
+use mathlib.Core.Bool.{Bool, true, false}
+use mathlib.Core.List.{List, [], _∷_}
+use native.Mathlib.Omega.{arith}
+use lib.Dec.{ltb}
+use lib.ListN.{length}
+use borrow.Author.Tests.{eqb-true, eq-eqb}
+use Rattle.papers.specs.declared.Answer.{Answer}
+use Rattle.papers.specs.Bounds.{textBytes, textColumns, textRows}
+use Rattle.papers.specs.Lists.{flat}
+use Rattle.papers.specs.Refusals.{answer, untouched, passed, refused, refusedIf}
+use Rattle.papers.specs.Text.{numbersAt, headOf, isRowLine, afterLines, textHead, textLists, Input, inputTest, headTest, lineFault, rowLinesTest, endTest, textTests}
+use Rattle.papers.specs.Conditions.{HeadLine, two, three, RowLine, rows, InputOver, BadHead, bad-head, columns-over, BadLine, bad-line, rows-over, LineBad, TextAfter, textConditions}
+use Rattle.list_laws.proofs.Tests.{Test, passes, fails, test, true-false}
+use Rattle.job_laws.proofs.Firsts.{refused-if, passed-if}
+use Rattle.refusal_laws.proofs.Agreements.{Refuses, Agree, agree-by, AgreeEach, _▸_}
+use Rattle.refusal_laws.proofs.Tests.{below-iff, fails-iff, either-iff, agree-if, Faults, agree-faults}
+
+-- ---- lines
+
+head-line-iff : (l : List ℕ) → (headOf l .fine ≡ true) ↔ HeadLine l
+unfolding headOf
+head-line-iff l = (there l, back l)
+  where
+    there : (l : List ℕ) → headOf l .fine ≡ true → HeadLine l
+    there [] e = absurd (true-false e refl)
+    there (n ∷ []) e = absurd (true-false e refl)
+    there (n ∷ limit ∷ []) e = two
+    there (n ∷ limit ∷ mark ∷ []) e = three
+    there (n ∷ limit ∷ mark ∷ x ∷ xs) e = absurd (true-false e refl)
+
+    back : (l : List ℕ) → HeadLine l → headOf l .fine ≡ true
+    back l two = refl
+    back l three = refl
+
+row-line-iff : (l : List ℕ) → (isRowLine l ≡ true) ↔ RowLine l
+unfolding isRowLine
+row-line-iff l = (there l, back l)
+  where
+    there : (l : List ℕ) → isRowLine l ≡ true → RowLine l
+    there [] e = absurd (true-false e refl)
+    there (count ∷ l) e = rw (eqb-true count (length l) e) (rows {l = l})
+
+    back : (l : List ℕ) → RowLine l → isRowLine l ≡ true
+    back l (rows {l = k}) = eq-eqb (length k) (length k) refl
+
+-- ---- the tests of a text
+
+module _ (input : Input) where
+  -- 26 at 0
+  input-agree : Agree (inputTest input) (InputOver input)
+  unfolding inputTest
+  input-agree = agree-if _ _ untouched (either-iff (input .more) _ (λ e. e, λ e. e) (below-iff textBytes (length (input .text))))
+
+  -- 25 and 26 at line 1
+  fine-iff : (textHead (input .text) .fine ≡ true) ↔ HeadLine (numbersAt (input .text) 1)
+  unfolding textHead
+  fine-iff = head-line-iff (numbersAt (input .text) 1)
+
+  over-iff : (ltb textColumns (textHead (input .text) .n) ≡ true) ↔ (textColumns < textHead (input .text) .n)
+  over-iff = below-iff textColumns (textHead (input .text) .n)
+
+  head-bad : textHead (input .text) .fine ≡ false → headTest input ≡ refused (answer 25 1 0) untouched
+  unfolding headTest
+  head-bad f = rw (f, headTest)
+
+  head-fine : textHead (input .text) .fine ≡ true → headTest input ≡ refusedIf (ltb textColumns (textHead (input .text) .n)) (answer 26 1 0) untouched
+  unfolding headTest
+  head-fine f = rw (f, headTest)
+
+  head-agree : Agree (headTest input) (BadHead input)
+  head-agree = agree-by _ _ gives (go (test (textHead (input .text) .fine)) (test (ltb textColumns (textHead (input .text) .n))))
+    where
+      gives : (a : Answer) → BadHead input a → Refuses (headTest input) a
+      gives a (bad-head h) = (untouched, head-bad (fails-iff _ fine-iff .1 h))
+      gives a (columns-over h l) = (untouched, head-fine (fine-iff .1 h) ∙ refused-if _ _ untouched (over-iff .1 l))
+
+      go : Test (textHead (input .text) .fine) → Test (ltb textColumns (textHead (input .text) .n)) → (headTest input ≡ passed) ⊎ ((a : Answer) × BadHead input a)
+      go (fails f) c = inr (answer 25 1 0, bad-head (fails-iff _ fine-iff .0 f))
+      go (passes f) (passes c) = inr (answer 26 1 0, columns-over (fine-iff .0 f) (over-iff .0 c))
+      go (passes f) (fails c) = inl (head-fine f ∙ passed-if _ _ untouched c)
+
+-- 25 and 26 at a row line
+module _ (text : List ℕ) where
+  module _ (j : ℕ) where
+    listed-over : Bool
+    listed-over = ltb textRows (length (flat (textLists text j)))
+
+    line-bad : isRowLine (numbersAt text (suc j)) ≡ false → lineFault text j ≡ 25
+    unfolding lineFault
+    line-bad r = rw (r, lineFault)
+
+    line-over : isRowLine (numbersAt text (suc j)) ≡ true → listed-over ≡ true → lineFault text j ≡ 26
+    unfolding lineFault listed-over
+    line-over r o = rw (r, o, lineFault)
+
+    line-fine : isRowLine (numbersAt text (suc j)) ≡ true → listed-over ≡ false → lineFault text j ≡ 0
+    unfolding lineFault listed-over
+    line-fine r o = rw (r, o, lineFault)
+
+    listed-over-iff : (listed-over ≡ true) ↔ (textRows < length (flat (textLists text j)))
+    unfolding listed-over
+    listed-over-iff = below-iff textRows (length (flat (textLists text j)))
+
+  line-faults : Faults (lineFault text) (BadLine text)
+  line-faults = record { is = is; some = λ j. go j (test (isRowLine (numbersAt text (suc j)))) (test (listed-over j)) }
+    where
+      is : (j m : ℕ) → BadLine text j m → (lineFault text j ≡ m) × (0 < m)
+      is j m (bad-line r) = (line-bad j (fails-iff _ (row-line-iff (numbersAt text (suc j))) .1 r), omega arith)
+      is j m (rows-over r o) = (line-over j (row-line-iff (numbersAt text (suc j)) .1 r) (listed-over-iff j .1 o), omega arith)
+
+      go : (j : ℕ) → Test (isRowLine (numbersAt text (suc j))) → Test (listed-over j) → (lineFault text j ≡ 0) ⊎ BadLine text j (lineFault text j)
+      go j (fails r) o = inr (rw (line-bad j r) (bad-line (fails-iff _ (row-line-iff (numbersAt text (suc j))) .0 r)))
+      go j (passes r) (passes o) = inr (rw (line-over j r o) (rows-over (row-line-iff (numbersAt text (suc j)) .0 r) (listed-over-iff j .0 o)))
+      go j (passes r) (fails o) = inl (line-fine j r o)
+
+lines-agree : (input : Input) → Agree (rowLinesTest input) (LineBad input)
+unfolding rowLinesTest
+lines-agree input =
+    agree-faults (line-faults (input .text)) (textHead (input .text) .n) _ (λ number j. answer number (suc j) 0) untouched (λ e. rw (e, rowLinesTest)) (λ p e. rw (e, rowLinesTest))
+
+-- 25 behind the last row line
+end-agree : (input : Input) → Agree (endTest input) (TextAfter input)
+unfolding endTest
+end-agree input = agree-if _ _ untouched (below-iff 0 (length (afterLines (suc (textHead (input .text) .n)) (input .text))))
+
+-- a text is refused by just the numbers and lines of its conditions
+pub text-agree : (input : Input) → AgreeEach textTests textConditions input
+unfolding textTests
+text-agree input = input-agree input ▸ λ p. head-agree input ▸ λ p. lines-agree input ▸ λ p. end-agree input ▸ λ p. tt

@@ -1,0 +1,103 @@
+-- The loop's invariant: the pops of the first k steps are written. The measure is how many are left.
+-- Assumes nothing.
+-- the pops of the first k steps are written
+use Prim.Native.Nat.{ℕ, _+_, _-_, _<_, _≤_}
+use mathlib.Core.Path.{_≡_, refl, _∙_}
+use mathlib.Core.List.{List, [], _∷_, map, map-append}
+use native.Mathlib.Omega.{arith}
+use native.Mathlib.Numerals.{add-one}
+use lib.ListN.{length, getD, set, take, length-set}
+use lib.Seq.{take-suc, take-all, take-suc-set}
+use borrow.Author.Needs.{needs}
+use Rattle.room.specs.Rows.{countAt}
+use Rattle.room.proofs.count_pops.Statement.{statement}
+use Rattle.room.proofs.count_pops.Tie as tie
+
+record Writing (starts order pops₀ pops : List ℕ) (k : ℕ) : Type 0 where
+  done : take k pops ≡ map (countAt starts) (take k order)
+  seen : k ≤ length order
+  same : length pops ≡ length order
+  long : length pops ≡ length pops₀
+
+writing-start : (starts order pops : List ℕ) → length pops ≡ length order → Writing starts order pops pops 0
+writing-start starts order pops h = record { done = refl; seen = omega arith; same = h; long = refl }
+
+module _ {starts order pops₀ pops : List ℕ} {k : ℕ} (inv : Writing starts order pops₀ pops k) where
+  writing-stop : length order ≤ k → pops ≡ map (countAt starts) order
+  writing-stop h =
+      let a : take k pops ≡ pops = take-all k pops (omega (arith, inv .same)) in
+      let b : take k order ≡ order = take-all k order h in
+      rw (a, b) at (inv .done)
+
+  writing-turn : k < length order → {v : ℕ} → v ≡ countAt starts (getD order k 0) → Writing starts order pops₀ (set pops k v) (k + 1)
+  writing-turn h {v} e = record {
+    done = rw (add-one, take-suc-set pops k v (omega (arith, inv .same)), take-suc order k 0 h, map-append (countAt starts) (take k order) (getD order k 0 ∷ []), inv .done, e);
+    seen = omega arith;
+    same = length-set pops k v ∙ inv .same;
+    long = length-set pops k v ∙ inv .long;
+  }
+
+abbrev Inv-loop : tie.InvT-loop
+Inv-loop starts order pops₀ k₀ pops k = Writing starts order pops₀ pops k
+
+abbrev μ-loop : tie.MeasureT-loop
+μ-loop starts order pops₀ k₀ pops k = length order - k
+
+loop-holds : tie.Need-loop-holds Inv-loop μ-loop
+loop-holds c = writing-start _ _ _ (c .before .before .before .pre .1)
+
+mul-count-at : tie.Need-mul-count-at Inv-loop μ-loop
+mul-count-at c = search needs
+
+shared-slice-read-count-at : tie.Need-shared-slice-read-count-at Inv-loop μ-loop
+shared-slice-read-count-at c = search needs
+
+cast-count-at : tie.Need-cast-count-at Inv-loop μ-loop
+cast-count-at c = omega (arith, c .shared-slice-known3 .given (c .before .before .loop .k))
+
+count-at-requires : tie.Need-count-at-requires Inv-loop μ-loop
+count-at-requires c κs = let h = c .before .before .before .before .before .before .pre .0 (c .before .before .loop .k) (omega (arith, c .before .loop-test .taken)) in (h .0, h .1)
+
+cast-pops : tie.Need-cast-pops Inv-loop μ-loop
+cast-pops c = let h = c .before .before .before .before .before .before .before .pre .0 (c .before .before .before .loop .k) (omega (arith, c .before .before .loop-test .taken)) in omega (arith, c .count-at .ensures)
+
+mul-pops : tie.Need-mul-pops Inv-loop μ-loop
+mul-pops c = search needs
+
+slice-write-pops : tie.Need-slice-write-pops Inv-loop μ-loop
+slice-write-pops c = search needs
+
+add-k : tie.Need-add-k Inv-loop μ-loop
+add-k c = search needs
+
+loop-less : tie.Need-loop-less Inv-loop μ-loop
+loop-less c = search needs
+
+loop-again : tie.Need-loop-again Inv-loop μ-loop
+loop-again c = writing-turn (c .before .before .before .loop .inv) (omega (arith, c .before .before .loop-test .taken)) (c .count-at .ensures)
+
+same-length : tie.Need-same-length Inv-loop μ-loop
+same-length c = search needs
+
+returns : tie.Need-returns Inv-loop μ-loop
+returns c = writing-stop (c .before .loop .inv) (omega (arith, c .loop-test .left))
+
+pub count-pops-spec : {M : Type 1} → statement M
+count-pops-spec =
+    tie.close
+    (tie.spec
+    Inv-loop
+    μ-loop
+    loop-holds
+    mul-count-at
+    shared-slice-read-count-at
+    cast-count-at
+    count-at-requires
+    cast-pops
+    mul-pops
+    slice-write-pops
+    add-k
+    loop-less
+    loop-again
+    same-length
+    returns)

@@ -1,0 +1,36 @@
+-- The steps of an order with their pops in two slices: what the pass for the peak is given.
+-- Assumes nothing.
+-- the rows of the column of step s, the steps counted from 1
+use Prim.Native.Nat.{ℕ, suc, _+_, _^_, _<_, _≤_}
+use mathlib.Core.Path.{_≡_}
+use mathlib.Core.List.{List, []}
+use lib.ListN.{length, getD}
+use Rattle.papers.specs.Bounds.{maxColumns}
+use Rattle.papers.specs.Lists.{upTo}
+use Rattle.papers.specs.Order.{columnAt}
+use Rattle.order_laws.specs.Held.{heldAfterAll}
+use Rattle.room.specs.Rows.{rowsIn, Column}
+
+abbrev pub rowsAt : List ℕ → List ℕ → ℕ → ℕ
+rowsAt factor order s = rowsIn factor (columnAt order s)
+
+-- the pops of step s
+abbrev pub popsAt : List ℕ → ℕ → ℕ
+popsAt pops s = columnAt pops s
+
+-- the entries of each update held after the first s steps, the top one first
+abbrev pub heldAt : List ℕ → List ℕ → List ℕ → ℕ → List ℕ
+heldAt factor order pops s = heldAfterAll (rowsAt factor order) (popsAt pops) [] (upTo s)
+
+-- steps of known columns, none of which takes off more updates than are held
+pub record Stepped (factor order pops : List ℕ) : Type 0 where
+  pub column : (k : ℕ) → k < length order → Column factor (getD order k 0)
+  pub enough : (k : ℕ) → k < length order → popsAt pops (suc k) ≤ length (heldAt factor order pops k)
+  pub same : length pops ≡ length order
+  pub few : length order ≤ maxColumns
+
+-- steps whose children's lists are known by their starts
+abbrev pub Counted : List ℕ → List ℕ → Type 0
+Counted starts order =
+    (k : ℕ) → k < length order
+    → (getD order k 0 + 1 < length starts) × (getD starts (getD order k 0) 0 ≤ getD starts (getD order k 0 + 1) 0) × (getD starts (getD order k 0 + 1) 0 < 2 ^ 32)

@@ -1,0 +1,47 @@
+-- What passes the check runs: its bytes are those of a sound plan, the checked slices hold that plan, and the parts handed on are its own lists.
+-- Assumes nothing.
+use Prim.Native.Nat.{ℕ, _<_, _≤_}
+use mathlib.Core.Path.{_≡_, ap}
+use mathlib.Core.List.{List}
+use native.Mathlib.Omega.{arith}
+use lib.ListN.{length, getD}
+use Rattle.papers.specs.Job.{Job}
+use Rattle.papers.specs.Plan.{Plan, planOf}
+use Rattle.papers.specs.Refusals.{passed, first, jobTests, Outcome, Lent}
+use Rattle.papers.specs.Analysis.{holdingPlan, PlanLent, planWritten}
+use Rattle.papers.specs.Check.{checked}
+use Rattle.papers.specs.Sound.{Sound}
+use Rattle.plan_laws.proofs.Sounds.{sound-fits, planned-sound}
+use Rattle.plan_laws.proofs.Checked.{check-holds, check-passes-iff}
+use Rattle.plan_laws.proofs.Written.{written-valid, written-within, written-holds}
+use Rattle.run_laws.specs.Runs.{RunsInPeak, CheckedRun}
+use Rattle.run_laws.proofs.SoundRuns.{sound-plan-runs, less-room-refused}
+use Rattle.run_laws.proofs.HandedOn.{handed-on}
+
+module _ (job : Job) (stack : List ℕ) (long : job .n ≤ length stack) where
+  -- slices that hold a sound plan of a valid job
+  held-plan-runs : (plan : Plan) (lent : Lent) → first jobTests job ≡ passed → Sound job plan → RunsInPeak job (holdingPlan job plan lent) (plan .peak) stack
+  held-plan-runs plan lent valid sound =
+      let fit = sound-fits job valid plan sound in
+      record {
+        runs = rw (handed-on job plan lent (plan .peak) stack fit) (sound-plan-runs job plan valid sound (plan .peak) stack long (omega arith));
+        less = λ room h. rw (handed-on job plan lent room stack fit) (less-room-refused job plan valid sound room stack long h);
+      }
+
+  -- any plan bytes that the check passes for a job run on the checked lists, with the declared peak as room, and with no less
+  pub checked-plan-runs : (bytes : List ℕ) → ((i : ℕ) → getD bytes i 0 < 256) → (lent : Lent) → checked job bytes lent .answer .number ≡ 0 → CheckedRun job bytes lent stack
+  checked-plan-runs bytes are-bytes lent done =
+      let (plan, p) = check-passes-iff job bytes lent are-bytes .0 done in
+      let holds = check-holds job bytes lent plan p in
+      record {
+        plan = plan;
+        declared = p .whole;
+        counted = ap (λ (o : Outcome Lent). o .answer) holds;
+        in-peak = rw holds (held-plan-runs plan lent (p .valid) (p .sound));
+      }
+
+  -- the lists of a plan that was written run as well
+  pub written-plan-runs : (slices : PlanLent) → planWritten job slices .answer .number ≡ 0 → RunsInPeak job (planWritten job slices .lent .lent) (planOf job .peak) stack
+  written-plan-runs slices done =
+      let valid = written-valid job slices done in
+      rw (written-holds job slices done) (held-plan-runs (planOf job) (slices .lent) valid (planned-sound job valid (written-within job slices done)))

@@ -1,0 +1,88 @@
+-- What is proved of the run of a plan that passed the check.
+-- Assumes nothing.
+use Prim.Native.Nat.{ℕ, _-_, _<_, _≤_, max}
+use mathlib.Core.Path.{_≡_}
+use mathlib.Core.Logic.{_⊎_, _↔_, _≢_}
+use mathlib.Core.List.{List, [], _∷_, map}
+use lib.ListN.{length, take, drop}
+use Rattle.papers.specs.Lists.{_∈_, Distinct, flat, startsFrom, zeros}
+use Rattle.papers.specs.Job.{Job, Pattern, pattern}
+use Rattle.papers.specs.Tree.{t, parent}
+use Rattle.papers.specs.Room.{roomAt}
+use Rattle.papers.specs.Order.{Ordered}
+use Rattle.papers.specs.Plan.{Plan, columnsIn, popsIn, planBytes}
+use Rattle.papers.specs.Refusals.{answer, Lent}
+use Rattle.papers.specs.Check.{checked}
+use Rattle.papers.specs.Run.{RunCall, rowsIn, popsAt, roomIn, stateAfter, ran}
+use Rattle.papers.specs.Sound.{handedOn}
+use Rattle.papers.specs.Conditions.{stepColumn, heldAt}
+
+-- the run of a plan's own lists
+abbrev pub planRun : ℕ → Plan → ℕ → List ℕ → RunCall
+planRun n plan room stack =
+    record { n = n; starts = startsFrom 0 (plan .lists); rows = flat (plan .lists); columns = columnsIn (plan .steps); pops = popsIn (plan .steps); room = room; stack = stack }
+
+-- s is a step of the run
+abbrev pub IsStep : RunCall → ℕ → Type 0
+IsStep call s = (1 ≤ s) × (s ≤ call .n)
+
+-- the columns whose updates step s pops
+abbrev pub poppedAt : RunCall → ℕ → List ℕ
+poppedAt call s = take (popsAt call s) (heldAt call s)
+
+-- the front of step s
+abbrev pub frontAt : RunCall → ℕ → List ℕ
+frontAt call s = stepColumn call s ∷ rowsIn call (stepColumn call s)
+
+-- room in use at step s
+abbrev pub roomUsed : RunCall → ℕ → ℕ
+roomUsed call s = roomIn call s (stateAfter call (s - 1))
+
+-- Step s of a run, whatever lists it is given, makes of the state before it what the rules say.
+pub record StepRule (call : RunCall) (s : ℕ) : Type 0 where
+  -- its pops are off; a root, of no rows, leaves nothing, any other column its update
+  pub root : rowsIn call (stepColumn call s) ≡ [] → stateAfter call s .held ≡ drop (popsAt call s) (heldAt call s)
+  pub update : rowsIn call (stepColumn call s) ≢ [] → stateAfter call s .held ≡ stepColumn call s ∷ drop (popsAt call s) (heldAt call s)
+  -- room in use counts the entries of each update held before the step, the top one first
+  pub room : roomUsed call s ≡ roomAt (popsAt call s) (length (rowsIn call (stepColumn call s))) (map (λ c. t (length (rowsIn call c))) (heldAt call s))
+  pub greatest : stateAfter call s .greatest ≡ max (stateAfter call (s - 1) .greatest) (roomUsed call s)
+
+-- A run for the pattern A with a declared peak goes as the paper wants.
+pub record Runs (A : Pattern) (peak : ℕ) (call : RunCall) : Type 0 where
+  -- each column has its step, each subtree its consecutive steps
+  pub steps : Ordered (parent A) (call .n) (call .columns)
+  -- each step pops the updates of its column's children, and no others; each once
+  pub popped : (s : ℕ) → IsStep call s → (x : ℕ) → (x ∈ poppedAt call s) ↔ (parent A x ≡ stepColumn call s)
+  pub once : (s : ℕ) → IsStep call s → Distinct (poppedAt call s)
+  -- every pattern row, and every popped row, has a place in the front
+  pub pattern-placed : (s : ℕ) → IsStep call s → (i : ℕ) → i ∈ A (stepColumn call s) → i ∈ frontAt call s
+  pub popped-placed : (s : ℕ) → IsStep call s → (x i : ℕ) → x ∈ poppedAt call s → i ∈ rowsIn call x → i ∈ frontAt call s
+  -- apart from the column itself the front holds nothing else
+  pub nothing-else : (s : ℕ) → IsStep call s → (i : ℕ) → i ∈ frontAt call s → i ≢ stepColumn call s
+      → (i ∈ A (stepColumn call s)) ⊎ ((x : ℕ) × (x ∈ poppedAt call s) × (i ∈ rowsIn call x))
+  -- room in use never passes the peak, and some step reaches it if there is a step
+  pub room : (s : ℕ) → IsStep call s → roomUsed call s ≤ peak
+  pub reached : 0 < call .n → (s : ℕ) × IsStep call s × (roomUsed call s ≡ peak)
+  -- the stack ends empty
+  pub empty : stateAfter call (call .n) .held ≡ []
+  -- all steps are done, with no refusal
+  pub completes : ran call ≡ record { answer = answer 0 0 peak; lent = zeros (call .stack) }
+
+-- A run is refused with 23 at a step that needs more room than there is.
+pub record LacksRoom (call : RunCall) : Type 0 where
+  pub step : ℕ
+  pub is : IsStep call step
+  pub over : call .room < roomUsed call step
+  pub refused : ran call ≡ record { answer = answer 23 step (stateAfter call (step - 1) .greatest); lent = zeros (call .stack) }
+
+-- Lists in lent slices, handed on with a declared peak as room, run; with any less room they are refused.
+pub record RunsInPeak (job : Job) (lent : Lent) (peak : ℕ) (stack : List ℕ) : Type 0 where
+  pub runs : Runs (pattern job) peak (handedOn (job .n) lent peak stack)
+  pub less : (room : ℕ) → room < peak → LacksRoom (handedOn (job .n) lent room stack)
+
+-- Plan bytes that passed the check: the plan that they are, and the run of the checked lists with its declared peak as room.
+pub record CheckedRun (job : Job) (bytes : List ℕ) (lent : Lent) (stack : List ℕ) : Type 0 where
+  pub plan : Plan
+  pub declared : bytes ≡ planBytes job plan
+  pub counted : checked job bytes lent .answer ≡ answer 0 0 (plan .peak)
+  pub in-peak : RunsInPeak job (checked job bytes lent .lent) (plan .peak) stack

@@ -1,0 +1,65 @@
+-- The record has the entries held; the top update, read from the list, is one of them, so nothing goes below 0.
+-- Assumes nothing.
+use Prim.Native.Nat.{_-_}
+use native.Mathlib.Omega.{arith}
+use borrow.Author.Needs.{needs}
+use Rattle.run_step.proofs.Uses.{top-within, front-fits, room-fits, room-above, room-on-top}
+use Rattle.run_step.proofs.room_in_use.Statement.{statement}
+use Rattle.run_step.proofs.room_in_use.Tie as tie
+
+rows-of-requires : tie.Need-rows-of-requires
+rows-of-requires c κs = search needs
+
+add-triangle : tie.Need-add-triangle
+add-triangle c = search needs
+
+triangle-requires : tie.Need-triangle-requires
+triangle-requires c κs = front-fits (c .before .before .before .before .pre .0) (c .before .before .before .before .pre .1 .0) (c .before .before .before .before .pre .1 .1 .1) (c .rows-of .ensures)
+
+add-result : tie.Need-add-result
+add-result c = omega (arith, room-fits (c .before .before .before .before .before .before .before .pre .0) (c .before .before .before .before .before .before .before .pre .1 .0) (c .before .before .before .before .before .before .before .pre .1 .1 .1) (c .before .before .before .rows-of .ensures) (c .before .before .triangle .ensures))
+
+returns : tie.Need-returns
+returns c = room-above (c .before .before .before .before .before .before .before .pre .0) (c .before .before .before .before .before .before .before .pre .1 .0) (c .before .before .before .before .before .before .before .pre .1 .1 .1) (c .before .before .before .rows-of .ensures) (c .before .before .triangle .ensures) (c .before .if1 .taken)
+
+sub-entries-of : tie.Need-sub-entries-of
+sub-entries-of c = search needs
+
+mul-entries-of : tie.Need-mul-entries-of
+mul-entries-of c = search needs
+
+shared-slice-read-entries-of : tie.Need-shared-slice-read-entries-of
+shared-slice-read-entries-of c = search needs
+
+cast-entries-of : tie.Need-cast-entries-of
+cast-entries-of c = omega (arith, c .shared-slice-known4 .given (c .before .before .before .before .before .before .before .args .held .count - 1))
+
+entries-of-requires : tie.Need-entries-of-requires
+entries-of-requires c κs = (c .before .before .before .before .before .before .before .pre .0, c .before .before .before .before .before .before .before .pre .1 .0 .columns (c .before .before .before .before .before .before .before .args .held .count - 1) (omega arith))
+
+sub-result : tie.Need-sub-result
+sub-result c = top-within (c .before .before .before .before .before .before .before .before .before .pre .0) (c .before .before .before .before .before .before .before .before .before .pre .1 .0) (omega arith) (c .before .entries-of .ensures)
+
+add-result-2 : tie.Need-add-result-2
+add-result-2 c = omega (arith, room-fits (c .before .before .before .before .before .before .before .before .before .pre .0) (c .before .before .before .before .before .before .before .before .before .pre .1 .0) (c .before .before .before .before .before .before .before .before .before .pre .1 .1 .1) (c .before .before .before .before .before .rows-of .ensures) (c .before .before .before .before .triangle .ensures))
+
+returns-2 : tie.Need-returns-2
+returns-2 c = room-on-top (c .before .before .before .before .before .before .before .before .before .pre .0) (c .before .before .before .before .before .before .before .before .before .pre .1 .0) (c .before .before .before .before .before .before .before .before .before .pre .1 .1 .1) (c .before .before .before .before .before .rows-of .ensures) (c .before .before .before .before .triangle .ensures) (omega arith) (c .before .before .before .before .before .before .before .before .before .pre .1 .1 .0) (c .before .entries-of .ensures)
+
+pub room-in-use-spec : {M : Type 1} → statement M
+room-in-use-spec =
+    tie.close
+    (tie.spec
+    rows-of-requires
+    add-triangle
+    triangle-requires
+    add-result
+    returns
+    sub-entries-of
+    mul-entries-of
+    shared-slice-read-entries-of
+    cast-entries-of
+    entries-of-requires
+    sub-result
+    add-result-2
+    returns-2)

@@ -1,0 +1,44 @@
+-- How the lent stack list and the record hold the state of a run.
+-- Assumes nothing.
+use Prim.Native.Nat.{ℕ, zero, suc, _<_, _≤_}
+use mathlib.Core.Path.{_≡_}
+use mathlib.Core.List.{List, [], _∷_}
+use lib.ListN.{length, getD}
+use Rattle.papers.specs.Lists.{sum}
+use Rattle.papers.specs.Run.{RunCall, State, entries}
+use Rattle.held.specs.declared.Held.{Held}
+use Rattle.front.specs.Factor.{Factor, Column}
+
+-- the columns held, the top one first: the stack list has them bottom first
+unfoldable pub heldIn : ℕ → List ℕ → List ℕ
+heldIn zero stack = []
+heldIn (suc k) stack = getD stack k 0 ∷ heldIn k stack
+
+-- a run's call
+abbrev pub callOf : ℕ → List ℕ → List ℕ → List ℕ → List ℕ → ℕ → List ℕ → RunCall
+callOf n starts rows columns pops room stack =
+    record { n = n; starts = starts; rows = rows; columns = columns; pops = pops; room = room; stack = stack }
+
+-- what speaks of a factor alone takes a call without steps
+abbrev pub factorOf : ℕ → List ℕ → List ℕ → RunCall
+factorOf n starts rows = callOf n starts rows [] [] 0 []
+
+-- the state that the record and the stack list hold
+abbrev pub stateOf : Held → List ℕ → State
+stateOf held stack = record { held = heldIn (held .count) stack; greatest = held .greatest }
+
+-- the stack list holds columns of 1 to n, at most n of them, and the record has the entries of their updates
+pub record Kept (n : ℕ) (starts rows stack : List ℕ) (held : Held) : Type 0 where
+  pub few : held .count ≤ n
+  pub listed : n ≤ length stack
+  pub columns : (i : ℕ) → i < held .count → Column n (getD stack i 0)
+  pub entries-are : held .entries ≡ sum (entries (factorOf n starts rows) (heldIn (held .count) stack))
+
+-- the step behind `done` steps can be taken: it is listed, its column is one, it pops no more than is held, and there is a place for its update
+pub record Ready (n : ℕ) (starts rows columns pops stack : List ℕ) (held : Held) (done : ℕ) : Type 0 where
+  pub factor : Factor n starts rows
+  pub kept : Kept n starts rows stack held
+  pub listed : (done < length columns) × (done < length pops)
+  pub column : Column n (getD columns done 0)
+  pub enough : getD pops done 0 ≤ held .count
+  pub free : held .count < n

@@ -1,0 +1,73 @@
+-- The loop's invariant: after `done` steps without fault the stack list and the record hold the state after them. The measure is how many steps are left.
+-- Assumes nothing.
+use Prim.Native.Nat.{_-_}
+use native.Mathlib.Omega.{arith}
+use borrow.Author.Needs.{needs}
+use Rattle.stack_run.proofs.Running.{Running, running-start, ready, running-next, answers-fault, answers-left, answers-done}
+use Rattle.stack_run.proofs.steps.Statement.{statement}
+use Rattle.stack_run.proofs.steps.Tie as tie
+
+abbrev Inv-loop : tie.InvT-loop
+Inv-loop n starts rows columns pops room stack₀ held₀ done₀ stack held done = Running n starts rows columns pops room stack₀ stack held done
+
+abbrev μ-loop : tie.MeasureT-loop
+μ-loop n starts rows columns pops room stack₀ held₀ done₀ stack held done = n - done
+
+loop-holds : tie.Need-loop-holds Inv-loop μ-loop
+loop-holds c = running-start _ _ _ _ _ _ _ (c .before .before .before .before .before .pre .1 .1 .1)
+
+step-fault-requires : tie.Need-step-fault-requires Inv-loop μ-loop
+step-fault-requires c κs = let few = c .before .before .loop .inv .within in (c .before .before .before .before .before .before .before .before .pre .0, (c .before .before .loop .inv .kept, (omega arith, omega arith)))
+
+add-t14 : tie.Need-add-t14 Inv-loop μ-loop
+add-t14 c = search needs
+
+same-length : tie.Need-same-length Inv-loop μ-loop
+same-length c = c .before .before .before .before .loop .inv .long
+
+returns : tie.Need-returns Inv-loop μ-loop
+returns c = answers-fault _ _ _ _ _ _ _ (c .before .before .before .before .loop .inv) (c .before .before .before .loop-test .taken) (c .before .step-fault .ensures) (c .if1 .taken)
+
+take-step-requires : tie.Need-take-step-requires Inv-loop μ-loop
+take-step-requires c κs = ready _ _ _ _ _ _ _ (c .before .before .before .before .before .loop .inv) (c .before .before .before .before .loop-test .taken) (c .before .before .step-fault .ensures) (c .before .before .before .before .before .before .before .before .before .before .before .pre .0) (c .before .before .before .before .before .before .before .before .before .before .before .pre .1 .0) (c .before .before .before .before .before .before .before .before .before .before .before .pre .1 .1 .0) (c .before .if1 .left)
+
+add-done : tie.Need-add-done Inv-loop μ-loop
+add-done c = search needs
+
+loop-less : tie.Need-loop-less Inv-loop μ-loop
+loop-less c = search needs
+
+loop-again : tie.Need-loop-again Inv-loop μ-loop
+loop-again c = running-next _ _ _ _ _ _ _ (c .before .before .before .before .before .before .before .before .loop .inv) (c .before .before .before .before .before .before .before .loop-test .taken) (c .before .before .before .before .before .step-fault .ensures) (c .before .before .before .before .if1 .left) (c .before .before .take-step .kept .1 .1 .1 .1 .1 .0) (c .before .before .take-step .ensures)
+
+same-length-2 : tie.Need-same-length-2 Inv-loop μ-loop
+same-length-2 c = c .before .before .before .loop .inv .long
+
+returns-2 : tie.Need-returns-2 Inv-loop μ-loop
+returns-2 c = answers-left _ _ _ _ _ _ _ (c .before .before .before .loop .inv) (c .before .before .loop-test .left) (c .if2 .taken)
+
+same-length-3 : tie.Need-same-length-3 Inv-loop μ-loop
+same-length-3 c = c .before .before .before .loop .inv .long
+
+returns-3 : tie.Need-returns-3 Inv-loop μ-loop
+returns-3 c = answers-done _ _ _ _ _ _ _ (c .before .before .before .loop .inv) (c .before .before .loop-test .left) (c .if2 .left)
+
+pub steps-spec : {M : Type 1} → statement M
+steps-spec =
+    tie.close
+    (tie.spec
+    Inv-loop
+    μ-loop
+    loop-holds
+    step-fault-requires
+    add-t14
+    same-length
+    returns
+    take-step-requires
+    add-done
+    loop-less
+    loop-again
+    same-length-2
+    returns-2
+    same-length-3
+    returns-3)

@@ -1,0 +1,17 @@
+-- The three lengths in turn.
+-- Assumes nothing.
+use Rattle.stack_run.proofs.Outcomes.{columns-short, pops-short, stack-short}
+use Rattle.stack_run.proofs.too_short.Statement.{statement}
+use Rattle.stack_run.proofs.too_short.Tie as tie
+
+returns : tie.Need-returns
+returns c = let a = c .before .args in columns-short (a .n) (a .columns .now) (a .pops .now) (a .stack .now) (c .if1 .taken)
+
+returns-2 : tie.Need-returns-2
+returns-2 c = let a = c .before .before .args in pops-short (a .n) (a .columns .now) (a .pops .now) (a .stack .now) (c .before .if1 .left) (c .if2 .taken)
+
+returns-3 : tie.Need-returns-3
+returns-3 c = let a = c .before .before .args in stack-short (a .n) (a .columns .now) (a .pops .now) (a .stack .now) (c .before .if1 .left) (c .if2 .left)
+
+pub too-short-spec : {M : Type 1} → statement M
+too-short-spec = tie.close (tie.spec returns returns-2 returns-3)

@@ -1,0 +1,178 @@
+-- The loop over the columns: after m of them the slices hold their parents, starts and lists, and the next can be gathered and stored.
+-- Assumes nothing.
+use Prim.Native.Nat.{ℕ, zero, suc, _+_, _-_, _<_, _≤_}
+use mathlib.Core.Path.{_≡_, refl, sym, ap, _∙_}
+use mathlib.Core.List.{List, [], _∷_, _++_, map}
+use native.Mathlib.Omega.{arith}
+use native.Mathlib.Numerals.{add-one}
+use lib.ListN.{length, getD, set, length-set, length-map, length-replicate}
+use lib.Seq.{sets, length-sets, getD-set-same, set-set}
+use Rattle.papers.specs.Lists.{head0, upTo, flat, startsFrom, zeros}
+use Rattle.papers.specs.Job.{Pattern, Below}
+use Rattle.papers.specs.Key.{listsOf}
+use Rattle.papers.specs.Fill.{R}
+use Rattle.papers.specs.Tree.{parent}
+use Rattle.list_laws.proofs.Ascending.{asc-length}
+use Rattle.list_laws.proofs.UpTo.{length-upTo}
+use Rattle.list_laws.proofs.Stores.{sets-append, length-starts}
+use Rattle.fill_laws.proofs.Fill.{R-asc, R-range}
+use Rattle.column_laws.proofs.Families.{map-upTo, flat-more, length-more, starts-next, length-lists}
+use Rattle.child_lists.specs.Buffers.{held}
+use Rattle.structure.specs.Hung.{hung}
+use Rattle.structure.specs.Stored.{rowsTo, Stored, Next, Gathers, Storable, Stores, Lengths, Listed}
+use Rattle.structure.proofs.Hanging.{hung-none}
+use Rattle.structure.proofs.Storing.{parent-is, lacks, storable, stored-on}
+
+-- m columns are done; s₀ has 0 as its first start
+pub record Running (n : ℕ) (A : Pattern) (p₀ s₀ f₀ w₀ x₀ y₀ p s f w x y : List ℕ) (m : ℕ) : Type 0 where
+  pub most : m ≤ n
+  pub stored : Stored n m A s f w
+  pub parents-are : p ≡ sets p₀ 0 (map (parent A) (upTo m))
+  pub starts-are : s ≡ sets s₀ 0 (startsFrom 0 (listsOf m (R A)))
+  pub rows-are : f ≡ sets f₀ 0 (rowsTo A m)
+  pub room-p : n ≤ length p₀
+  pub room-x : n ≤ length x₀
+  pub room-y : n ≤ length y₀
+  pub long-w : length w ≡ length w₀
+  pub long-x : length x ≡ length x₀
+  pub long-y : length y ≡ length y₀
+
+none-listed : (A : Pattern) → listsOf 0 (R A) ≡ []
+unfolding listsOf upTo
+none-listed A = refl
+
+zero-at : (l : List ℕ) (p : ℕ) → getD (zeros l) p 0 ≡ 0
+zero-at [] p = refl
+zero-at (x ∷ l) zero = refl
+zero-at (x ∷ l) (suc p) = zero-at l p
+
+pub run-begin : {n : ℕ} (A : Pattern) (p s f x y w w₁ : List ℕ) → Lengths n p s x y w → w₁ ≡ zeros w
+    → Running n A p (set s 0 0) f w₁ x y p (set s 0 0) f w₁ x y 0
+unfolding upTo startsFrom flat
+run-begin {n} A p s f x y w w₁ l e =
+    record {
+      most = omega arith;
+      stored = record {
+        rows-fit = rw (none-listed A) (omega arith);
+        rows-are = rw (none-listed A);
+        starts-long = rw length-set (l .starts-long);
+        starts-are = λ k h. first k (omega arith);
+        chains = λ j a b. rw (hung-none A j, e) (zero-at w j);
+        fresh = λ q h. rw e (omega (arith, zero-at w q));
+        work-long = rw (e, length-replicate) (l .work-long);
+      };
+      parents-are = refl;
+      starts-are = rw (none-listed A) (sym (set-set s 0 0 0));
+      rows-are = rw (none-listed A);
+      room-p = l .parents-long;
+      room-x = l .room-x;
+      room-y = l .room-y;
+      long-w = refl;
+      long-x = refl;
+      long-y = refl;
+    }
+  where
+    first : (k : ℕ) → k ≡ 0 → getD (set s 0 0) k 0 ≡ length (rowsTo A k)
+    first k z = rw (z, none-listed A) (getD-set-same s 0 0 0 (omega (arith, l .starts-long)))
+
+module _ {n m : ℕ} {A : Pattern} {p₀ s₀ f₀ w₀ x₀ y₀ p s f w x y : List ℕ} (good : Below n A) (r : Running n A p₀ s₀ f₀ w₀ x₀ y₀ p s f w x y m) where
+  pub long-p : length p ≡ length p₀
+  long-p = ap length (r .parents-are) ∙ length-sets p₀ 0 (map (parent A) (upTo m))
+
+  pub long-s : length s ≡ length s₀
+  long-s = ap length (r .starts-are) ∙ length-sets s₀ 0 (startsFrom 0 (listsOf m (R A)))
+
+  pub long-f : length f ≡ length f₀
+  long-f = ap length (r .rows-are) ∙ length-sets f₀ 0 (rowsTo A m)
+
+  pub run-next : m < n → Next n m A s f w x y
+  run-next l = record { column = l; stored = r .stored; room-x = rw (r .long-x) (r .room-x); room-y = rw (r .long-y) (r .room-y) }
+
+  pub run-end : (getD s m 0 ≤ length f) × (m < length s)
+  run-end = (omega (arith, r .stored .starts-are m (omega arith), r .stored .rows-fit), omega (arith, r .stored .starts-long, r .most))
+
+  first-start : (s₁ : List ℕ) (ls : List (List ℕ)) → sets (set s₁ 0 0) 0 (startsFrom 0 ls) ≡ sets s₁ 0 (startsFrom 0 ls)
+  unfolding startsFrom
+  first-start s₁ [] = set-set s₁ 0 0 0
+  first-start s₁ (l ∷ ls) = ap (λ t. sets t 1 (startsFrom (0 + length l) ls)) (set-set s₁ 0 0 0)
+
+  -- the lists of the columns done
+  listed : (s₁ : List ℕ) → s₀ ≡ set s₁ 0 0 → (m < n → length f < length (rowsTo A (suc m))) → Listed n m A p₀ s₁ f₀ p s f
+  listed s₁ e h =
+      record {
+        most = r .most;
+        lacks = λ l. rw long-f at (h l);
+        fits = rw long-f at (r .stored .rows-fit);
+        parents-are = r .parents-are;
+        starts-are = r .starts-are ∙ rw e (first-start s₁ (listsOf m (R A)));
+        rows-are = r .rows-are;
+      }
+
+  -- there is no room for the next list
+  pub run-short : (s₁ : List ℕ) {w₁ x₁ y₁ : List ℕ} {turn len : ℕ} → s₀ ≡ set s₁ 0 0 → m < n → Gathers n m A w w₁ x₁ y₁ turn len → length f - getD s m 0 < len → Listed n m A p₀ s₁ f₀ p s f
+  run-short s₁ e l g h = listed s₁ e (λ k. lacks good (r .stored) l (R A (m + 1)) refl (rw (← g .count) h))
+
+  -- all columns are done
+  pub run-all : (s₁ : List ℕ) → s₀ ≡ set s₁ 0 0 → n ≤ m → Listed n n A p₀ s₁ f₀ p s f
+  run-all s₁ e l = let z : m ≡ n = omega (arith, r .most) in rw z at (listed s₁ e (λ k. absurd (omega arith)))
+
+  -- ---- column m + 1
+
+  module _ (l : m < n) {w₁ x₁ y₁ : List ℕ} {turn len : ℕ} (g : Gathers n m A w w₁ x₁ y₁ turn len) (lw : length w₁ ≡ length w) (lx : length x₁ ≡ length x) (ly : length y₁ ≡ length y) where
+    pub run-held : (len ≤ length x₁) × (len ≤ length y₁)
+    run-held =
+        let k = asc-length n (m + 1) (R A (m + 1)) (R-asc good (m + 1)) (λ i t. R-range good (m + 1) i t .1) in
+        let c = g .count in
+        let a = r .long-x in
+        let b = r .long-y in
+        let u = r .room-x in
+        let v = r .room-y in
+        (omega arith, omega arith)
+
+    module _ (list : List ℕ) (q : list ≡ held turn len x₁ y₁) (h : len ≤ length f - getD s m 0) where
+      is : list ≡ R A (m + 1)
+      is = q ∙ g .list
+
+      room : length list ≤ length f - getD s m 0
+      room = rw (is, ← g .count) h
+
+      pub run-store : Storable n m list p s f w₁
+      run-store = storable good (r .stored) l list is room w₁ (g .changed) lw p (rw long-p (r .room-p))
+
+      pub run-on : {p₁ s₁ f₁ w₂ : List ℕ} → Stores n m list p s f w₁ p₁ s₁ f₁ w₂ → length w₂ ≡ length w₁
+          → Running n A p₀ s₀ f₀ w₀ x₀ y₀ p₁ s₁ f₁ w₂ x₁ y₁ (m + 1)
+      run-on {p₁} {s₁} {f₁} {w₂} k lv =
+          record {
+            most = omega arith;
+            stored = rw add-one on;
+            parents-are = rw (add-one, map-upTo (parent A) m, sets-append (map (parent A) (upTo m)) p₀ 0 (parent A (suc m) ∷ []), at-p, ← r .parents-are) (k .parents-are ∙ ap (set p m) head);
+            starts-are = rw (add-one, starts-next (R A) m, sets-append (startsFrom 0 (listsOf m (R A))) s₀ 0 (length (rowsTo A (suc m)) ∷ []), at-s, ← r .starts-are) (k .starts-are ∙ ap (set s (m + 1)) end);
+            rows-are = rw (add-one, flat-more (R A) m, sets-append (rowsTo A m) f₀ 0 (R A (suc m)), at-f, ← r .rows-are) (k .rows-are ∙ ap (sets f (getD s m 0)) (is ∙ next));
+            room-p = r .room-p;
+            room-x = r .room-x;
+            room-y = r .room-y;
+            long-w = lv ∙ lw ∙ r .long-w;
+            long-x = lx ∙ r .long-x;
+            long-y = ly ∙ r .long-y;
+          }
+        where
+          on : Stored n (suc m) A s₁ f₁ w₂
+          on = stored-on good (r .stored) l list is room w₁ (g .changed) lw k
+
+          next : R A (m + 1) ≡ R A (suc m)
+          next = rw add-one
+
+          head : head0 list ≡ parent A (suc m)
+          head = ap head0 (is ∙ next) ∙ parent-is A (suc m)
+
+          end : getD s m 0 + length list ≡ length (rowsTo A (suc m))
+          end = omega (arith, r .stored .starts-are m (omega arith), length-more (R A) m, ap length (is ∙ next))
+
+          at-p : 0 + length (map (parent A) (upTo m)) ≡ m
+          at-p = omega (arith, length-map (upTo m) (parent A), length-upTo m)
+
+          at-s : 0 + length (startsFrom 0 (listsOf m (R A))) ≡ m + 1
+          at-s = omega (arith, length-starts 0 (listsOf m (R A)), length-lists (R A) m)
+
+          at-f : 0 + length (rowsTo A m) ≡ getD s m 0
+          at-f = omega (arith, r .stored .starts-are m (omega arith))

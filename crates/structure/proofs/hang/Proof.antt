@@ -1,0 +1,54 @@
+-- `structure::hang` meets its contract: its two stores are those of the definition.
+-- Assumes nothing.
+use mathlib.Core.Path.{sym}
+use native.Mathlib.Omega.{arith}
+use lib.ListN.{length-set}
+use borrow.Author.Needs.{needs}
+use Rattle.structure.proofs.Hanging.{hanging-root, hanging-is}
+use Rattle.structure.proofs.hang.Statement.{statement}
+use Rattle.structure.proofs.hang.Tie as tie
+
+returns : tie.Need-returns
+returns c = rw (c .if1 .taken) (sym (hanging-root _ _ _))
+
+mul-work : tie.Need-mul-work
+mul-work c = search needs
+
+slice-read-work : tie.Need-slice-read-work
+slice-read-work c = search needs
+
+add-work : tie.Need-add-work
+add-work c = search needs
+
+mul-work-2 : tie.Need-mul-work-2
+mul-work-2 c = search needs
+
+slice-write-work : tie.Need-slice-write-work
+slice-write-work c = search needs
+
+mul-work-3 : tie.Need-mul-work-3
+mul-work-3 c = search needs
+
+slice-write-work-2 : tie.Need-slice-write-work-2
+slice-write-work-2 c = rw length-set (omega (arith, c .before .before .pre))
+
+same-length : tie.Need-same-length
+same-length c = search needs
+
+returns-2 : tie.Need-returns-2
+returns-2 c = sym (hanging-is _ _ _ _ (c .before .if1 .left))
+
+pub hang-spec : {M : Type 1} → statement M
+hang-spec =
+    tie.close
+    (tie.spec
+    returns
+    mul-work
+    slice-read-work
+    add-work
+    mul-work-2
+    slice-write-work
+    mul-work-3
+    slice-write-work-2
+    same-length
+    returns-2)

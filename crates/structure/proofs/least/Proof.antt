@@ -1,0 +1,18 @@
+-- `structure::least` meets its contract: the first row of a list, 0 of an empty one.
+-- Assumes nothing.
+use borrow.Author.Needs.{needs}
+use Rattle.structure.proofs.Storing.{least-none, least-some}
+use Rattle.structure.proofs.least.Statement.{statement}
+use Rattle.structure.proofs.least.Tie as tie
+
+returns : tie.Need-returns
+returns c = least-none _ (c .if1 .taken)
+
+shared-slice-read-result : tie.Need-shared-slice-read-result
+shared-slice-read-result c = search needs
+
+returns-2 : tie.Need-returns-2
+returns-2 c = least-some _ (c .before .if1 .left)
+
+pub least-spec : {M : Type 1} → statement M
+least-spec = tie.close (tie.spec returns shared-slice-read-result returns-2)

@@ -1,0 +1,7 @@
+pub mod Sums
+pub mod Slices
+pub mod Children
+pub mod Blocks
+pub mod Descendants
+pub mod Tallies
+pub mod Laying

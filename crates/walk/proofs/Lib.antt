@@ -1,0 +1,4 @@
+pub mod Levels
+pub mod Runs
+pub mod Down
+pub mod Held
