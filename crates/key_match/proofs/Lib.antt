@@ -1,0 +1,4 @@
+pub mod Bytes
+pub mod Answers
+pub mod Numbers
+pub mod Keys

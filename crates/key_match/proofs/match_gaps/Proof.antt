@@ -1,0 +1,79 @@
+-- The loop's invariant: the gaps of the rows before i are there, so those left are held against what follows at k. The measure is the rows left.
+-- Assumes nothing.
+use Prim.Native.Nat.{_-_}
+use native.Mathlib.Omega.{arith}
+use lib.Seq.{slice}
+use borrow.Author.Needs.{needs}
+use Rattle.papers.specs.Key.{gapsOf}
+use Rattle.key.proofs.Rows.{RowsLeft, rows-all, gaps-next, row-above, rows-next, gaps-none}
+use Rattle.key_match.proofs.Numbers.{Left, left-all, left-number, differs-number, left-none}
+use Rattle.key_match.proofs.match_gaps.Statement.{statement}
+use Rattle.key_match.proofs.match_gaps.Tie as tie
+
+abbrev Inv-loop : tie.InvT-loop
+Inv-loop plan at rows from to j k₀ before₀ i₀ k before i = RowsLeft rows to before i × Left (gapsOf j (slice from to rows)) plan at (gapsOf before (slice i to rows)) k
+
+abbrev μ-loop : tie.MeasureT-loop
+μ-loop plan at rows from to j k₀ before₀ i₀ k before i = to - i
+
+loop-holds : tie.Need-loop-holds Inv-loop μ-loop
+loop-holds c = (rows-all (c .before .before .pre .1), left-all (c .before .before .pre .0))
+
+mul-wide-row : tie.Need-mul-wide-row Inv-loop μ-loop
+mul-wide-row c = search needs
+
+shared-slice-read-wide-row : tie.Need-shared-slice-read-wide-row Inv-loop μ-loop
+shared-slice-read-wide-row c = let h = c .before .before .loop .inv .0 .inside in search needs
+
+wide-row-requires : tie.Need-wide-row-requires Inv-loop μ-loop
+wide-row-requires c κs = search needs
+
+sub-match-number : tie.Need-sub-match-number Inv-loop μ-loop
+sub-match-number c = let h = row-above (c .before .before .before .loop .inv .0) (c .before .before .loop-test .taken) (c .wide-row .ensures .0) in omega arith
+
+match-number-requires : tie.Need-match-number-requires Inv-loop μ-loop
+match-number-requires c κs = let h = c .wide-row .ensures .1 in (omega arith, c .before .before .before .loop .inv .1 .inside)
+
+enum-known-place : tie.Need-enum-known-place Inv-loop μ-loop
+enum-known-place c = search needs
+
+returns : tie.Need-returns Inv-loop μ-loop
+returns c = differs-number (c .before .before .before .before .before .before .before .loop .inv .1) (gaps-next (c .before .before .before .before .before .before .before .loop .inv .0) (c .before .before .before .before .before .before .loop-test .taken) (c .before .before .before .before .wide-row .ensures .0)) (c .before .before .before .match-number .ensures) (c .before .place .given .1)
+
+enum-known-next : tie.Need-enum-known-next Inv-loop μ-loop
+enum-known-next c = search needs
+
+add-i : tie.Need-add-i Inv-loop μ-loop
+add-i c = search needs
+
+loop-less : tie.Need-loop-less Inv-loop μ-loop
+loop-less c = search needs
+
+loop-again : tie.Need-loop-again Inv-loop μ-loop
+loop-again c = (
+  rows-next (c .before .before .before .before .before .before .before .loop .inv .0) (c .before .before .before .before .before .before .loop-test .taken) (c .before .before .before .before .wide-row .ensures .0),
+  left-number (c .before .before .before .before .before .before .before .loop .inv .1) (gaps-next (c .before .before .before .before .before .before .before .loop .inv .0) (c .before .before .before .before .before .before .loop-test .taken) (c .before .before .before .before .wide-row .ensures .0)) (c .before .before .before .match-number .ensures) (c .before .next .given .1),
+)
+
+returns-2 : tie.Need-returns-2 Inv-loop μ-loop
+returns-2 c = left-none (c .before .loop .inv .1) (gaps-none (c .before .loop .inv .0) (c .loop-test .left))
+
+pub match-gaps-spec : {M : Type 1} → statement M
+match-gaps-spec =
+    tie.close
+    (tie.spec
+    Inv-loop
+    μ-loop
+    loop-holds
+    mul-wide-row
+    shared-slice-read-wide-row
+    wide-row-requires
+    sub-match-number
+    match-number-requires
+    enum-known-place
+    returns
+    enum-known-next
+    add-i
+    loop-less
+    loop-again
+    returns-2)

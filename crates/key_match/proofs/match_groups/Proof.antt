@@ -1,0 +1,93 @@
+-- The loop's invariant: the first i bytes of the number are there, so what is left to find is what was to find. The measure is how many are left.
+-- Assumes nothing.
+use Prim.Native.Nat.{_-_, _<_}
+use mathlib.Core.Path.{sym, _∙_}
+use native.Mathlib.Omega.{arith}
+use lib.ListN.{length}
+use borrow.Author.Needs.{needs}
+use Rattle.papers.specs.Numbers.{bytesOf}
+use Rattle.bytes_laws.proofs.Numbers.{bytes-length}
+use Rattle.key_match.proofs.Bytes.{array-byte, Bytes, bytes-start, bytes-lack, bytes-other, bytes-turn, bytes-stop}
+use Rattle.key_match.proofs.match_groups.Statement.{statement}
+use Rattle.key_match.proofs.match_groups.Tie as tie
+
+abbrev Inv-loop : tie.InvT-loop
+Inv-loop plan at x bytes count i₀ i = Bytes (bytesOf x) plan at i
+
+abbrev μ-loop : tie.MeasureT-loop
+μ-loop plan at x bytes count i₀ i = count - i
+
+number-requires : tie.Need-number-requires Inv-loop μ-loop
+number-requires c κs = search needs
+
+loop-holds : tie.Need-loop-holds Inv-loop μ-loop
+loop-holds c = bytes-start _ _ _ (c .before .before .before .pre .1)
+
+add-place : tie.Need-add-place Inv-loop μ-loop
+add-place c = search needs
+
+add-place-2 : tie.Need-add-place-2 Inv-loop μ-loop
+add-place-2 c = search needs
+
+add-if1 : tie.Need-add-if1 Inv-loop μ-loop
+add-if1 c = search needs
+
+returns : tie.Need-returns Inv-loop μ-loop
+returns c = let n = c .before .before .before .before .number .ensures .1 in let h = c .before .loop-test .taken in bytes-lack (c .before .before .loop .inv) (omega arith) (c .if1 .taken)
+
+add-if2 : tie.Need-add-if2 Inv-loop μ-loop
+add-if2 c = search needs
+
+shared-slice-read-if2 : tie.Need-shared-slice-read-if2 Inv-loop μ-loop
+shared-slice-read-if2 c = search needs
+
+array-read-if2 : tie.Need-array-read-if2 Inv-loop μ-loop
+array-read-if2 c = let n = c .before .before .before .before .before .number .ensures .1 in let h = c .before .before .loop-test .taken in omega (arith, bytes-length (c .before .before .before .before .before .before .before .args .x))
+
+returns-2 : tie.Need-returns-2 Inv-loop μ-loop
+returns-2 c =
+    let n = c .before .before .before .before .before .before .number .ensures .1 in
+    let t = c .before .before .before .loop-test .taken in
+    let h : c .before .before .before .before .loop .i < length (bytesOf (c .before .before .before .before .before .before .before .before .args .x)) = omega arith in
+    bytes-other (c .before .before .before .before .loop .inv) h (c .before .before .if1 .left) (λ e. c .if2 .taken (e ∙ sym (array-byte _ _ (c .before .before .before .before .before .before .number .ensures .0) h)))
+
+add-i : tie.Need-add-i Inv-loop μ-loop
+add-i c = search needs
+
+loop-less : tie.Need-loop-less Inv-loop μ-loop
+loop-less c = search needs
+
+loop-again : tie.Need-loop-again Inv-loop μ-loop
+loop-again c =
+    let n = c .before .before .before .before .before .before .number .ensures .1 in
+    let t = c .before .before .before .loop-test .taken in
+    let h : c .before .before .before .before .loop .i < length (bytesOf (c .before .before .before .before .before .before .before .before .args .x)) = omega arith in
+    bytes-turn (c .before .before .before .before .loop .inv) h (c .before .before .if1 .left) (c .if2 .left ∙ array-byte _ _ (c .before .before .before .before .before .before .number .ensures .0) h)
+
+add-t18 : tie.Need-add-t18 Inv-loop μ-loop
+add-t18 c = search needs
+
+returns-3 : tie.Need-returns-3 Inv-loop μ-loop
+returns-3 c = let n = c .before .before .before .number .ensures .1 in let t = c .loop-test .left in bytes-stop (c .before .loop .inv) (omega arith)
+
+pub match-groups-spec : {M : Type 1} → statement M
+match-groups-spec =
+    tie.close
+    (tie.spec
+    Inv-loop
+    μ-loop
+    number-requires
+    loop-holds
+    add-place
+    add-place-2
+    add-if1
+    returns
+    add-if2
+    shared-slice-read-if2
+    array-read-if2
+    returns-2
+    add-i
+    loop-less
+    loop-again
+    add-t18
+    returns-3)

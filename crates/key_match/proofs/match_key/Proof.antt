@@ -1,0 +1,71 @@
+-- Edition and n, then mark and limit, then the lists: the first byte of these that is not there is the one that refusal 11 names.
+-- Assumes nothing.
+use native.Mathlib.Omega.{arith}
+use borrow.Author.Needs.{needs}
+use Rattle.papers.specs.Job.{jobOf}
+use Rattle.job_laws.proofs.Passed.{passes-iff, lists-iff}
+use Rattle.key.proofs.Written.{numbers-fit}
+use Rattle.key_match.proofs.Keys.{size-differs, behind-size, mark-differs, behind-mark, lists-found}
+use Rattle.key_match.proofs.match_key.Statement.{statement}
+use Rattle.key_match.proofs.match_key.Tie as tie
+
+match-two-requires : tie.Need-match-two-requires
+match-two-requires c κs =
+    let job = jobOf (c .before .before .before .args .head) (c .before .before .before .args .starts .now) (c .before .before .before .args .rows .now) in
+    let fit = numbers-fit job (passes-iff job .0 (c .before .before .before .pre)) in
+    (omega arith, fit .0, omega arith)
+
+enum-known-place : tie.Need-enum-known-place
+enum-known-place c = search needs
+
+returns : tie.Need-returns
+returns c =
+    let job = jobOf (c .before .before .before .before .before .before .before .args .head) (c .before .before .before .before .before .before .before .args .starts .now) (c .before .before .before .before .before .before .before .args .rows .now) in
+    size-differs job _ (c .before .before .before .match-two .ensures) (c .before .place .given .1)
+
+enum-known-middle : tie.Need-enum-known-middle
+enum-known-middle c = search needs
+
+match-two-requires-2 : tie.Need-match-two-requires-2
+match-two-requires-2 c κs =
+    let job = jobOf (c .before .before .before .before .before .before .before .args .head) (c .before .before .before .before .before .before .before .args .starts .now) (c .before .before .before .before .before .before .before .args .rows .now) in
+    let fit = numbers-fit job (passes-iff job .0 (c .before .before .before .before .before .before .before .pre)) in
+    (fit .1, fit .2, behind-size job _ (c .before .before .before .match-two .ensures) (c .before .middle .given .1) .inside)
+
+enum-known-place-2 : tie.Need-enum-known-place-2
+enum-known-place-2 c = search needs
+
+returns-2 : tie.Need-returns-2
+returns-2 c =
+    let job = jobOf (c .before .before .before .before .before .before .before .before .before .before .before .args .head) (c .before .before .before .before .before .before .before .before .before .before .before .args .starts .now) (c .before .before .before .before .before .before .before .before .before .before .before .args .rows .now) in
+    mark-differs job _ (c .before .before .before .before .before .before .before .match-two .ensures) (c .before .before .before .before .before .middle .given .1) (c .before .before .before .match-two2 .ensures) (c .before .place2 .given .1)
+
+enum-known-next : tie.Need-enum-known-next
+enum-known-next c = search needs
+
+match-lists-requires : tie.Need-match-lists-requires
+match-lists-requires c κs =
+    let job = jobOf (c .before .before .before .before .before .before .before .before .before .before .before .args .head) (c .before .before .before .before .before .before .before .before .before .before .before .args .starts .now) (c .before .before .before .before .before .before .before .before .before .before .before .args .rows .now) in
+    let passed = passes-iff job .0 (c .before .before .before .before .before .before .before .before .before .before .before .pre) in
+    let tests = lists-iff _ _ _ .1 (passed .lists) in
+    (behind-mark job _ (c .before .before .before .before .before .before .before .match-two .ensures) (c .before .before .before .before .before .middle .given .1) (c .before .before .before .match-two2 .ensures) (c .before .next .given .1) .inside, (passed .few, (tests .0, tests .1)))
+
+returns-3 : tie.Need-returns-3
+returns-3 c =
+    let job = jobOf (c .before .before .before .before .before .before .before .before .before .before .before .before .args .head) (c .before .before .before .before .before .before .before .before .before .before .before .before .args .starts .now) (c .before .before .before .before .before .before .before .before .before .before .before .before .args .rows .now) in
+    lists-found job _ (c .before .before .before .before .before .before .before .before .match-two .ensures) (c .before .before .before .before .before .before .middle .given .1) (c .before .before .before .before .match-two2 .ensures) (c .before .before .next .given .1) (c .match-lists .ensures)
+
+pub match-key-spec : {M : Type 1} → statement M
+match-key-spec =
+    tie.close
+    (tie.spec
+    match-two-requires
+    enum-known-place
+    returns
+    enum-known-middle
+    match-two-requires-2
+    enum-known-place-2
+    returns-2
+    enum-known-next
+    match-lists-requires
+    returns-3)

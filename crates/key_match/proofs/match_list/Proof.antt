@@ -1,0 +1,40 @@
+-- A list's numbers are its count and, behind it, its gaps.
+-- Assumes nothing.
+use borrow.Author.Needs.{needs}
+use Rattle.key.proofs.Rows.{list-is}
+use Rattle.key_match.proofs.Numbers.{left-all, left-number, differs-number, left-last}
+use Rattle.key_match.proofs.match_list.Statement.{statement}
+use Rattle.key_match.proofs.match_list.Tie as tie
+
+sub-match-number : tie.Need-sub-match-number
+sub-match-number c = search needs
+
+match-number-requires : tie.Need-match-number-requires
+match-number-requires c κs = search needs
+
+enum-known-place : tie.Need-enum-known-place
+enum-known-place c = search needs
+
+returns : tie.Need-returns
+returns c = differs-number (left-all (c .before .before .before .before .before .before .pre .0)) (list-is (c .before .before .before .before .before .before .pre .1)) (c .before .before .before .match-number .ensures) (c .before .place .given .1)
+
+enum-known-next : tie.Need-enum-known-next
+enum-known-next c = search needs
+
+match-gaps-requires : tie.Need-match-gaps-requires
+match-gaps-requires c κs = (left-number (left-all (c .before .before .before .before .before .before .pre .0)) (list-is (c .before .before .before .before .before .before .pre .1)) (c .before .before .before .match-number .ensures) (c .before .next .given .1) .inside, c .before .before .before .before .before .before .pre .1)
+
+returns-2 : tie.Need-returns-2
+returns-2 c = left-last (left-number (left-all (c .before .before .before .before .before .before .before .pre .0)) (list-is (c .before .before .before .before .before .before .before .pre .1)) (c .before .before .before .before .match-number .ensures) (c .before .before .next .given .1)) (c .match-gaps .ensures)
+
+pub match-list-spec : {M : Type 1} → statement M
+match-list-spec =
+    tie.close
+    (tie.spec
+    sub-match-number
+    match-number-requires
+    enum-known-place
+    returns
+    enum-known-next
+    match-gaps-requires
+    returns-2)

@@ -1,0 +1,94 @@
+-- The loop's invariant: the lists of the first `done` columns are there, so those left are held against what follows at k. The measure is the columns left.
+-- Assumes nothing.
+use Prim.Native.Nat.{ℕ, _-_, _≤_}
+use mathlib.Core.List.{List}
+use borrow.Author.Needs.{needs}
+use Rattle.papers.specs.Bounds.{maxColumns}
+use Rattle.papers.specs.Job.{columnOf}
+use Rattle.papers.specs.Key.{listsNumbers, listsOf}
+use Rattle.job_laws.proofs.Passed.{PassedLists, lists-iff}
+use Rattle.key.proofs.Columns.{numbersFrom, column-list, numbers-next, numbers-none}
+use Rattle.key_match.proofs.Numbers.{Left, left-all, left-numbers, differs-numbers, left-none}
+use Rattle.key_match.proofs.match_lists.Statement.{statement}
+use Rattle.key_match.proofs.match_lists.Tie as tie
+
+-- the lists of the first `done` columns are there, up to k
+record Columns (n : ℕ) (starts rows plan : List ℕ) (at k done : ℕ) : Type 0 where
+  few : n ≤ maxColumns
+  lists : PassedLists n starts rows
+  matched : Left (listsNumbers 1 (listsOf n (columnOf starts rows))) plan at (numbersFrom n starts rows done) k
+
+abbrev Inv-loop : tie.InvT-loop
+Inv-loop n starts rows plan at k₀ done₀ k done = Columns n starts rows plan at k done
+
+abbrev μ-loop : tie.MeasureT-loop
+μ-loop n starts rows plan at k₀ done₀ k done = n - done
+
+loop-holds : tie.Need-loop-holds Inv-loop μ-loop
+loop-holds c = record { few = c .before .before .before .pre .1 .0; lists = lists-iff _ _ _ .0 (c .before .before .before .pre .1 .1 .0, c .before .before .before .pre .1 .1 .1); matched = left-all (c .before .before .before .pre .0) }
+
+mul-match-list : tie.Need-mul-match-list Inv-loop μ-loop
+mul-match-list c = search needs
+
+shared-slice-read-match-list : tie.Need-shared-slice-read-match-list Inv-loop μ-loop
+shared-slice-read-match-list c = search needs
+
+add-match-list : tie.Need-add-match-list Inv-loop μ-loop
+add-match-list c = search needs
+
+mul-match-list-2 : tie.Need-mul-match-list-2 Inv-loop μ-loop
+mul-match-list-2 c = search needs
+
+shared-slice-read-match-list-2 : tie.Need-shared-slice-read-match-list-2 Inv-loop μ-loop
+shared-slice-read-match-list-2 c = search needs
+
+add-match-list-2 : tie.Need-add-match-list-2 Inv-loop μ-loop
+add-match-list-2 c = search needs
+
+match-list-requires : tie.Need-match-list-requires Inv-loop μ-loop
+match-list-requires c κs = (c .before .before .before .loop .inv .matched .inside, column-list (c .before .before .before .loop .inv .few) (c .before .before .before .loop .inv .lists) (c .before .before .loop-test .taken))
+
+enum-known-place : tie.Need-enum-known-place Inv-loop μ-loop
+enum-known-place c = search needs
+
+returns : tie.Need-returns Inv-loop μ-loop
+returns c = differs-numbers (c .before .before .before .before .before .before .before .loop .inv .matched) _ _ (numbers-next (c .before .before .before .before .before .before .before .loop .inv .few) (c .before .before .before .before .before .before .before .loop .inv .lists) (c .before .before .before .before .before .before .loop-test .taken)) (c .before .before .before .match-list .ensures) (c .before .place .given .1)
+
+enum-known-next : tie.Need-enum-known-next Inv-loop μ-loop
+enum-known-next c = search needs
+
+add-done : tie.Need-add-done Inv-loop μ-loop
+add-done c = search needs
+
+loop-less : tie.Need-loop-less Inv-loop μ-loop
+loop-less c = search needs
+
+loop-again : tie.Need-loop-again Inv-loop μ-loop
+loop-again c =
+    let l = c .before .before .before .before .before .before .before .loop .inv in
+    record { few = l .few; lists = l .lists; matched = left-numbers (l .matched) _ _ (numbers-next (l .few) (l .lists) (c .before .before .before .before .before .before .loop-test .taken)) (c .before .before .before .match-list .ensures) (c .before .next .given .1) }
+
+returns-2 : tie.Need-returns-2 Inv-loop μ-loop
+returns-2 c = left-none (c .before .loop .inv .matched) (numbers-none (c .before .loop .inv .few) (c .before .loop .inv .lists) (c .loop-test .left))
+
+pub match-lists-spec : {M : Type 1} → statement M
+match-lists-spec =
+    tie.close
+    (tie.spec
+    Inv-loop
+    μ-loop
+    loop-holds
+    mul-match-list
+    shared-slice-read-match-list
+    add-match-list
+    mul-match-list-2
+    shared-slice-read-match-list-2
+    add-match-list-2
+    match-list-requires
+    enum-known-place
+    returns
+    enum-known-next
+    add-done
+    loop-less
+    loop-again
+    returns-2)

@@ -1,0 +1,30 @@
+-- A number below 128 is one byte, which is there; anything else is left to the comparison of all its bytes.
+-- Assumes nothing.
+use mathlib.Core.Path.{sym, _∙_}
+use borrow.Author.Needs.{needs}
+use Rattle.key_match.proofs.Bytes.{one-byte}
+use Rattle.key_match.proofs.match_number.Statement.{statement}
+use Rattle.key_match.proofs.match_number.Tie as tie
+
+shared-slice-read-wide : tie.Need-shared-slice-read-wide
+shared-slice-read-wide c = search needs
+
+wide-requires : tie.Need-wide-requires
+wide-requires c κs = search needs
+
+add-t11 : tie.Need-add-t11
+add-t11 c = search needs
+
+returns : tie.Need-returns
+returns c = one-byte _ _ _ (c .before .before .before .if2 .taken) (c .before .before .before .before .if1 .taken) (sym (c .before .wide .ensures .0) ∙ c .if3 .taken)
+
+match-groups-requires : tie.Need-match-groups-requires
+match-groups-requires c κs = search needs
+
+returns-2 : tie.Need-returns-2
+returns-2 c = search needs
+
+pub match-number-spec : {M : Type 1} → statement M
+match-number-spec =
+    tie.close
+    (tie.spec shared-slice-read-wide wide-requires add-t11 returns match-groups-requires returns-2)

@@ -1,0 +1,106 @@
+-- The loop's invariant: i rows are read by i bytes and kept. Each turn reads one byte that is a gap in its range. The measure is how many may come.
+-- Assumes nothing.
+use Prim.Native.Nat.{_+_, _-_}
+use mathlib.Core.Path.{ap}
+use native.Mathlib.Omega.{arith}
+use lib.ListN.{set}
+use borrow.Author.Needs.{needs}
+use borrow.Author.Tests.{ltb-false}
+use Rattle.list_reader.specs.Reading.{RowsRead}
+use Rattle.list_reader.proofs.Rows.{rows-long, short-start, short-turn}
+use Rattle.list_reader.proofs.short_rows.Statement.{statement}
+use Rattle.list_reader.proofs.short_rows.Tie as tie
+
+abbrev Inv-loop : tie.InvT-loop
+Inv-loop plan at n b left t rows₀ most i₀ last₀ rows i last = RowsRead n plan b left at t rows₀ rows (at + i) last (left - i) (t + i)
+
+abbrev μ-loop : tie.MeasureT-loop
+μ-loop plan at n b left t rows₀ most i₀ last₀ rows i last = most - i
+
+sub-most-short : tie.Need-sub-most-short Inv-loop μ-loop
+sub-most-short c = search needs
+
+most-short-requires : tie.Need-most-short-requires Inv-loop μ-loop
+most-short-requires c κs = search needs
+
+loop-holds : tie.Need-loop-holds Inv-loop μ-loop
+loop-holds c = short-start _ _ _ _ _ _ _ (c .before .before .before .pre .0) (c .before .before .before .pre .2)
+
+add-wide : tie.Need-add-wide Inv-loop μ-loop
+add-wide c = search needs
+
+shared-slice-read-wide : tie.Need-shared-slice-read-wide Inv-loop μ-loop
+shared-slice-read-wide c = search needs
+
+wide-requires : tie.Need-wide-requires Inv-loop μ-loop
+wide-requires c κs = search needs
+
+sub-if3 : tie.Need-sub-if3 Inv-loop μ-loop
+sub-if3 c = search needs
+
+same-length : tie.Need-same-length Inv-loop μ-loop
+same-length c = rows-long (c .before .before .before .before .loop .inv)
+
+returns : tie.Need-returns Inv-loop μ-loop
+returns c = c .before .before .before .before .loop .inv
+
+add-last : tie.Need-add-last Inv-loop μ-loop
+add-last c = search needs
+
+narrow-requires : tie.Need-narrow-requires Inv-loop μ-loop
+narrow-requires c κs = search needs
+
+add-rows : tie.Need-add-rows Inv-loop μ-loop
+add-rows c = search needs
+
+mul-rows : tie.Need-mul-rows Inv-loop μ-loop
+mul-rows c = search needs
+
+slice-write-rows : tie.Need-slice-write-rows Inv-loop μ-loop
+slice-write-rows c = let e = rows-long (c .before .before .before .before .before .before .before .loop .inv) in omega arith
+
+add-i : tie.Need-add-i Inv-loop μ-loop
+add-i c = search needs
+
+loop-less : tie.Need-loop-less Inv-loop μ-loop
+loop-less c = search needs
+
+loop-again : tie.Need-loop-again Inv-loop μ-loop
+loop-again c =
+    let (few, there, room) = c .before .before .before .before .before .before .before .before .most-short .ensures in
+    let some = c .before .before .before .if1 .left in
+    let short = ltb-false 127 (c .before .before .before .before .wide .result) (c .before .before .if2 .left) in
+    let t = c .before .before .before .before .before .before .loop-test .taken in
+    short-turn (c .before .before .before .before .before .before .before .loop .inv) (omega arith) (omega arith) (c .before .before .before .before .wide .ensures .0) (omega arith) (omega arith) (ltb-false _ _ (c .before .if3 .left)) (ap (set (c .before .before .before .before .before .before .before .loop .rows) _) (c .narrow .ensures))
+
+same-length-2 : tie.Need-same-length-2 Inv-loop μ-loop
+same-length-2 c = rows-long (c .before .loop .inv)
+
+returns-2 : tie.Need-returns-2 Inv-loop μ-loop
+returns-2 c = c .before .loop .inv
+
+pub short-rows-spec : {M : Type 1} → statement M
+short-rows-spec =
+    tie.close
+    (tie.spec
+    Inv-loop
+    μ-loop
+    sub-most-short
+    most-short-requires
+    loop-holds
+    add-wide
+    shared-slice-read-wide
+    wide-requires
+    sub-if3
+    same-length
+    returns
+    add-last
+    narrow-requires
+    add-rows
+    mul-rows
+    slice-write-rows
+    add-i
+    loop-less
+    loop-again
+    same-length-2
+    returns-2)

@@ -1,0 +1,200 @@
+// A field, and the list of a column, read from any bytes.
+// Nothing of the bytes is believed before its range is tested, and a row that finds no room is counted all the same.
+ghost use mathlib.Core.Path.{_≡_};
+ghost use Prim.Native.Nat.{ℕ, _+_, _-_, _^_, _≤_, _<_};
+ghost use mathlib.Core.List.{List};
+ghost use lib.ListN.{length, set};
+ghost use Rattle.papers.specs.Bounds.{maxColumns};
+ghost use Rattle.papers.specs.Plan.{inField, field, readRows, readList};
+ghost use Rattle.papers.specs.declared.Number.the-variants.{Value};
+ghost use Rattle.list_reader.specs.Reading.{reading, Told, RowsRead, RowsIn};
+use papers::Number;
+
+// What reading a part of a plan answers: a number of that part and the place behind it; or a refusal's number and place.
+pub enum Reading {
+    Found { value: u64, next: usize },
+    Refused { number: u64, place: u64 },
+}
+
+// Rows read in one go: how many, and the last of them.
+pub struct ShortRows {
+    pub count: usize,
+    pub last: u64,
+}
+
+// A number of 32 bits.
+pub fn narrow(x: u64) -> u32
+    requires { ⌜ x < 2 ^ 32 ⌝ }
+    ensures { λ r. ⌜ r ≡ x ⌝ }
+{
+    x as u32
+}
+
+// A byte as a 64-bit number.
+fn wide(b: u8) -> u64
+    ensures { λ r. ⌜ (r ≡ b) × (r < 256) ⌝ }
+{
+    b as u64
+}
+
+// The value read at `at` up to next, in a field from low to high: 14 where it lies outside.
+fn in_range(at: usize, low: u64, high: u64, value: u64, next: usize) -> Reading
+    requires { ⌜ at + 1 < 2 ^ 64 ⌝ }
+    ensures { λ r. ⌜ r ≡ reading (inField low high at (Value value next)) ⌝ }
+{
+    if value < low || high < value {
+        return Reading::Refused {
+            number: 14,
+            place: at as u64 + 1,
+        };
+    }
+    Reading::Found { value, next }
+}
+
+// A field from low to high whose number starts at `at`. Most numbers have one group, which is read without the loop.
+pub fn read_field(plan: &[u8], at: usize, low: u64, high: u64) -> Reading
+    requires { ⌜ at ≤ length (now plan) ⌝ }
+    ensures { λ r. ⌜ r ≡ reading (field low high (now (plan .entry)) at) ⌝ }
+{
+    if at < plan.len() {
+        let b = wide(plan[at]);
+        if b < 128 {
+            return in_range(at, low, high, b, at + 1);
+        }
+    }
+    let place = at as u64 + 1;
+    match groups::get(plan, at) {
+        Number::Value { value, next } => {
+            return in_range(at, low, high, value, next);
+        }
+        Number::Ended => {
+            return Reading::Refused { number: 12, place };
+        }
+        Number::TooLong => {
+            return Reading::Refused { number: 13, place };
+        }
+        Number::NotShortest => {
+            return Reading::Refused { number: 13, place };
+        }
+    }
+}
+
+// Keeps a row at place i, if the slice has that place.
+fn keep_row(rows: &mut [u32], i: usize, row: u64)
+    requires { ⌜ row < 2 ^ 32 ⌝ }
+    ensures { λ _. ⌜ now (rows .exit) ≡ set (now (rows .entry)) i row ⌝ }
+{
+    if i < rows.len() {
+        rows[i] = narrow(row);
+    }
+}
+
+// The lesser of two.
+fn lesser(a: usize, b: usize) -> usize
+    ensures { λ r. ⌜ (r ≤ a) × (r ≤ b) ⌝ }
+{
+    if a < b {
+        return a;
+    }
+    b
+}
+
+// How many gaps of one byte can be read and kept without a look at the ends: those left, the bytes that follow, the room behind place t.
+fn most_short(left: usize, bytes: usize, t: usize, room: usize) -> usize
+    ensures { λ r. ⌜ (r ≤ left) × (r ≤ bytes) × (r ≤ room - t) ⌝ }
+{
+    if room <= t {
+        return 0;
+    }
+    lesser(left, lesser(bytes, room - t))
+}
+
+// The rows behind row b whose gaps have one group, up to the first that has more, or is out of its range, or finds no room: keeps them from place t on.
+// Most rows are read here. The first i of `left` are kept, `last` is the last of them, or b.
+fn short_rows(
+    plan: &[u8],
+    at: usize,
+    n: u64,
+    b: u64,
+    left: u64,
+    t: usize,
+    rows: &mut [u32],
+) -> ShortRows
+    requires { ⌜ (at ≤ length (now plan)) × (n ≤ maxColumns) × (b ≤ n) ⌝ }
+    ensures { λ r. ⌜ RowsRead n (now (plan .entry)) b left at t (now (rows .entry)) (now (rows .exit)) (at + r .count) (r .last) (left - r .count) (t + r .count) ⌝ }
+{
+    let most = most_short(left as usize, plan.len() - at, t, rows.len());
+    let mut i = 0;
+    let mut last = b;
+    while i < most {
+        let gap = wide(plan[at + i]);
+        if gap == 0 || 127 < gap || n - last < gap {
+            return ShortRows { count: i, last };
+        }
+        last += gap;
+        rows[t + i] = narrow(last);
+        i += 1;
+    }
+    ShortRows { count: i, last }
+}
+
+// The rows of column j by their gaps, `count` of them from `at` on: keeps them from place t on while there is room, answers the place behind them,
+// kept or not. The rows before place `total` are read, `row` is the last of them, or j, and `left` are to come, the next at k.
+fn read_rows(
+    plan: &[u8],
+    at: usize,
+    n: u64,
+    j: u64,
+    count: u64,
+    t: usize,
+    rows: &mut [u32],
+) -> Reading
+    requires { ⌜ (at ≤ length (now plan)) × (n ≤ maxColumns) × (j ≤ n) × (t ≤ at) ⌝ }
+    ensures { λ r. ⌜ Told (λ list. t + length list) (RowsIn t (now (rows .entry)) (now (rows .exit))) (readRows n j count (now (plan .entry)) at) r ⌝ }
+{
+    let mut k = at;
+    let mut row = j;
+    let mut left = count;
+    let mut total = t;
+    while 0 < left {
+        let short = short_rows(plan, k, n, row, left, total, rows);
+        row = short.last;
+        k += short.count;
+        total += short.count;
+        left -= short.count as u64;
+        if left == 0 {
+            break;
+        }
+        match read_field(plan, k, 1, n - row) {
+            Reading::Refused { number, place } => {
+                return Reading::Refused { number, place };
+            }
+            Reading::Found { value: gap, next } => {
+                row += gap;
+                keep_row(rows, total, row);
+                total += 1;
+                k = next;
+                left -= 1;
+            }
+        }
+    }
+    Reading::Found {
+        value: total as u64,
+        next: k,
+    }
+}
+
+// The list of column j, its count and its gaps: keeps and answers as read_rows does.
+pub fn read_list(plan: &[u8], at: usize, n: u64, j: u64, t: usize, rows: &mut [u32]) -> Reading
+    requires { ⌜ (at ≤ length (now plan)) × (n ≤ maxColumns) × (j ≤ n) × (t ≤ at) ⌝ }
+    ensures { λ r. ⌜ Told (λ list. t + length list) (RowsIn t (now (rows .entry)) (now (rows .exit))) (readList n j (now (plan .entry)) at) r ⌝ }
+{
+    match read_field(plan, at, 0, n - j) {
+        Reading::Refused { number, place } => {
+            return Reading::Refused { number, place };
+        }
+        Reading::Found { value: count, next } => {
+            return read_rows(plan, next, n, j, count, t, rows);
+        }
+    }
+}

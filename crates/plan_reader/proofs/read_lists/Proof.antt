@@ -1,0 +1,89 @@
+-- The loop's invariant: the lists of the columns before j are read and kept, and those left, put onto them, are all. The measure is the columns left.
+-- Assumes nothing.
+use Prim.Native.Nat.{_+_, _-_}
+use mathlib.Core.Path.{refl, _∙_}
+use native.Mathlib.Omega.{arith}
+use lib.ListN.{length-set}
+use borrow.Author.Needs.{needs}
+use denote.Ref.{now}
+use Rattle.list_reader.specs.Reading.{refuses}
+use Rattle.plan_reader.proofs.Lists.{Lists, lists-start, lists-long, lists-turn, lists-fault, lists-stop}
+use Rattle.plan_reader.proofs.read_lists.Statement.{statement}
+use Rattle.plan_reader.proofs.read_lists.Tie as tie
+
+abbrev Inv-loop : tie.InvT-loop
+Inv-loop plan at n starts₀ rows₀ k₀ j₀ total₀ starts rows k j total = Lists n plan at starts₀ rows₀ starts rows k j total
+
+abbrev μ-loop : tie.MeasureT-loop
+μ-loop plan at n starts₀ rows₀ k₀ j₀ total₀ starts rows k j total = n + 1 - j
+
+slice-write-starts : tie.Need-slice-write-starts Inv-loop μ-loop
+slice-write-starts c = search needs
+
+loop-holds : tie.Need-loop-holds Inv-loop μ-loop
+loop-holds c = lists-start _ _ _ (now (c .before .before .before .args .starts)) _ (c .before .before .before .pre .0)
+
+read-list-requires : tie.Need-read-list-requires Inv-loop μ-loop
+read-list-requires c κs = (c .before .before .loop .inv .inside, c .before .before .before .before .before .before .pre .1, c .before .loop-test .taken, c .before .before .loop .inv .paced)
+
+enum-known-number : tie.Need-enum-known-number Inv-loop μ-loop
+enum-known-number c = search needs
+
+same-length : tie.Need-same-length Inv-loop μ-loop
+same-length c = lists-long (c .before .before .before .before .before .before .before .before .loop .inv) .0 ∙ length-set (now (c .before .before .before .before .before .before .before .before .before .before .before .before .args .starts)) 0 0
+
+same-length-2 : tie.Need-same-length-2 Inv-loop μ-loop
+same-length-2 c = c .before .before .before .before .before .read-list .kept .1 .1 .1 .1 .1 .0 ∙ lists-long (c .before .before .before .before .before .before .before .before .loop .inv) .1
+
+returns : tie.Need-returns Inv-loop μ-loop
+returns c = refuses _ _ (lists-fault (c .before .before .before .before .before .before .before .before .loop .inv) (c .before .before .before .before .before .before .before .loop-test .taken) (c .before .before .before .before .before .read-list .ensures) (c .before .number .given .1)) refl
+
+enum-known-value : tie.Need-enum-known-value Inv-loop μ-loop
+enum-known-value c = search needs
+
+mul-starts : tie.Need-mul-starts Inv-loop μ-loop
+mul-starts c = search needs
+
+slice-write-starts-2 : tie.Need-slice-write-starts-2 Inv-loop μ-loop
+slice-write-starts-2 c = let h = lists-long (c .before .before .before .before .before .before .before .before .loop .inv) .0 ∙ length-set (now (c .before .before .before .before .before .before .before .before .before .before .before .before .args .starts)) 0 0 in let g = c .before .before .before .before .before .before .before .loop-test .taken in omega arith
+
+add-j : tie.Need-add-j Inv-loop μ-loop
+add-j c = search needs
+
+loop-less : tie.Need-loop-less Inv-loop μ-loop
+loop-less c = search needs
+
+loop-again : tie.Need-loop-again Inv-loop μ-loop
+loop-again c = lists-turn (c .before .before .before .before .before .before .before .before .loop .inv) (c .before .before .before .before .before .before .before .loop-test .taken) (c .before .before .before .before .before .read-list .ensures) (c .before .value .given .1) refl
+
+same-length-3 : tie.Need-same-length-3 Inv-loop μ-loop
+same-length-3 c = lists-long (c .before .loop .inv) .0 ∙ length-set (now (c .before .before .before .before .before .args .starts)) 0 0
+
+same-length-4 : tie.Need-same-length-4 Inv-loop μ-loop
+same-length-4 c = lists-long (c .before .loop .inv) .1
+
+returns-2 : tie.Need-returns-2 Inv-loop μ-loop
+returns-2 c = lists-stop (c .before .loop .inv) (now (c .before .before .before .before .before .args .starts)) refl (c .loop-test .left)
+
+pub read-lists-spec : {M : Type 1} → statement M
+read-lists-spec =
+    tie.close
+    (tie.spec
+    Inv-loop
+    μ-loop
+    slice-write-starts
+    loop-holds
+    read-list-requires
+    enum-known-number
+    same-length
+    same-length-2
+    returns
+    enum-known-value
+    mul-starts
+    slice-write-starts-2
+    add-j
+    loop-less
+    loop-again
+    same-length-3
+    same-length-4
+    returns-2)

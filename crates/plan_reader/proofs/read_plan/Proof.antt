@@ -1,0 +1,103 @@
+-- A plan is its steps, its lists, its peak and the end: the first part at fault is the plan's fault, and what is read is kept part by part.
+-- Assumes nothing.
+use borrow.Author.Needs.{needs}
+use Rattle.bytes_laws.proofs.Reaches.{steps-reach, lists-reach}
+use Rattle.list_reader.proofs.Answers.{told-found, told-refused}
+use Rattle.plan_reader.proofs.Wholes.{no-steps, no-lists, plan-faulty, plan-whole}
+use Rattle.plan_reader.proofs.read_plan.Statement.{statement}
+use Rattle.plan_reader.proofs.read_plan.Tie as tie
+
+read-steps-requires : tie.Need-read-steps-requires
+read-steps-requires c κs = search needs
+
+enum-known-number : tie.Need-enum-known-number
+enum-known-number c = search needs
+
+same-length : tie.Need-same-length
+same-length c = search needs
+
+same-length-2 : tie.Need-same-length-2
+same-length-2 c = search needs
+
+returns : tie.Need-returns
+returns c = plan-faulty (no-steps _ _ _ (told-refused (c .before .before .before .before .before .before .before .read-steps .ensures) (c .before .number .given .1)))
+
+enum-known-behind : tie.Need-enum-known-behind
+enum-known-behind c = search needs
+
+read-lists-requires : tie.Need-read-lists-requires
+read-lists-requires c κs =
+    let steps = told-found (c .before .before .before .before .before .before .before .before .before .read-steps .ensures) (c .before .before .before .behind .given .1) in
+    (steps-reach _ _ _ _ _ _ (steps .1) .1 .inside (c .before .before .before .before .before .before .before .before .before .before .before .before .before .before .before .before .before .pre .1), c .before .before .before .before .before .before .before .before .before .before .before .before .before .before .before .before .before .pre .0, c .before .before .before .before .before .before .before .before .before .before .before .before .before .before .before .before .before .pre .4)
+
+enum-known-number-2 : tie.Need-enum-known-number-2
+enum-known-number-2 c = search needs
+
+same-length-3 : tie.Need-same-length-3
+same-length-3 c = search needs
+
+same-length-4 : tie.Need-same-length-4
+same-length-4 c = search needs
+
+same-length-5 : tie.Need-same-length-5
+same-length-5 c = search needs
+
+same-length-6 : tie.Need-same-length-6
+same-length-6 c = search needs
+
+returns-2 : tie.Need-returns-2
+returns-2 c =
+    let steps = told-found (c .before .before .before .before .before .before .before .before .before .before .before .before .before .before .before .before .before .read-steps .ensures) (c .before .before .before .before .before .before .before .before .before .before .before .behind .given .1) in
+    plan-faulty (no-lists _ _ _ (steps .1) (told-refused (c .before .before .before .before .before .before .before .read-lists .ensures) (c .before .number2 .given .1)))
+
+enum-known-total : tie.Need-enum-known-total
+enum-known-total c = search needs
+
+read-peak-requires : tie.Need-read-peak-requires
+read-peak-requires c κs =
+    let steps = told-found (c .before .before .before .before .before .before .before .before .before .before .before .before .before .before .before .before .before .read-steps .ensures) (c .before .before .before .before .before .before .before .before .before .before .before .behind .given .1) in
+    let lists = told-found (c .before .before .before .before .before .before .before .read-lists .ensures) (c .before .total .given .1) in
+    lists-reach _ _ _ _ _ _ _ (lists .1) .1 .inside (steps-reach _ _ _ _ _ _ (steps .1) .1 .inside (c .before .before .before .before .before .before .before .before .before .before .before .before .before .before .before .before .before .before .before .before .before .before .before .before .before .pre .1))
+
+same-length-7 : tie.Need-same-length-7
+same-length-7 c = search needs
+
+same-length-8 : tie.Need-same-length-8
+same-length-8 c = search needs
+
+same-length-9 : tie.Need-same-length-9
+same-length-9 c = search needs
+
+same-length-10 : tie.Need-same-length-10
+same-length-10 c = search needs
+
+returns-3 : tie.Need-returns-3
+returns-3 c =
+    let steps = told-found (c .before .before .before .before .before .before .before .before .before .before .before .before .before .before .before .before .before .before .read-steps .ensures) (c .before .before .before .before .before .before .before .before .before .before .before .before .behind .given .1) in
+    let lists = told-found (c .before .before .before .before .before .before .before .before .read-lists .ensures) (c .before .before .total .given .1) in
+    plan-whole _ _ _ (steps .1) (steps .3) (lists .1) (lists .2) (lists .3) (c .read-peak .ensures)
+
+pub read-plan-spec : {M : Type 1} → statement M
+read-plan-spec =
+    tie.close
+    (tie.spec
+    read-steps-requires
+    enum-known-number
+    same-length
+    same-length-2
+    returns
+    enum-known-behind
+    read-lists-requires
+    enum-known-number-2
+    same-length-3
+    same-length-4
+    same-length-5
+    same-length-6
+    returns-2
+    enum-known-total
+    read-peak-requires
+    same-length-7
+    same-length-8
+    same-length-9
+    same-length-10
+    returns-3)

@@ -1,0 +1,91 @@
+-- A step is its column and, behind it, its pops; either at fault is the step's fault.
+-- Assumes nothing.
+use mathlib.Core.Path.{refl, ap}
+use native.Mathlib.Omega.{arith}
+use lib.ListN.{set}
+use borrow.Author.Needs.{needs}
+use denote.Ref.{now}
+use Rattle.list_reader.proofs.Answers.{field-refused, field-found}
+use Rattle.list_reader.specs.Reading.{finds, refuses}
+use Rattle.plan_reader.proofs.Steps.{step-no-column, step-no-pops, step-got}
+use Rattle.plan_reader.proofs.read_step.Statement.{statement}
+use Rattle.plan_reader.proofs.read_step.Tie as tie
+
+read-field-requires : tie.Need-read-field-requires
+read-field-requires c κs = search needs
+
+enum-known-number : tie.Need-enum-known-number
+enum-known-number c = search needs
+
+returns : tie.Need-returns
+returns c = refuses _ _ (step-no-column _ _ _ (field-refused _ _ _ _ (c .before .before .before .read-field .ensures) (c .before .number .given .1))) refl
+
+enum-known-column : tie.Need-enum-known-column
+enum-known-column c = search needs
+
+sub-read-field : tie.Need-sub-read-field
+sub-read-field c = search needs
+
+read-field-requires-2 : tie.Need-read-field-requires-2
+read-field-requires-2 c κs = field-found _ _ _ _ (c .before .before .before .read-field .ensures) (c .before .column .given .1) .1 .inside
+
+enum-known-number-2 : tie.Need-enum-known-number-2
+enum-known-number-2 c = search needs
+
+returns-2 : tie.Need-returns-2
+returns-2 c = refuses _ _ (step-no-pops _ _ _ (field-found _ _ _ _ (c .before .before .before .before .before .before .before .read-field .ensures) (c .before .before .before .before .before .column .given .1) .0) (field-refused _ _ _ _ (c .before .before .before .read-field2 .ensures) (c .before .number2 .given .1))) refl
+
+enum-known-popped : tie.Need-enum-known-popped
+enum-known-popped c = search needs
+
+narrow-requires : tie.Need-narrow-requires
+narrow-requires c κs = let h = field-found _ _ _ _ (c .before .before .before .before .before .before .before .read-field .ensures) (c .before .before .before .before .before .column .given .1) .1 .high in let p = c .before .before .before .before .before .before .before .before .before .before .before .pre .1 in omega arith
+
+mul-order : tie.Need-mul-order
+mul-order c = search needs
+
+slice-write-order : tie.Need-slice-write-order
+slice-write-order c = search needs
+
+narrow-requires-2 : tie.Need-narrow-requires-2
+narrow-requires-2 c κs = let h = field-found _ _ _ _ (c .before .before .before .before .read-field2 .ensures) (c .before .before .popped .given .1) .1 .high in let p = c .before .before .before .before .before .before .before .before .before .before .before .before .pre .1 in omega arith
+
+mul-pops : tie.Need-mul-pops
+mul-pops c = search needs
+
+slice-write-pops : tie.Need-slice-write-pops
+slice-write-pops c = search needs
+
+same-length : tie.Need-same-length
+same-length c = search needs
+
+same-length-2 : tie.Need-same-length-2
+same-length-2 c = search needs
+
+returns-3 : tie.Need-returns-3
+returns-3 c =
+    finds _ _ (step-got _ _ _ (field-found _ _ _ _ (c .before .before .before .before .before .before .before .before .before .read-field .ensures) (c .before .before .before .before .before .before .before .column .given .1) .0) (field-found _ _ _ _ (c .before .before .before .before .before .read-field2 .ensures) (c .before .before .before .popped .given .1) .0)) refl
+    (ap (set (now (c .before .before .before .before .before .before .before .before .before .before .before .before .before .args .order)) (c .before .before .before .before .before .before .before .before .before .before .before .before .before .args .i)) (c .before .narrow .ensures), ap (set (now (c .before .before .before .before .before .before .before .before .before .before .before .before .before .args .pops)) (c .before .before .before .before .before .before .before .before .before .before .before .before .before .args .i)) (c .narrow2 .ensures))
+
+pub read-step-spec : {M : Type 1} → statement M
+read-step-spec =
+    tie.close
+    (tie.spec
+    read-field-requires
+    enum-known-number
+    returns
+    enum-known-column
+    sub-read-field
+    read-field-requires-2
+    enum-known-number-2
+    returns-2
+    enum-known-popped
+    narrow-requires
+    mul-order
+    slice-write-order
+    narrow-requires-2
+    mul-pops
+    slice-write-pops
+    same-length
+    same-length-2
+    returns-3)

@@ -1,0 +1,75 @@
+-- The loop's invariant: the first i steps are read and kept, and those left, put onto them, are all. The measure is how many are left.
+-- Assumes nothing.
+use Prim.Native.Nat.{_-_}
+use mathlib.Core.Path.{refl, _∙_}
+use native.Mathlib.Omega.{arith}
+use borrow.Author.Needs.{needs}
+use Rattle.list_reader.specs.Reading.{refuses}
+use Rattle.plan_reader.proofs.Steps.{Steps, steps-start, steps-long, steps-turn, steps-fault, steps-stop}
+use Rattle.plan_reader.proofs.read_steps.Statement.{statement}
+use Rattle.plan_reader.proofs.read_steps.Tie as tie
+
+abbrev Inv-loop : tie.InvT-loop
+Inv-loop plan at n order₀ pops₀ k₀ i₀ order pops k i = Steps n plan at order₀ pops₀ order pops k i
+
+abbrev μ-loop : tie.MeasureT-loop
+μ-loop plan at n order₀ pops₀ k₀ i₀ order pops k i = n - i
+
+loop-holds : tie.Need-loop-holds Inv-loop μ-loop
+loop-holds c = steps-start _ _ _ _ _ (c .before .before .before .pre .0)
+
+read-step-requires : tie.Need-read-step-requires Inv-loop μ-loop
+read-step-requires c κs = let (a, b) = steps-long (c .before .before .before .loop .inv) in let t = c .before .before .loop-test .taken in let p = c .before .before .before .before .before .before .before .pre in (c .before .before .before .loop .inv .inside, p .1, t, omega arith, omega arith)
+
+enum-known-number : tie.Need-enum-known-number Inv-loop μ-loop
+enum-known-number c = search needs
+
+same-length : tie.Need-same-length Inv-loop μ-loop
+same-length c = c .before .before .before .before .before .before .before .read-step .kept .1 .1 .1 .1 .0 ∙ steps-long (c .before .before .before .before .before .before .before .before .before .before .before .loop .inv) .0
+
+same-length-2 : tie.Need-same-length-2 Inv-loop μ-loop
+same-length-2 c = c .before .before .before .before .before .before .before .read-step .kept .1 .1 .1 .1 .1 .0 ∙ steps-long (c .before .before .before .before .before .before .before .before .before .before .before .loop .inv) .1
+
+returns : tie.Need-returns Inv-loop μ-loop
+returns c = refuses _ _ (steps-fault (c .before .before .before .before .before .before .before .before .before .before .before .loop .inv) (c .before .before .before .before .before .before .before .before .before .before .loop-test .taken) (c .before .before .before .before .before .before .before .read-step .ensures) (c .before .number .given .1)) refl
+
+enum-known-next : tie.Need-enum-known-next Inv-loop μ-loop
+enum-known-next c = search needs
+
+add-i : tie.Need-add-i Inv-loop μ-loop
+add-i c = search needs
+
+loop-less : tie.Need-loop-less Inv-loop μ-loop
+loop-less c = search needs
+
+loop-again : tie.Need-loop-again Inv-loop μ-loop
+loop-again c = steps-turn (c .before .before .before .before .before .before .before .before .before .before .before .loop .inv) (c .before .before .before .before .before .before .before .before .before .before .loop-test .taken) (c .before .before .before .before .before .before .before .read-step .ensures) (c .before .next .given .1)
+
+same-length-3 : tie.Need-same-length-3 Inv-loop μ-loop
+same-length-3 c = steps-long (c .before .loop .inv) .0
+
+same-length-4 : tie.Need-same-length-4 Inv-loop μ-loop
+same-length-4 c = steps-long (c .before .loop .inv) .1
+
+returns-2 : tie.Need-returns-2 Inv-loop μ-loop
+returns-2 c = steps-stop (c .before .loop .inv) (c .loop-test .left)
+
+pub read-steps-spec : {M : Type 1} → statement M
+read-steps-spec =
+    tie.close
+    (tie.spec
+    Inv-loop
+    μ-loop
+    loop-holds
+    read-step-requires
+    enum-known-number
+    same-length
+    same-length-2
+    returns
+    enum-known-next
+    add-i
+    loop-less
+    loop-again
+    same-length-3
+    same-length-4
+    returns-2)
