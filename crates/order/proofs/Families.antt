@@ -23,7 +23,7 @@ use Rattle.tree.proofs.Children.{kids-lower, parent-is}
 use Rattle.tree.proofs.Blocks.{kids-are}
 use Rattle.room.specs.Rows.{rowsIn, Column}
 use Rattle.order.specs.Given.{Rowed}
-use Rattle.order.specs.Arranged.{Family}
+use Rattle.siblings.specs.Arranged.{Family}
 use Rattle.order.proofs.Marked.{steps-short}
 
 module _ {parents factor : List ℕ} (rowed : Rowed parents factor) where

@@ -1,9 +1,3 @@
-pub mod Keys
-pub mod Turns
-pub mod Parts
-pub mod Placing
-pub mod Works
-pub mod Arranging
 pub mod Marked
 pub mod Families
 pub mod Walked

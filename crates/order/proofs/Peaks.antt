@@ -13,8 +13,7 @@ use Rattle.tree.proofs.Slices.{at-place}
 use Rattle.room.specs.Rows.{countAt, rowsIn}
 use Rattle.room.specs.Steps.{rowsAt, popsAt, Stepped, Counted}
 use Rattle.room.proofs.BySteps.{peak-by-steps, enough-by-steps}
-use Rattle.order.specs.Given.{Given, popsIn, orderIn}
-use Rattle.order.specs.Regions.{Starts}
+use Rattle.order.specs.Given.{Given, popsIn, orderIn, Starts}
 use Rattle.order.proofs.Marked.{order-enough}
 use Rattle.order.proofs.Families.{column-of, roots-all}
 

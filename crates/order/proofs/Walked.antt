@@ -18,15 +18,14 @@ use Rattle.order_laws.proofs.Arranged.{arranged-elements}
 use Rattle.order_laws.proofs.Orders.{ordered-length, marked-ordered}
 use Rattle.tree.specs.Parents.{parentIn, kidsIn}
 use Rattle.tree.specs.Blocks.{block, blocks, kidsAt}
-use Rattle.tree.specs.Laid.{Descendants}
+use Rattle.tree.specs.Laid.{Descendants, part, LaidOut}
 use Rattle.tree.proofs.Children.{kids-lower}
 use Rattle.tree.proofs.Blocks.{flatMap-same, block-count, kids-are}
 use Rattle.walk.specs.Tasks.{Laid, Asked, kidsSteps}
 use Rattle.room.specs.Rows.{rowsIn}
-use Rattle.order.specs.Given.{Rowed, Given, stepsIn, orderIn}
-use Rattle.order.specs.Regions.{part, LaidOut, Starts}
-use Rattle.order.specs.Arranged.{arrangedIn, Arrangeable, AllArranged}
-use Rattle.order.proofs.Parts.{part-length, part-same}
+use Rattle.order.specs.Given.{Rowed, Given, stepsIn, orderIn, Starts}
+use Rattle.siblings.specs.Arranged.{arrangedIn, Arrangeable, AllArranged}
+use Rattle.tree.proofs.Parts.{part-length, part-same}
 use Rattle.order.proofs.Marked.{block-marked, steps-count}
 use Rattle.order.proofs.Families.{family-of, lists-end, lists-are}
 

@@ -9,7 +9,7 @@ use lib.ListN.{length, getD}
 use Rattle.papers.specs.Bounds.{maxColumns, maxMark}
 use Rattle.papers.specs.Order.{stepsOf}
 use Rattle.tree.specs.Parents.{parentIn, TreeIn, kidsIn}
-use Rattle.room.specs.Rows.{rowsIn}
+use Rattle.room.specs.Rows.{countAt, rowsIn}
 
 pub record Rowed (parents factor : List ℕ) : Type 0 where
   pub tree : TreeIn parents
@@ -38,3 +38,9 @@ stepsIn mark parents factor j = stepsOf mark (rowsIn factor) (kidsIn parents) (l
 -- the order: the subtrees of the roots, ascending
 abbrev pub orderIn : ℕ → List ℕ → List ℕ → List ℕ
 orderIn mark parents factor = flatMap (stepsIn mark parents factor) (kidsIn parents 0)
+
+-- the starts of the children's lists: each list is as long as its column has children
+pub record Starts (parents starts : List ℕ) : Type 0 where
+  pub count : (j : ℕ) → j ≤ length parents → countAt starts j ≡ popsIn parents j
+  pub rise : (j : ℕ) → j ≤ length parents → getD starts j 0 ≤ getD starts (j + 1) 0
+  pub inside : (j : ℕ) → j ≤ length parents → getD starts (j + 1) 0 ≤ length parents

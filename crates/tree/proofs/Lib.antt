@@ -1,5 +1,6 @@
 pub mod Sums
 pub mod Slices
+pub mod Parts
 pub mod Children
 pub mod Blocks
 pub mod Descendants

@@ -7,8 +7,8 @@ use mathlib.Core.List.{List, [], _∷_, _++_, append-assoc}
 use native.Mathlib.Omega.{arith}
 use lib.ListN.{length, getD, set, take, drop, length-drop, length-append}
 use lib.Seq.{sets, sets-eq, slice, take-nil, drop-drop, drop-set-add, take-set-lt, take-at, drop-at, length-take-le, getD-take, getD-drop}
 use Rattle.tree.proofs.Slices.{slice-low, slice-high}
-use Rattle.order.specs.Regions.{part}
+use Rattle.tree.specs.Laid.{part}
 
 pub part-slice : (a e : ℕ) (l : List ℕ) → part a e l ≡ slice a e l
 part-slice zero e l = let z : e - 0 ≡ e = omega arith in rw z

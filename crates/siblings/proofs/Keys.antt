@@ -14,8 +14,8 @@ use Rattle.papers.specs.Tree.{t}
 use Rattle.papers.specs.Order.{siblingKey}
 use Rattle.tree.proofs.Slices.{at-place}
 use Rattle.tree.proofs.Children.{equal-or}
-use Rattle.order.specs.Regions.{part}
-use Rattle.order.specs.Arranged.{Kids, Keyed}
+use Rattle.tree.specs.Laid.{part}
+use Rattle.siblings.specs.Arranged.{Kids, Keyed}
 
 pub key-none : (mark above rows w : ℕ) → mark ≡ 0 → siblingKey mark above rows w ≡ 0
 unfolding siblingKey

@@ -14,10 +14,10 @@ use Rattle.order_laws.proofs.Arranged.{arranged-length}
 use Rattle.tree.specs.Blocks.{kidsAt}
 use Rattle.tree.proofs.Blocks.{kids-are, arranged-zero}
 use Rattle.room.specs.Rows.{rowsIn}
-use Rattle.order.specs.Regions.{part}
-use Rattle.order.specs.Arranged.{siblingsAt, Placed, sortedIn, Arranged, aloneIn, arrangedIn, startsIn, Arrangeable, AllArranged}
-use Rattle.order.proofs.Parts.{part-slice, part-length, slice-behind, slice-before, slice-run}
-use Rattle.order.proofs.Works.{alone-light, sorted-arranged, need-alone}
+use Rattle.tree.specs.Laid.{part}
+use Rattle.siblings.specs.Arranged.{siblingsAt, Placed, sortedIn, Arranged, aloneIn, arrangedIn, startsIn, Arrangeable, AllArranged}
+use Rattle.tree.proofs.Parts.{part-slice, part-length, slice-behind, slice-before, slice-run}
+use Rattle.siblings.proofs.Works.{alone-light, sorted-arranged, need-alone}
 
 pub record Arranging (mark : ℕ) (factor list₀ work₀ list work : List ℕ) (scratch₀ scratch w k j : ℕ) : Type 0 where
   pub same : take w work ≡ take w work₀

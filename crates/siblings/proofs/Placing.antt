@@ -10,9 +10,9 @@ use lib.Seq.{sets, take-take, take-set-le}
 use Rattle.papers.specs.Lists.{_∈_, sort}
 use Rattle.list_laws.proofs.Sorts.{sort-same, sort-elements, sort-length}
 use Rattle.sibling_sort.specs.Joining.{keyIn}
-use Rattle.order.specs.Regions.{part}
-use Rattle.order.specs.Arranged.{keyAt, needAt, Kids, Keyed, siblingsAt, Placed, sortedIn, Arranged}
-use Rattle.order.proofs.Parts.{part-length, part-at, part-same, part-set, back-sets, back-part}
+use Rattle.tree.specs.Laid.{part}
+use Rattle.siblings.specs.Arranged.{keyAt, needAt, Kids, Keyed, siblingsAt, Placed, sortedIn, Arranged}
+use Rattle.tree.proofs.Parts.{part-length, part-at, part-same, part-set, back-sets, back-part}
 
 kids-sorted : (key : ℕ → ℕ) {factor rooms kids : List ℕ} {j : ℕ} → Kids factor rooms kids j → Kids factor rooms (sort key kids) j
 kids-sorted key {factor} {rooms} {kids} pre = record {

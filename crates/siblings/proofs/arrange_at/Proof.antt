@@ -2,9 +2,9 @@
 -- Assumes nothing.
 use native.Mathlib.Omega.{arith}
 use borrow.Author.Needs.{needs}
-use Rattle.order.proofs.Placing.{placed-kids, placed-done}
-use Rattle.order.proofs.arrange_at.Statement.{statement}
-use Rattle.order.proofs.arrange_at.Tie as tie
+use Rattle.siblings.proofs.Placing.{placed-kids, placed-done}
+use Rattle.siblings.proofs.arrange_at.Statement.{statement}
+use Rattle.siblings.proofs.arrange_at.Tie as tie
 
 mul-a : tie.Need-mul-a
 mul-a c = search needs

@@ -13,7 +13,7 @@ use Rattle.papers.specs.Order.{siblingKey, alone, arranged, stepsOf}
 use Rattle.order_laws.specs.Subtrees.{Kin, inTurn, butLast}
 use Rattle.tree.specs.Blocks.{kidsAt}
 use Rattle.room.specs.Rows.{rowsIn, Column, mostEntries}
-use Rattle.order.specs.Regions.{part}
+use Rattle.tree.specs.Laid.{part}
 
 abbrev pub keyAt : ℕ → List ℕ → List ℕ → ℕ → ℕ → ℕ
 keyAt mark factor rooms j c = siblingKey mark (rowsIn factor j) (rowsIn factor c) (getD rooms c 0)

@@ -3,9 +3,9 @@
 use mathlib.Core.Path.{sym, _∙_}
 use native.Mathlib.Omega.{arith}
 use borrow.Author.Needs.{needs}
-use Rattle.order.proofs.Keys.{key-none, key-one, key-two}
-use Rattle.order.proofs.sibling_key.Statement.{statement}
-use Rattle.order.proofs.sibling_key.Tie as tie
+use Rattle.siblings.proofs.Keys.{key-none, key-one, key-two}
+use Rattle.siblings.proofs.sibling_key.Statement.{statement}
+use Rattle.siblings.proofs.sibling_key.Tie as tie
 
 triangle-requires : tie.Need-triangle-requires
 triangle-requires c κs = search needs

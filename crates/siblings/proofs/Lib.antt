@@ -1,0 +1,5 @@
+pub mod Keys
+pub mod Turns
+pub mod Placing
+pub mod Works
+pub mod Arranging
