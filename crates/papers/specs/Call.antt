@@ -16,7 +16,7 @@ use Rattle.papers.specs.Check.{checked}
 use Rattle.papers.specs.Text.{buffers}
 use Rattle.papers.specs.declared.Answer.{Answer}
 
--- a key is readable if it is the whole key of a job that passes 1 to 6, with nothing after
+-- a readable key: some job that passes its tests has just these bytes as its key
 pub record Readable (key : List ℕ) : Type 0 where
   pub job : Job
   pub passes : first jobTests job ≡ passed

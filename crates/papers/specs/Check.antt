@@ -25,7 +25,7 @@ pub record CheckCall : Type 0 where
 unfoldable pub keyDiffers : List ℕ → List ℕ → ℕ → Bool
 keyDiffers key plan p = elim (leb p (length plan)) [ true ↦ not (eqb (getD key (p - 1) 0) (getD plan (p - 1) 0)) | false ↦ true ]
 
--- 11: plan does not begin with the job's key
+-- 11: the bytes begin otherwise than the key of the job
 unfoldable pub keyTest : CheckCall → Verdict
 keyTest call = let key = keyOf (call .job) in refusedAt 11 (least (keyDiffers key (call .plan)) (length key)) 0 zeroed
 
@@ -57,11 +57,11 @@ scattered par n order s =
     let w = length (subtreeOf par n j) in
     not (leb w s && every (isUnder par n j) (slice (s - w) s order))
 
--- 18: steps of a subtree not consecutive, top last; the least step of a faulty top
+-- 18: the first step whose subtree does not end there in one piece
 unfoldable pub subtreeTest : Job → Plan → Verdict
 subtreeTest job plan = refusedAt 18 (least (scattered (parent (pattern job)) (job .n) (columnsIn (plan .steps))) (job .n)) 0 zeroed
 
--- 19: pops is not the number of children; the step
+-- 19: the first step that pops more or fewer updates than its column has children
 unfoldable pub popsTest : Job → Plan → Verdict
 popsTest job plan =
     refusedAt 19 (least (λ s. not (eqb (getD (popsIn (plan .steps)) (s - 1) 0) (popsOf (job .n) (pattern job) (columnAt (columnsIn (plan .steps)) s)))) (job .n)) 0 zeroed

@@ -74,7 +74,7 @@ columns job = record { n = job .n; starts = job .starts; rows = job .rows }
 abbrev pub Falls : List ℕ → ℕ → Type 0
 Falls starts j = start starts (suc j) < start starts j
 
--- 4, with its place: conditions go as listed, and the lowest column decides
+-- 4 with its place: one after the other, and of the columns the lowest
 pub data BadStarts (c : Columns) : ℕ → Type 0 where
   miscounted : length (c .starts) ≢ c .n + 1 → BadStarts c 0
   not-zero : length (c .starts) ≡ c .n + 1 → start (c .starts) 1 ≢ 0 → BadStarts c 0

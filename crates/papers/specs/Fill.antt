@@ -7,7 +7,7 @@ use lib.Dec.{ltb}
 use Rattle.papers.specs.Lists.{_∈_, member, keep, merge}
 use Rattle.papers.specs.Job.{Pattern}
 
--- For i > j, (i, j) is filled if it is in the pattern, or if for some k < j both (i, k) and (j, k) are filled.
+-- Fill, below the diagonal: what the pattern holds; and row i of column j wherever one earlier column has both rows, i and j, filled.
 pub data Filled (A : Pattern) : ℕ → ℕ → Type 0 where
   given : {i j : ℕ} → j < i → i ∈ A j → Filled A i j
   filled : {i j k : ℕ} → j < i → k < j → Filled A i k → Filled A j k → Filled A i j
@@ -24,7 +24,7 @@ unfoldable pub lists : Pattern → ℕ → List (List ℕ)
 lists A zero = []
 lists A (suc j) = let earlier = lists A j in gather (suc j) earlier (A (suc j)) ∷ earlier
 
--- R(j), the ascending list of i with (i, j) filled
+-- R(j): the filled rows of column j, ascending
 unfoldable pub R : Pattern → ℕ → List ℕ
 R A zero = []
 R A (suc j) = gather (suc j) (lists A j) (A (suc j))

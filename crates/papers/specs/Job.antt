@@ -28,7 +28,7 @@ Pattern = ℕ → List ℕ
 unfoldable pub start : List ℕ → ℕ → ℕ
 start starts k = getD starts (k - 1) 0
 
--- the rows of column j are those from start j to start j + 1
+-- the rows between start j and start j + 1 are column j's
 unfoldable pub columnOf : List ℕ → List ℕ → Pattern
 columnOf starts rows j = slice (start starts j) (start starts (suc j)) rows
 

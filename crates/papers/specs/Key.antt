@@ -26,7 +26,7 @@ listsNumbers j (l ∷ ls) = listNumbers j l ++ listsNumbers (suc j) ls
 unfoldable pub listsOf : ℕ → Pattern → List (List ℕ)
 listsOf n A = map A (upTo n)
 
--- edition, n, mark, limit, then per column the count of pattern rows and their gaps
+-- edition, n, mark and limit; then column by column how many pattern rows it has, and their gaps
 unfoldable pub keyNumbers : Job → List ℕ
 keyNumbers job = edition ∷ job .n ∷ job .mark ∷ job .limit ∷ listsNumbers 1 (listsOf (job .n) (pattern job))
 

@@ -14,7 +14,7 @@ use Rattle.papers.specs.Key.{listsNumbers, listsOf, keyOf}
 use Rattle.papers.specs.declared.Number.{Number}
 use Rattle.papers.specs.declared.Number.the-variants.{Value, Ended, TooLong, NotShortest}
 
--- per step its column and pops; per column its list; the peak
+-- the steps, each a column with its pops; the list of each column; the peak
 pub record Plan : Type 0 where
   pub steps : List (ℕ × ℕ)
   pub lists : List (List ℕ)
@@ -40,7 +40,7 @@ unfoldable pub stepNumbers : List (ℕ × ℕ) → List ℕ
 stepNumbers [] = []
 stepNumbers (s ∷ ss) = s .0 ∷ s .1 ∷ stepNumbers ss
 
--- per step its column and pops; per column the count of R and its gaps; the peak
+-- the steps, each by its column and its pops; the lists, each by its count and its gaps; the peak
 unfoldable pub planNumbers : Plan → List ℕ
 planNumbers p = stepNumbers (p .steps) ++ (listsNumbers 1 (p .lists) ++ (p .peak ∷ []))
 

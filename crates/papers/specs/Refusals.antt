@@ -73,7 +73,8 @@ limitTest job = refusedIf (ltb maxLimit (job .limit)) (answer 3 0 0) untouched
 unfoldable pub falls : List ℕ → ℕ → Bool
 falls starts j = ltb (start starts (suc j)) (start starts j)
 
--- 4: not n + 1 starts or first not 0 (place 0); a start falls (its column); last is not the row count (n)
+-- 4, in this order: the number of starts, and the first of them (place 0); the lowest column whose starts fall; the last start against the
+-- number of rows (place n)
 unfoldable pub startsTest : ℕ → List ℕ → List ℕ → Verdict
 startsTest n starts rows =
     elim (eqb (length starts) (n + 1)) [
@@ -126,12 +127,12 @@ unfoldable pub allZero : Lent → Lent
 allZero lent =
     record { parents = zeros (lent .parents); order = zeros (lent .order); pops = zeros (lent .pops); factorStarts = zeros (lent .factorStarts); factorRows = zeros (lent .factorRows); work = zeros (lent .work) }
 
--- outputs hold the result, then zeros; work is zero
+-- done: each output has its part of the result and zeros behind it, and work is cleared
 unfoldable pub holding : List ℕ → List ℕ → List ℕ → List ℕ → List ℕ → Lent → Lent
 holding parents order pops starts rows lent =
     record { parents = thenZeros parents (lent .parents); order = thenZeros order (lent .order); pops = thenZeros pops (lent .pops); factorStarts = thenZeros starts (lent .factorStarts); factorRows = thenZeros rows (lent .factorRows); work = zeros (lent .work) }
 
--- 7: a lent slice below its fixed length
+-- 7: some lent slice is shorter than n columns ask
 unfoldable pub lengthsTest : ℕ → Lent → Verdict
 lengthsTest n lent =
     refusedIf (ltb (length (lent .parents)) n || ltb (length (lent .order)) n || ltb (length (lent .pops)) n || ltb (length (lent .factorStarts)) (n + 1) || ltb (length (lent .work)) (workLength n)) (answer 7 0 0) untouched
@@ -144,6 +145,6 @@ factorRowsTest needed lent = refusedIf (ltb (length (lent .factorRows)) needed) 
 unfoldable pub peakTest : ℕ → ℕ → Verdict
 peakTest limit peak = refusedIf (ltb limit peak) (answer 9 0 peak) zeroed
 
--- 10: byte slice too short for key or plan
+-- 10: the key or the plan does not fit the byte slice
 unfoldable pub bytesTest : List ℕ → List ℕ → Verdict
 bytesTest written bytes = refusedIf (ltb (length bytes) (length written)) (answer 10 0 (length written)) zeroed

@@ -13,7 +13,7 @@ unfoldable pub topUpdate : ℕ → List ℕ → ℕ
 topUpdate zero held = 0
 topUpdate (suc p) held = head0 held
 
--- room in use at a step: the entries held before it, less the top update if pops is not 0, plus those of a front of r + 1 rows. The top update
+-- room in use at a step: what is held before it, without the top update where it pops any, and its front of r + 1 rows. The top update
 -- is one of those held, so nothing is cut off.
 unfoldable pub roomAt : ℕ → ℕ → List ℕ → ℕ
 roomAt pops r held = sum held - topUpdate pops held + t (suc r)

@@ -9,7 +9,7 @@ use Rattle.papers.specs.Lists.{head0, keep, upTo}
 use Rattle.papers.specs.Job.{Pattern}
 use Rattle.papers.specs.Fill.{R}
 
--- the parent of j: the least row of R(j); 0 where R(j) is empty, and j is a root
+-- the parent of j is the least of its rows; a root has no row, and 0 for its parent
 unfoldable pub parent : Pattern → ℕ → ℕ
 parent A j = head0 (R A j)
 
