@@ -32,7 +32,7 @@ module _ (mark : ℕ) (size : ℕ → ℕ) (kids : ℕ → List ℕ) where
 
   arranged-same : (u v : ℕ → List ℕ) (j : ℕ) → ((c : ℕ) → c ∈ kids j → u c ≡ v c) → arranged mark size kids u j ≡ arranged mark size kids v j
   unfolding arranged
-  arranged-same u v j h = sort-same _ _ (kids j) (λ c m. ap (λ l. siblingKey mark (size j) (size c) (alone mark size kids l)) (h c m))
+  arranged-same u v j h = sort-same _ _ (kids j) (λ c m. ap (λ l. siblingKey mark (size j) (size c) (alone size kids l)) (h c m))
 
   -- ---- the steps of a subtree
 

@@ -54,8 +54,9 @@ analysed job lent = outcome analysisTests analysisDone allZero (record { job = j
 
 -- ---- a plan: as an analysis, then 10
 
+-- the slices of an analysis, and one for the bytes
 pub record PlanLent : Type 0 where
-  pub lent : Lent
+  pub analysis : Lent
   pub bytes : List ℕ
 
 pub record PlanCall : Type 0 where
@@ -64,7 +65,7 @@ pub record PlanCall : Type 0 where
 
 unfoldable pub planTests : List (PlanCall → Verdict)
 planTests =
-    map (λ test call. test (record { job = call .job; lent = call .slices .lent })) analysisTests
+    map (λ test call. test (record { job = call .job; lent = call .slices .analysis })) analysisTests
     ++ ((λ call. bytesTest (planBytes (call .job) (planOf (call .job))) (call .slices .bytes)) ∷ [])
 
 unfoldable pub planDone : PlanCall → Outcome PlanLent
@@ -73,11 +74,11 @@ planDone call =
     let written = planBytes (call .job) plan in
     record {
       answer = answer 0 0 (length written);
-      lent = record { lent = holdingPlan (call .job) plan (call .slices .lent); bytes = thenZeros written (call .slices .bytes) };
+      lent = record { analysis = holdingPlan (call .job) plan (call .slices .analysis); bytes = thenZeros written (call .slices .bytes) };
     }
 
 unfoldable pub planZero : PlanLent → PlanLent
-planZero slices = record { lent = allZero (slices .lent); bytes = zeros (slices .bytes) }
+planZero slices = record { analysis = allZero (slices .analysis); bytes = zeros (slices .bytes) }
 
 -- the whole outcome of writing a plan
 unfoldable pub planWritten : Job → PlanLent → Outcome PlanLent

@@ -25,7 +25,12 @@ pub record Readable (key : List ℕ) : Type 0 where
 -- the job of a key, read through to its end
 unfoldable pub readKey : List ℕ → Read Job
 readKey s =
-    then (field edition edition s 0) λ e at. then (field 0 maxColumns s at) λ n at. then (field 0 maxMark s at) λ mark at. then (field 0 maxLimit s at) λ limit at. then (readLists n 1 n s at) λ lists at. atEnd (record { n = n; starts = startsFrom 0 lists; rows = flat lists; mark = mark; limit = limit }) s at
+    then (field edition edition s 0) λ e at.
+    then (field 0 maxColumns s at) λ n at.
+    then (field 0 maxMark s at) λ mark at.
+    then (field 0 maxLimit s at) λ limit at.
+    then (readLists n 1 n s at) λ lists at.
+    atEnd (record { n = n; starts = startsFrom 0 lists; rows = flat lists; mark = mark; limit = limit }) s at
 
 pub record SolverCall : Type 0 where
   pub key : List ℕ
@@ -37,7 +42,11 @@ readableTest call = elim (readKey (call .key)) [ got job at ↦ passed | bad num
 
 -- 26: more columns or pattern rows than the program's sizes
 unfoldable pub sizesTest : SolverCall → Verdict
-sizesTest call = elim (readKey (call .key)) [ got job at ↦ refusedIf (ltb programColumns (job .n) || ltb programRows (length (job .rows))) (answer 26 0 0) untouched | bad number place ↦ passed ]
+sizesTest call =
+    elim (readKey (call .key)) [
+      | got job at ↦ refusedIf (ltb programColumns (job .n) || ltb programRows (length (job .rows))) (answer 26 0 0) untouched
+      | bad number place ↦ passed
+    ]
 
 unfoldable pub callTests : List (SolverCall → Verdict)
 callTests = readableTest ∷ sizesTest ∷ []

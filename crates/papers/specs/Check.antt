@@ -6,7 +6,7 @@ use mathlib.Core.List.{List, [], _∷_, _++_, map}
 use lib.Dec.{leb, eqb}
 use lib.ListN.{length, getD, take}
 use lib.Seq.{slice}
-use Rattle.papers.specs.Lists.{member, same, every, least, flat}
+use Rattle.papers.specs.Lists.{nth, member, same, every, least, flat}
 use Rattle.papers.specs.Job.{Job, pattern}
 use Rattle.papers.specs.Fill.{R}
 use Rattle.papers.specs.Tree.{parent, isUnder, subtreeOf}
@@ -23,7 +23,7 @@ pub record CheckCall : Type 0 where
 
 -- byte p, counted from 1, of the key is not that of the plan, or the plan has ended before it
 unfoldable pub keyDiffers : List ℕ → List ℕ → ℕ → Bool
-keyDiffers key plan p = elim (leb p (length plan)) [ true ↦ not (eqb (getD key (p - 1) 0) (getD plan (p - 1) 0)) | false ↦ true ]
+keyDiffers key plan p = elim (leb p (length plan)) [ true ↦ not (eqb (nth key p) (nth plan p)) | false ↦ true ]
 
 -- 11: the bytes begin otherwise than the key of the job
 unfoldable pub keyTest : CheckCall → Verdict
@@ -64,7 +64,7 @@ subtreeTest job plan = refusedAt 18 (least (scattered (parent (pattern job)) (jo
 -- 19: the first step that pops more or fewer updates than its column has children
 unfoldable pub popsTest : Job → Plan → Verdict
 popsTest job plan =
-    refusedAt 19 (least (λ s. not (eqb (getD (popsIn (plan .steps)) (s - 1) 0) (popsOf (job .n) (pattern job) (columnAt (columnsIn (plan .steps)) s)))) (job .n)) 0 zeroed
+    refusedAt 19 (least (λ s. not (eqb (nth (popsIn (plan .steps)) s) (popsOf (job .n) (pattern job) (columnAt (columnsIn (plan .steps)) s)))) (job .n)) 0 zeroed
 
 -- the peak of the plan's order
 unfoldable pub truePeak : Job → Plan → ℕ

@@ -10,8 +10,7 @@ use mathlib.Core.List.{List, [], _∷_, _++_}
 use lib.Dec.{leb}
 use lib.ListN.{length, getD, take}
 use Rattle.papers.specs.Bounds.{maxColumns, maxLimit, workLength, maxGroups, maxPeak, inputBytes, programColumns, programRows, listingBytes}
-use Rattle.papers.specs.Lists.{_∈_, flat}
-use Rattle.papers.specs.Numbers.{readNumber}
+use Rattle.papers.specs.Lists.{_∈_, nth, flat}
 use Rattle.papers.specs.Job.{Job, pattern, start, columnOf}
 use Rattle.papers.specs.Fill.{R}
 use Rattle.papers.specs.Tree.{parent}
@@ -21,7 +20,7 @@ use Rattle.papers.specs.Plan.{Plan, columnsIn, popsIn, planOf, planBytes
 use Rattle.papers.specs.Refusals.{answer, Lent}
 use Rattle.papers.specs.Analysis.{KeyCall, AnalysisCall, PlanCall}
 use Rattle.papers.specs.Check.{CheckCall, planRead, truePeak}
-use Rattle.papers.specs.Run.{RunCall, rowsIn, popsAt, roomIn, stateAfter}
+use Rattle.papers.specs.Run.{RunCall, rowsIn, frontIn, stepColumn, popsAt, roomIn, stateAfter, heldAt}
 use Rattle.papers.specs.Text.{Input, numbersAt, textHead, textLists, afterLines, textJob, listingOf, buffers, ListingCall}
 use Rattle.papers.specs.Call.{Readable, SolverCall}
 use Rattle.papers.specs.declared.Answer.{Answer}
@@ -62,20 +61,20 @@ abbrev pub LimitOver : Condition Job
 LimitOver job a = (maxLimit < job .limit) × (a ≡ answer 3 0 0)
 
 -- n, starts and rows: what a job and a run have in common
-pub record Columns : Type 0 where
+pub record RowLists : Type 0 where
   pub n : ℕ
   pub starts : List ℕ
   pub rows : List ℕ
 
-abbrev pub columns : Job → Columns
-columns job = record { n = job .n; starts = job .starts; rows = job .rows }
+abbrev pub jobLists : Job → RowLists
+jobLists job = record { n = job .n; starts = job .starts; rows = job .rows }
 
 -- start j + 1 is below start j
 abbrev pub Falls : List ℕ → ℕ → Type 0
 Falls starts j = start starts (suc j) < start starts j
 
 -- 4 with its place: one after the other, and of the columns the lowest
-pub data BadStarts (c : Columns) : ℕ → Type 0 where
+pub data BadStarts (c : RowLists) : ℕ → Type 0 where
   miscounted : length (c .starts) ≢ c .n + 1 → BadStarts c 0
   not-zero : length (c .starts) ≡ c .n + 1 → start (c .starts) 1 ≢ 0 → BadStarts c 0
   falls : {j : ℕ} → length (c .starts) ≡ c .n + 1 → start (c .starts) 1 ≡ 0
@@ -83,47 +82,52 @@ pub data BadStarts (c : Columns) : ℕ → Type 0 where
   last : length (c .starts) ≡ c .n + 1 → start (c .starts) 1 ≡ 0
       → ((k : ℕ) → 1 ≤ k → k ≤ c .n → ¬ Falls (c .starts) k) → start (c .starts) (suc (c .n)) ≢ length (c .rows) → BadStarts c (c .n)
 
-abbrev pub StartsBad : Condition Columns
+abbrev pub StartsBad : Condition RowLists
 StartsBad c a = (p : ℕ) × BadStarts c p × (a ≡ answer 4 p 0)
 
 -- row k of column j, the rows of a column counted from 0
-abbrev pub rowOf : Columns → ℕ → ℕ → ℕ
+abbrev pub rowOf : RowLists → ℕ → ℕ → ℕ
 rowOf c j k = getD (columnOf (c .starts) (c .rows) j) k 0
 
 -- there is such a row
-abbrev pub IsRow : Columns → ℕ → ℕ → Type 0
+abbrev pub IsRow : RowLists → ℕ → ℕ → Type 0
 IsRow c j k = (1 ≤ j) × (j ≤ c .n) × (k < length (columnOf (c .starts) (c .rows) j))
 
 -- not above its column, or over n
-abbrev pub Outside : Columns → ℕ → ℕ → Type 0
+abbrev pub Outside : RowLists → ℕ → ℕ → Type 0
 Outside c j k = (rowOf c j k ≤ j) ⊎ (c .n < rowOf c j k)
 
 -- not above the one before it
-abbrev pub NotAbove : Columns → ℕ → ℕ → Type 0
+abbrev pub NotAbove : RowLists → ℕ → ℕ → Type 0
 NotAbove c j k = (0 < k) × (rowOf c j k ≤ rowOf c j (k - 1))
 
 -- row k of column j has no fault
-abbrev pub RowFine : Columns → ℕ → ℕ → Type 0
+abbrev pub RowFine : RowLists → ℕ → ℕ → Type 0
 RowFine c j k = (¬ Outside c j k) × (¬ NotAbove c j k)
 
 -- every row read before row k of column j has none
-abbrev pub FineBefore : Columns → ℕ → ℕ → Type 0
+abbrev pub FineBefore : RowLists → ℕ → ℕ → Type 0
 FineBefore c j k = ((j′ k′ : ℕ) → j′ < j → IsRow c j′ k′ → RowFine c j′ k′) × ((k′ : ℕ) → k′ < k → RowFine c j k′)
 
 -- 5 and 6: the first faulty row in reading order; a row with both is 5
-pub data BadRow (c : Columns) : Answer → Type 0 where
+pub data BadRow (c : RowLists) : Answer → Type 0 where
   five : {j k : ℕ} → IsRow c j k → FineBefore c j k → Outside c j k → BadRow c (answer 5 j 0)
   six : {j k : ℕ} → IsRow c j k → FineBefore c j k → ¬ Outside c j k → NotAbove c j k → BadRow c (answer 6 j 0)
 
 abbrev pub jobConditions : List (Condition Job)
-jobConditions = (λ job. ColumnsOver (job .n)) ∷ MarkUnknown ∷ LimitOver ∷ (λ job. StartsBad (columns job)) ∷ (λ job. BadRow (columns job)) ∷ []
+jobConditions = (λ job. ColumnsOver (job .n)) ∷ MarkUnknown ∷ LimitOver ∷ (λ job. StartsBad (jobLists job)) ∷ (λ job. BadRow (jobLists job)) ∷ []
 
 -- ---- 7 to 10: lent slices, limit
 
 -- 7
 abbrev pub Short : ℕ → Condition Lent
 Short n lent a =
-    ((length (lent .parents) < n) ⊎ ((length (lent .order) < n) ⊎ ((length (lent .pops) < n) ⊎ ((length (lent .factorStarts) < n + 1) ⊎ (length (lent .work) < workLength n))))) × (a ≡ answer 7 0 0)
+    ((length (lent .parents) < n)
+    ⊎ ((length (lent .order) < n)
+    ⊎ ((length (lent .pops) < n)
+    ⊎ ((length (lent .factorStarts) < n + 1)
+    ⊎ (length (lent .work) < workLength n)))))
+    × (a ≡ answer 7 0 0)
 
 -- 8: so many rows are needed
 abbrev pub RowsExceed : ℕ → Condition Lent
@@ -150,19 +154,22 @@ analysisConditions =
 
 abbrev pub planConditions : List (Condition PlanCall)
 planConditions =
-    of (λ call. record { job = call .job; lent = call .slices .lent }) analysisConditions
+    of (λ call. record { job = call .job; lent = call .slices .analysis }) analysisConditions
     ++ ((λ call. BytesShort (planBytes (call .job) (planOf (call .job))) (call .slices .bytes)) ∷ [])
 
 -- ---- 11 to 15: the bytes of a plan
 
 -- byte p, counted from 1, is the key's
 abbrev pub Agrees : List ℕ → List ℕ → ℕ → Type 0
-Agrees key plan p = (p ≤ length plan) × (getD key (p - 1) 0 ≡ getD plan (p - 1) 0)
+Agrees key plan p = (p ≤ length plan) × (nth key p ≡ nth plan p)
 
 -- 11: the first byte that differs, or the one at which the plan has ended
 abbrev pub KeyDiffers : Condition CheckCall
 KeyDiffers call a =
-    (p : ℕ) × ((1 ≤ p) × (p ≤ length (keyOf (call .job)))) × (¬ Agrees (keyOf (call .job)) (call .plan) p) × ((k : ℕ) → 1 ≤ k → k < p → Agrees (keyOf (call .job)) (call .plan) k) × (a ≡ answer 11 p 0)
+    (p : ℕ) × ((1 ≤ p) × (p ≤ length (keyOf (call .job))))
+    × (¬ Agrees (keyOf (call .job)) (call .plan) p)
+    × ((k : ℕ) → 1 ≤ k → k < p → Agrees (keyOf (call .job)) (call .plan) k)
+    × (a ≡ answer 11 p 0)
 
 -- ---- 12 to 15: reading, number by number
 
@@ -235,14 +242,14 @@ following n nothing v = nothing
 pub data Reaches (n : ℕ) (s : List ℕ) (from : ℕ) : Field → ℕ → Type 0 where
   begin : Reaches n s from (fromStep n n) from
   next : {x : Field} {at v to : ℕ} → Reaches n s from x at → x ≢ nothing
-      → readNumber s at ≡ Value v to → low x ≤ v → v ≤ high n x → Reaches n s from (following n x v) to
+      → Stands s at (Value v to) → low x ≤ v → v ≤ high n x → Reaches n s from (following n x v) to
 
 -- 12, 13, 14 of the first number at fault, at the byte where it starts; 15 at the first byte after the peak
 pub data BadPlan (n : ℕ) (s : List ℕ) (from : ℕ) : Answer → Type 0 where
-  twelve : {x : Field} {at : ℕ} → Reaches n s from x at → x ≢ nothing → readNumber s at ≡ Ended → BadPlan n s from (answer 12 (at + 1) 0)
-  thirteen : {x : Field} {at : ℕ} → Reaches n s from x at → x ≢ nothing → (readNumber s at ≡ TooLong) ⊎ (readNumber s at ≡ NotShortest)
+  twelve : {x : Field} {at : ℕ} → Reaches n s from x at → x ≢ nothing → Stands s at Ended → BadPlan n s from (answer 12 (at + 1) 0)
+  thirteen : {x : Field} {at : ℕ} → Reaches n s from x at → x ≢ nothing → Stands s at TooLong ⊎ Stands s at NotShortest
       → BadPlan n s from (answer 13 (at + 1) 0)
-  fourteen : {x : Field} {at v to : ℕ} → Reaches n s from x at → x ≢ nothing → readNumber s at ≡ Value v to → (v < low x) ⊎ (high n x < v)
+  fourteen : {x : Field} {at v to : ℕ} → Reaches n s from x at → x ≢ nothing → Stands s at (Value v to) → (v < low x) ⊎ (high n x < v)
       → BadPlan n s from (answer 14 (at + 1) 0)
   fifteen : {at : ℕ} → Reaches n s from nothing at → at < length s → BadPlan n s from (answer 15 (at + 1) 0)
 
@@ -273,7 +280,7 @@ Faulty job plan s = ¬ Together (parent (pattern job)) (columnsIn (plan .steps))
 
 -- 19: the pops of step s are not its column's number of children
 abbrev pub PopsWrong : Job → Plan → ℕ → Type 0
-PopsWrong job plan s = getD (popsIn (plan .steps)) (s - 1) 0 ≢ popsOf (job .n) (pattern job) (columnAt (columnsIn (plan .steps)) s)
+PopsWrong job plan s = nth (popsIn (plan .steps)) s ≢ popsOf (job .n) (pattern job) (columnAt (columnsIn (plan .steps)) s)
 
 -- a condition that is given at the least step or column of the plan
 abbrev pub leastPlaced : ℕ → (Job → Plan → ℕ → Type 0) → Condition CheckCall
@@ -304,19 +311,12 @@ checkConditions =
 abbrev pub RunShort : Condition RunCall
 RunShort call a = ((length (call .columns) < call .n) ⊎ ((length (call .pops) < call .n) ⊎ (length (call .stack) < call .n))) × (a ≡ answer 7 0 0)
 
--- the column of step s, and the columns whose updates it finds held
-abbrev pub stepColumn : RunCall → ℕ → ℕ
-stepColumn call s = columnAt (call .columns) s
-
-abbrev pub heldAt : RunCall → ℕ → List ℕ
-heldAt call s = stateAfter call (s - 1) .held
-
 abbrev pub Known : RunCall → ℕ → Type 0
 Known call s = (1 ≤ stepColumn call s) × (stepColumn call s ≤ call .n)
 
 -- every popped row stands in the front
 abbrev pub AllFit : RunCall → ℕ → Type 0
-AllFit call s = (u i : ℕ) → u ∈ take (popsAt call s) (heldAt call s) → i ∈ rowsIn call u → i ∈ (stepColumn call s ∷ rowsIn call (stepColumn call s))
+AllFit call s = (u i : ℕ) → u ∈ take (popsAt call s) (heldAt call s) → i ∈ rowsIn call u → i ∈ frontIn call (stepColumn call s)
 
 -- the fault of step s, the steps before it done, in the order tested
 pub data BadStep (call : RunCall) (s : ℕ) : ℕ → Type 0 where
@@ -328,17 +328,20 @@ pub data BadStep (call : RunCall) (s : ℕ) : ℕ → Type 0 where
 -- 14, 21, 22, 23: the first step at fault, with the greatest room in use of the steps before it
 abbrev pub StepBad : Condition RunCall
 StepBad call a =
-    (s number : ℕ) × ((1 ≤ s) × (s ≤ call .n)) × BadStep call s number × ((k m : ℕ) → 1 ≤ k → k < s → ¬ BadStep call k m) × (a ≡ answer number s (stateAfter call (s - 1) .greatest))
+    (s number : ℕ) × ((1 ≤ s) × (s ≤ call .n))
+    × BadStep call s number
+    × ((k m : ℕ) → 1 ≤ k → k < s → ¬ BadStep call k m)
+    × (a ≡ answer number s (stateAfter call (s - 1) .greatest))
 
 -- 24
 abbrev pub UpdatesLeft : Condition RunCall
 UpdatesLeft call a = (0 < length (stateAfter call (call .n) .held)) × (a ≡ answer 24 (call .n) (stateAfter call (call .n) .greatest))
 
-abbrev pub runColumns : RunCall → Columns
-runColumns call = record { n = call .n; starts = call .starts; rows = call .rows }
+abbrev pub runLists : RunCall → RowLists
+runLists call = record { n = call .n; starts = call .starts; rows = call .rows }
 
 abbrev pub runConditions : List (Condition RunCall)
-runConditions = (λ call. ColumnsOver (call .n)) ∷ (λ call. StartsBad (runColumns call)) ∷ (λ call. BadRow (runColumns call)) ∷ RunShort ∷ StepBad ∷ UpdatesLeft ∷ []
+runConditions = (λ call. ColumnsOver (call .n)) ∷ (λ call. StartsBad (runLists call)) ∷ (λ call. BadRow (runLists call)) ∷ RunShort ∷ StepBad ∷ UpdatesLeft ∷ []
 
 -- ---- 25 to 27: the job text, and the solver's call
 
@@ -367,7 +370,10 @@ pub data BadLine (text : List ℕ) (j : ℕ) : ℕ → Type 0 where
 
 abbrev pub LineBad : Condition Input
 LineBad input a =
-    (j number : ℕ) × ((1 ≤ j) × (j ≤ textHead (input .text) .n)) × BadLine (input .text) j number × ((k m : ℕ) → 1 ≤ k → k < j → ¬ BadLine (input .text) k m) × (a ≡ answer number (suc j) 0)
+    (j number : ℕ) × ((1 ≤ j) × (j ≤ textHead (input .text) .n))
+    × BadLine (input .text) j number
+    × ((k m : ℕ) → 1 ≤ k → k < j → ¬ BadLine (input .text) k m)
+    × (a ≡ answer number (suc j) 0)
 
 -- text after the last row line
 abbrev pub TextAfter : Condition Input

@@ -19,12 +19,16 @@ unfoldable pub gather : ℕ → List (List ℕ) → List ℕ → List ℕ
 gather j [] acc = acc
 gather j (l ∷ ls) acc = elim (member j l) [ true ↦ merge (keep (ltb j) l) (gather j ls acc) | false ↦ gather j ls acc ]
 
--- the lists of the columns j, j - 1, .., 1: each from its pattern rows and every earlier list that holds its number
+-- the list of column j: its pattern rows, and those of every earlier list that holds its number
+abbrev pub listFrom : Pattern → ℕ → List (List ℕ) → List ℕ
+listFrom A j earlier = gather j earlier (A j)
+
+-- the lists of the columns j, j - 1, .., 1
 unfoldable pub lists : Pattern → ℕ → List (List ℕ)
 lists A zero = []
-lists A (suc j) = let earlier = lists A j in gather (suc j) earlier (A (suc j)) ∷ earlier
+lists A (suc j) = let earlier = lists A j in listFrom A (suc j) earlier ∷ earlier
 
 -- R(j): the filled rows of column j, ascending
 unfoldable pub R : Pattern → ℕ → List ℕ
 R A zero = []
-R A (suc j) = gather (suc j) (lists A j) (A (suc j))
+R A (suc j) = listFrom A (suc j) (lists A j)

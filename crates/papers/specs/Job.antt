@@ -1,11 +1,10 @@
 -- A job, and its pattern.
 -- Assumes nothing.
-use Prim.Native.Nat.{ℕ, suc, _-_, _≤_}
+use Prim.Native.Nat.{ℕ, suc, _≤_}
 use mathlib.Core.Path.{_≡_}
 use mathlib.Core.List.{List, []}
-use lib.ListN.{getD}
 use lib.Seq.{slice}
-use Rattle.papers.specs.Lists.{_∈_, Asc}
+use Rattle.papers.specs.Lists.{_∈_, Asc, nth}
 use Rattle.papers.specs.declared.JobHead.{JobHead}
 
 -- n, the start numbers, the rows strictly below the diagonal, the sibling mark, the room limit
@@ -26,7 +25,7 @@ Pattern = ℕ → List ℕ
 
 -- the starts counted from 1; one that is not there reads as 0, so that a column past the last start is empty
 unfoldable pub start : List ℕ → ℕ → ℕ
-start starts k = getD starts (k - 1) 0
+start starts k = nth starts k
 
 -- the rows between start j and start j + 1 are column j's
 unfoldable pub columnOf : List ℕ → List ℕ → Pattern

@@ -4,7 +4,7 @@ use Prim.Native.Nat.{ℕ, zero, suc, _+_, _-_, _<_, max}
 use mathlib.Core.Bool.{Bool, true, false}
 use mathlib.Core.List.{List, [], _∷_, _++_, List·Memᴰ}
 use lib.Dec.{ltb, eqb}
-use lib.ListN.{length, replicate}
+use lib.ListN.{length, getD, replicate}
 
 infix 40 _∈_
 -- i stands in the list
@@ -25,6 +25,10 @@ Distinct (x ∷ xs) = (¬ (x ∈ xs)) × Distinct xs
 unfoldable pub upTo : ℕ → List ℕ
 upTo zero = []
 upTo (suc n) = upTo n ++ (suc n ∷ [])
+
+-- number k of a list, counted from 1; 0 where there is none
+abbrev pub nth : List ℕ → ℕ → ℕ
+nth l k = getD l (k - 1) 0
 
 -- the first number; 0 of an empty list
 unfoldable pub head0 : List ℕ → ℕ

@@ -34,15 +34,15 @@ over low NotShortest = NotShortest
 
 -- a last group b that stands at `at`: 0 is one only where it is the first
 unfoldable pub lastGroup : Bool → ℕ → ℕ → Number
-lastGroup first zero at = elim first [ true ↦ Value 0 (at + 1) | false ↦ NotShortest ]
-lastGroup first (suc b) at = Value (suc b) (at + 1)
+lastGroup isFirst zero at = elim isFirst [ true ↦ Value 0 (at + 1) | false ↦ NotShortest ]
+lastGroup isFirst (suc b) at = Value (suc b) (at + 1)
 
 -- the number whose groups stand from `at` on: k more may come; whether the next is its first
 unfoldable pub readFrom : ℕ → Bool → List ℕ → ℕ → Number
-readFrom zero first s at = elim (ltb at (length s)) [ true ↦ TooLong | false ↦ Ended ]
-readFrom (suc k) first s at =
+readFrom zero isFirst s at = elim (ltb at (length s)) [ true ↦ TooLong | false ↦ Ended ]
+readFrom (suc k) isFirst s at =
     elim (ltb at (length s)) [
-      | true ↦ elim (ltb (getD s at 0) 128) [ true ↦ lastGroup first (getD s at 0) at | false ↦ over (getD s at 0 - 128) (readFrom k false s (at + 1)) ]
+      | true ↦ elim (ltb (getD s at 0) 128) [ true ↦ lastGroup isFirst (getD s at 0) at | false ↦ over (getD s at 0 - 128) (readFrom k false s (at + 1)) ]
       | false ↦ Ended
     ]
 

@@ -3,8 +3,8 @@
 use Prim.Native.Nat.{ℕ, zero, suc, _-_, _≤_}
 use mathlib.Core.Logic.{_↔_}
 use mathlib.Core.List.{List, [], _∷_, _++_, flatMap}
-use lib.ListN.{length, getD}
-use Rattle.papers.specs.Lists.{_∈_, Distinct, sort}
+use lib.ListN.{length}
+use Rattle.papers.specs.Lists.{_∈_, Distinct, nth, sort}
 use Rattle.papers.specs.Job.{Pattern}
 use Rattle.papers.specs.Tree.{t, parent, rowCount, children, Under}
 use Rattle.papers.specs.Room.{rooms, peakOf}
@@ -13,12 +13,12 @@ use Rattle.papers.specs.Room.{rooms, peakOf}
 
 -- the column of step s, the steps counted from 1
 unfoldable pub columnAt : List ℕ → ℕ → ℕ
-columnAt order s = getD order (s - 1) 0
+columnAt order s = nth order s
 
 -- the subtree whose top is done at step s takes consecutive steps, s the last of them
 pub record Together (par : ℕ → ℕ) (order : List ℕ) (s : ℕ) : Type 0 where
-  pub first : ℕ
-  pub steps : (k : ℕ) → 1 ≤ k → k ≤ length order → Under par (columnAt order s) (columnAt order k) ↔ ((first ≤ k) × (k ≤ s))
+  pub from : ℕ
+  pub steps : (k : ℕ) → 1 ≤ k → k ≤ length order → Under par (columnAt order s) (columnAt order k) ↔ ((from ≤ k) × (k ≤ s))
 
 -- an order of the columns 1 to n: each once, each subtree in consecutive steps, its top last
 pub record Ordered (par : ℕ → ℕ) (n : ℕ) (order : List ℕ) : Type 0 where
@@ -36,14 +36,14 @@ siblingKey zero above rows W = 0
 siblingKey (suc zero) above rows W = W - t rows
 siblingKey (suc (suc m)) above rows W = t rows
 
-module _ (mark : ℕ) (size : ℕ → ℕ) (kids : ℕ → List ℕ) where
-  -- W of a column whose subtree takes these steps: their peak, done alone
-  unfoldable pub alone : List ℕ → ℕ
-  alone steps = peakOf size (λ j. length (kids j)) steps
+-- W of a column whose subtree takes these steps: their peak, done alone
+unfoldable pub alone : (ℕ → ℕ) → (ℕ → List ℕ) → List ℕ → ℕ
+alone size kids steps = peakOf size (λ j. length (kids j)) steps
 
+module _ (mark : ℕ) (size : ℕ → ℕ) (kids : ℕ → List ℕ) where
   -- the children of j in the mark's order, ties by the lower number; `steps c` are the steps of c's subtree
   unfoldable pub arranged : (ℕ → List ℕ) → ℕ → List ℕ
-  arranged steps j = sort (λ c. siblingKey mark (size j) (size c) (alone (steps c))) (kids j)
+  arranged steps j = sort (λ c. siblingKey mark (size j) (size c) (alone size kids (steps c))) (kids j)
 
   -- the steps of j's subtree, at most f columns deep: its children's subtrees, then j
   unfoldable pub stepsOf : ℕ → ℕ → List ℕ
@@ -62,7 +62,7 @@ popsOf n A j = length (kidsOf n A j)
 
 -- W(j): the peak of j's subtree done alone, in its order
 unfoldable pub W : ℕ → ℕ → Pattern → ℕ → ℕ
-W mark n A j = alone mark (rowCount A) (kidsOf n A) (stepsOf mark (rowCount A) (kidsOf n A) n j)
+W mark n A j = alone (rowCount A) (kidsOf n A) (stepsOf mark (rowCount A) (kidsOf n A) n j)
 
 -- the order: the subtrees of the roots, ascending. A parent is above its children, so n columns are deep enough.
 unfoldable pub orderOf : ℕ → ℕ → Pattern → List ℕ

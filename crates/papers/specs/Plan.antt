@@ -105,4 +105,7 @@ atEnd a s at = elim (ltb at (length s)) [ true ↦ bad 15 (at + 1) | false ↦ g
 -- the plan behind a key that ends at `at`: steps, lists, peak 0..2^40, the end
 unfoldable pub readPlan : ℕ → List ℕ → ℕ → Read Plan
 readPlan n s at =
-    then (readSteps n n s at) λ steps at. then (readLists n 1 n s at) λ lists at. then (field 0 maxPeak s at) λ peak at. atEnd (record { steps = steps; lists = lists; peak = peak }) s at
+    then (readSteps n n s at) λ steps at.
+    then (readLists n 1 n s at) λ lists at.
+    then (field 0 maxPeak s at) λ peak at.
+    atEnd (record { steps = steps; lists = lists; peak = peak }) s at

@@ -109,7 +109,13 @@ rowsTest n starts rows =
 
 -- the tests of a job, in order
 unfoldable pub jobTests : List (Job → Verdict)
-jobTests = (λ job. columnsTest (job .n)) ∷ markTest ∷ limitTest ∷ (λ job. startsTest (job .n) (job .starts) (job .rows)) ∷ (λ job. rowsTest (job .n) (job .starts) (job .rows)) ∷ []
+jobTests =
+    (λ job. columnsTest (job .n))
+    ∷ markTest
+    ∷ limitTest
+    ∷ (λ job. startsTest (job .n) (job .starts) (job .rows))
+    ∷ (λ job. rowsTest (job .n) (job .starts) (job .rows))
+    ∷ []
 
 -- ---- lent slices
 
@@ -125,17 +131,37 @@ pub record Lent : Type 0 where
 -- all of each lent slice zero
 unfoldable pub allZero : Lent → Lent
 allZero lent =
-    record { parents = zeros (lent .parents); order = zeros (lent .order); pops = zeros (lent .pops); factorStarts = zeros (lent .factorStarts); factorRows = zeros (lent .factorRows); work = zeros (lent .work) }
+    record {
+      parents = zeros (lent .parents);
+      order = zeros (lent .order);
+      pops = zeros (lent .pops);
+      factorStarts = zeros (lent .factorStarts);
+      factorRows = zeros (lent .factorRows);
+      work = zeros (lent .work);
+    }
 
 -- done: each output has its part of the result and zeros behind it, and work is cleared
 unfoldable pub holding : List ℕ → List ℕ → List ℕ → List ℕ → List ℕ → Lent → Lent
 holding parents order pops starts rows lent =
-    record { parents = thenZeros parents (lent .parents); order = thenZeros order (lent .order); pops = thenZeros pops (lent .pops); factorStarts = thenZeros starts (lent .factorStarts); factorRows = thenZeros rows (lent .factorRows); work = zeros (lent .work) }
+    record {
+      parents = thenZeros parents (lent .parents);
+      order = thenZeros order (lent .order);
+      pops = thenZeros pops (lent .pops);
+      factorStarts = thenZeros starts (lent .factorStarts);
+      factorRows = thenZeros rows (lent .factorRows);
+      work = zeros (lent .work);
+    }
 
 -- 7: some lent slice is shorter than n columns ask
 unfoldable pub lengthsTest : ℕ → Lent → Verdict
 lengthsTest n lent =
-    refusedIf (ltb (length (lent .parents)) n || ltb (length (lent .order)) n || ltb (length (lent .pops)) n || ltb (length (lent .factorStarts)) (n + 1) || ltb (length (lent .work)) (workLength n)) (answer 7 0 0) untouched
+    refusedIf
+    (ltb (length (lent .parents)) n
+    || ltb (length (lent .order)) n
+    || ltb (length (lent .pops)) n
+    || ltb (length (lent .factorStarts)) (n + 1)
+    || ltb (length (lent .work)) (workLength n))
+    (answer 7 0 0) untouched
 
 -- 8: factor rows exceed the lent slice
 unfoldable pub factorRowsTest : ℕ → Lent → Verdict

@@ -4,8 +4,8 @@ use Prim.Native.Nat.{ℕ, zero, suc, _-_, max}
 use mathlib.Core.Bool.{Bool, true, false, _&&_, _||_}
 use mathlib.Core.List.{List, [], _∷_, map}
 use lib.Dec.{ltb, leb}
-use lib.ListN.{length, getD, take, drop}
-use Rattle.papers.specs.Lists.{member, every, least, zeros}
+use lib.ListN.{length, take, drop}
+use Rattle.papers.specs.Lists.{nth, member, every, least, zeros}
 use Rattle.papers.specs.Job.{columnOf}
 use Rattle.papers.specs.Tree.{t}
 use Rattle.papers.specs.Room.{roomAt}
@@ -32,9 +32,16 @@ module _ (call : RunCall) where
   unfoldable pub rowsIn : ℕ → List ℕ
   rowsIn c = columnOf (call .starts) (call .rows) c
 
-  -- the pops of step s
+  -- the front of column c: c, then its rows
+  abbrev pub frontIn : ℕ → List ℕ
+  frontIn c = c ∷ rowsIn c
+
+  -- the column of step s, and its pops
+  abbrev pub stepColumn : ℕ → ℕ
+  stepColumn s = columnAt (call .columns) s
+
   unfoldable pub popsAt : ℕ → ℕ
-  popsAt s = getD (call .pops) (s - 1) 0
+  popsAt s = nth (call .pops) s
 
   -- the entries of each update held
   unfoldable pub entries : List ℕ → List ℕ
@@ -42,17 +49,17 @@ module _ (call : RunCall) where
 
   -- room in use at step s
   unfoldable pub roomIn : ℕ → State → ℕ
-  roomIn s state = roomAt (popsAt s) (length (rowsIn (columnAt (call .columns) s))) (entries (state .held))
+  roomIn s state = roomAt (popsAt s) (length (rowsIn (stepColumn s))) (entries (state .held))
 
   -- every row of every popped update stands in the front of c
   unfoldable pub fits : ℕ → List ℕ → Bool
-  fits c popped = every (λ u. every (λ i. member i (c ∷ rowsIn c)) (rowsIn u)) popped
+  fits c popped = every (λ u. every (λ i. member i (frontIn c)) (rowsIn u)) popped
 
   -- the fault of step s: 14 column not in 1..n; 21 pops more than held; 22 a popped row outside the front; 23 room in use over the room given;
   -- 0 for none
   unfoldable pub stepFault : ℕ → State → ℕ
   stepFault s state =
-      let c = columnAt (call .columns) s in
+      let c = stepColumn s in
       elim (leb 1 c && leb c (call .n)) [
         | false ↦ 14
         | true ↦ elim (ltb (length (state .held)) (popsAt s)) [
@@ -71,12 +78,16 @@ module _ (call : RunCall) where
   -- what step s makes of the state
   unfoldable pub stepped : ℕ → State → State
   stepped s state =
-      record { held = pushed (columnAt (call .columns) s) (drop (popsAt s) (state .held)); greatest = max (state .greatest) (roomIn s state) }
+      record { held = pushed (stepColumn s) (drop (popsAt s) (state .held)); greatest = max (state .greatest) (roomIn s state) }
 
   -- after the first s steps
   unfoldable pub stateAfter : ℕ → State
   stateAfter zero = record { held = []; greatest = 0 }
   stateAfter (suc s) = stepped (suc s) (stateAfter s)
+
+  -- the columns whose updates step s finds held
+  abbrev pub heldAt : ℕ → List ℕ
+  heldAt s = stateAfter (s - 1) .held
 
   -- the fault of step s, the steps before it done
   unfoldable pub faultAt : ℕ → ℕ

@@ -26,4 +26,12 @@ pub record Sound (job : Job) (plan : Plan) : Type 0 where
 unfoldable pub handedOn : ℕ → Lent → ℕ → List ℕ → RunCall
 handedOn n lent room stack =
     let starts = take (n + 1) (lent .factorStarts) in
-    record { n = n; starts = starts; rows = take (start starts (suc n)) (lent .factorRows); columns = take n (lent .order); pops = take n (lent .pops); room = room; stack = stack }
+    record {
+      n = n;
+      starts = starts;
+      rows = take (start starts (suc n)) (lent .factorRows);
+      columns = take n (lent .order);
+      pops = take n (lent .pops);
+      room = room;
+      stack = stack;
+    }

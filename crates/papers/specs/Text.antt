@@ -211,7 +211,14 @@ listingOf job peak =
 -- the program's zeroed buffers
 unfoldable pub buffers : Lent
 buffers =
-    record { parents = replicate programColumns 0; order = replicate programColumns 0; pops = replicate programColumns 0; factorStarts = replicate (programColumns + 1) 0; factorRows = replicate programFactorRows 0; work = replicate (workLength programColumns) 0 }
+    record {
+      parents = replicate programColumns 0;
+      order = replicate programColumns 0;
+      pops = replicate programColumns 0;
+      factorStarts = replicate (programColumns + 1) 0;
+      factorRows = replicate programFactorRows 0;
+      work = replicate (workLength programColumns) 0;
+    }
 
 -- the listing of a job, or the line of its refusal
 unfoldable pub jobPrinted : Job → Answer → List ℕ

@@ -62,7 +62,7 @@ holds (order job columns) = same (analysed job (lentFor (job .n)) .lent .order) 
 holds (fill job j at rows) =
     same (R (pattern job) j) rows && same (take (length rows) (drop at (analysed job (lentFor (job .n)) .lent .factorRows))) rows
 holds (plan job bytes) =
-    let written = planWritten job (record { lent = lentFor (job .n); bytes = replicate (length bytes + 3) 7 }) in
+    let written = planWritten job (record { analysis = lentFor (job .n); bytes = replicate (length bytes + 3) 7 }) in
     sameAnswer (written .answer) (answer 0 0 (length bytes)) && same (written .lent .bytes) (bytes ++ (0 ∷ 0 ∷ 0 ∷ []))
 holds (prints text out) = same (programPrints (record { text = text; more = false })) out
 holds (check job bytes a) = sameAnswer (checked job bytes (lentFor (job .n)) .answer) a

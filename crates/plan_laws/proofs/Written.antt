@@ -44,9 +44,9 @@ module _ (job : Job) (slices : PlanLent) (done : planWritten job slices .answer 
   written-is = write-plan-exactly call .when-done done
 
   -- the slices hold the plan of the job
-  pub written-holds : planWritten job slices .lent .lent ≡ holdingPlan job (planOf job) (slices .lent)
+  pub written-holds : planWritten job slices .lent .analysis ≡ holdingPlan job (planOf job) (slices .analysis)
   unfolding planDone
-  written-holds = ap (λ (o : Outcome PlanLent). o .lent .lent) written-is
+  written-holds = ap (λ (o : Outcome PlanLent). o .lent .analysis) written-is
 
   -- the part that holds its bytes
   part-is : take (planWritten job slices .answer .count) (planWritten job slices .lent .bytes) ≡ planBytes job (planOf job)

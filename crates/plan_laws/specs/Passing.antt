@@ -34,7 +34,7 @@ pub record GivesBack (job : Job) (slices : PlanLent) (lent : Lent) : Type 0 wher
   pub plan : Plan
   pub written : planWritten job slices ≡ record {
     answer = answer 0 0 (length (planBytes job plan));
-    lent = record { lent = holdingPlan job plan (slices .lent); bytes = thenZeros (planBytes job plan) (slices .bytes) };
+    lent = record { analysis = holdingPlan job plan (slices .analysis); bytes = thenZeros (planBytes job plan) (slices .bytes) };
   }
   pub checked-again : checked job (take (planWritten job slices .answer .count) (planWritten job slices .lent .bytes)) lent
       ≡ record { answer = answer 0 0 (plan .peak); lent = holdingPlan job plan lent }

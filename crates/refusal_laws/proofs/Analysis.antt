@@ -53,7 +53,7 @@ analyse-exactly call = outcome-exactly analysisTests analysisDone allZero call (
 -- ---- a plan
 
 abbrev analysisOf : PlanCall → AnalysisCall
-analysisOf call = record { job = call .job; lent = call .slices .lent }
+analysisOf call = record { job = call .job; lent = call .slices .analysis }
 
 plan-agree : (call : PlanCall) → AgreeEach planTests planConditions call
 unfolding planTests

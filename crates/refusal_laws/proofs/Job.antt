@@ -14,7 +14,7 @@ use Rattle.papers.specs.Bounds.{maxColumns, maxMark, maxLimit}
 use Rattle.papers.specs.Lists.{least}
 use Rattle.papers.specs.Job.{Job, start}
 use Rattle.papers.specs.Refusals.{answer, untouched, Verdict, passed, refused, first, falls, columnsTest, markTest, limitTest, startsTest, jobTests}
-use Rattle.papers.specs.Conditions.{Columns, columns, jobConditions, Least, ColumnsOver, MarkUnknown, LimitOver, Falls, BadStarts, miscounted, not-zero, falls as falls-at, last, StartsBad}
+use Rattle.papers.specs.Conditions.{RowLists, jobLists, jobConditions, Least, ColumnsOver, MarkUnknown, LimitOver, Falls, BadStarts, miscounted, not-zero, falls as falls-at, last, StartsBad}
 use Rattle.list_laws.proofs.Leasts.{least-zero-iff}
 use Rattle.job_laws.proofs.Untouched.{Early, job-untouched}
 use Rattle.job_laws.proofs.Starts.{falls-false-iff, starts-few, starts-from, starts-fall, starts-end, starts-pass}
@@ -42,7 +42,7 @@ unfolding limitTest
 limit-agree job = agree-if _ _ untouched (below-iff maxLimit (job .limit))
 
 -- 4
-module _ (c : Columns) where
+module _ (c : RowLists) where
   falls-iff : (j : ℕ) → (falls (c .starts) j ≡ true) ↔ Falls (c .starts) j
   unfolding falls
   falls-iff j = below-iff (start (c .starts) (suc j)) (start (c .starts) j)
@@ -93,8 +93,8 @@ job-agree job =
     columns-agree (job .n)
     ▸ λ p. mark-agree job
     ▸ λ p. limit-agree job
-    ▸ λ p. starts-agree (columns job)
-    ▸ λ p. rows-agree (columns job)
+    ▸ λ p. starts-agree (jobLists job)
+    ▸ λ p. rows-agree (jobLists job)
     ▸ λ p. tt
 
 -- a refusal of 1 to 6 leaves what it must

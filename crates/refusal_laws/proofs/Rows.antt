@@ -10,7 +10,7 @@ use lib.ListN.{length, getD}
 use Rattle.papers.specs.declared.Answer.{Answer}
 use Rattle.papers.specs.Job.{columnOf}
 use Rattle.papers.specs.Refusals.{answer, untouched, rowFault, rowsFault, columnFault, rowsTest}
-use Rattle.papers.specs.Conditions.{Columns, Least, rowOf, IsRow, Outside, NotAbove, RowFine, FineBefore, BadRow, five, six}
+use Rattle.papers.specs.Conditions.{RowLists, Least, rowOf, IsRow, Outside, NotAbove, RowFine, FineBefore, BadRow, five, six}
 use Rattle.list_laws.proofs.Tests.{Compare, below, level, above, compare, below-or}
 use Rattle.job_laws.proofs.Rows.{row-low, row-over, row-falls, row-fine, rows-fault, rows-next}
 use Rattle.refusal_laws.proofs.Agreements.{Agree, agree-same}
@@ -73,7 +73,7 @@ module _ (n j : ℕ) where
       back h (fine q m) = absurd (omega (arith, m (h .0) (h .1), h .2))
       back h (fault k g q l x m) = meet k g q x m h (compare k (h .0))
 
-module _ (c : Columns) where
+module _ (c : RowLists) where
   -- the fault of row k of column j
   abbrev faultAt : ℕ → ℕ → ℕ
   faultAt j k = faultOf (c .n) j j (columnOf (c .starts) (c .rows) j) k

@@ -13,8 +13,8 @@ use borrow.Author.Tests.{ltb-false, leb-true, le-ltb, le-leb}
 use Rattle.papers.specs.Lists.{member, every, zeros}
 use Rattle.papers.specs.Order.{columnAt}
 use Rattle.papers.specs.Refusals.{answer, untouched, zeroed, first, refusedAt, columnsTest, startsTest, rowsTest}
-use Rattle.papers.specs.Run.{RunCall, rowsIn, popsAt, roomIn, fits, stepFault, stateAfter, faultAt, runLengthsTest, stepsTest, leftTest, runTests, runDone, ran}
-use Rattle.papers.specs.Conditions.{RunShort, stepColumn, heldAt, Known, AllFit, BadStep, unknown-column, too-many-pops, row-outside, over-room, StepBad, UpdatesLeft, runColumns, runConditions}
+use Rattle.papers.specs.Run.{RunCall, rowsIn, popsAt, roomIn, fits, stepFault, stateAfter, faultAt, runLengthsTest, stepsTest, leftTest, runTests, runDone, ran, stepColumn, heldAt}
+use Rattle.papers.specs.Conditions.{RunShort, Known, AllFit, BadStep, unknown-column, too-many-pops, row-outside, over-room, StepBad, UpdatesLeft, runLists, runConditions}
 use Rattle.list_laws.proofs.Tests.{Test, passes, fails, test, and-both}
 use Rattle.list_laws.proofs.Members.{member-true, member-into}
 use Rattle.order_laws.proofs.TogetherTest.{every-all}
@@ -127,8 +127,8 @@ run-agree : (call : RunCall) → AgreeEach runTests runConditions call
 unfolding runTests
 run-agree call =
     columns-agree (call .n)
-    ▸ λ p. starts-agree (runColumns call)
-    ▸ λ p. rows-agree (runColumns call)
+    ▸ λ p. starts-agree (runLists call)
+    ▸ λ p. rows-agree (runLists call)
     ▸ λ p. run-lengths-agree call
     ▸ λ p. steps-agree call
     ▸ λ p. left-agree call

@@ -41,7 +41,7 @@ module _ (job : Job) (stack : List ℕ) (long : job .n ≤ length stack) where
       }
 
   -- the lists of a plan that was written run as well
-  pub written-plan-runs : (slices : PlanLent) → planWritten job slices .answer .number ≡ 0 → RunsInPeak job (planWritten job slices .lent .lent) (planOf job .peak) stack
+  pub written-plan-runs : (slices : PlanLent) → planWritten job slices .answer .number ≡ 0 → RunsInPeak job (planWritten job slices .lent .analysis) (planOf job .peak) stack
   written-plan-runs slices done =
       let valid = written-valid job slices done in
-      rw (written-holds job slices done) (held-plan-runs (planOf job) (slices .lent) valid (planned-sound job valid (written-within job slices done)))
+      rw (written-holds job slices done) (held-plan-runs (planOf job) (slices .analysis) valid (planned-sound job valid (written-within job slices done)))

@@ -4,6 +4,7 @@
 use Prim.Native.Nat.{ℕ, zero, suc, _-_, _<_, _≤_}
 use mathlib.Core.Path.{_≡_, refl, ap}
 use mathlib.Core.Logic.{_⊎_, inl, inr}
+use mathlib.Core.List.{_∷_}
 use native.Mathlib.Omega.{arith}
 use lib.ListN.{length, length-map}
 use Rattle.papers.specs.declared.Answer.{Answer}
@@ -11,8 +12,8 @@ use Rattle.papers.specs.Lists.{zeros}
 use Rattle.papers.specs.Job.{Pattern}
 use Rattle.papers.specs.Order.{popsOf, peak}
 use Rattle.papers.specs.Refusals.{answer}
-use Rattle.papers.specs.Run.{RunCall, stateAfter, runDone, ran}
-use Rattle.papers.specs.Conditions.{ColumnsOver, StartsBad, BadRow, RunShort, BadStep, unknown-column, too-many-pops, row-outside, over-room, StepBad, UpdatesLeft, runColumns, runConditions, Answered, Unrefused}
+use Rattle.papers.specs.Run.{RunCall, stepColumn, stateAfter, runDone, ran}
+use Rattle.papers.specs.Conditions.{ColumnsOver, StartsBad, BadRow, RunShort, BadStep, unknown-column, too-many-pops, row-outside, over-room, StepBad, UpdatesLeft, runLists, runConditions, Answered, Unrefused}
 use Rattle.list_laws.proofs.Tests.{strong}
 use Rattle.job_laws.proofs.Passed.{lists-iff}
 use Rattle.refusal_laws.proofs.Agreements.{agree-passed-iff}
@@ -22,7 +23,7 @@ use Rattle.refusal_laws.proofs.Rows.{rows-agree}
 use Rattle.refusal_laws.proofs.Run.{run-exactly}
 use Rattle.run_laws.specs.Runs.{IsStep, roomUsed, Runs, LacksRoom}
 use Rattle.run_laws.specs.Follows.{Follows}
-use Rattle.run_laws.proofs.Factor.{lists-pass, columns-long}
+use Rattle.run_laws.proofs.Factor.{lists-pass, rows-in, columns-long}
 use Rattle.run_laws.proofs.Fronts.{step-known, step-held, step-popped, step-once, popped-fit, pattern-fit, front-only}
 use Rattle.run_laws.proofs.Rooms.{room-bound, room-reached, peak-step, greatest-peak, ends-empty}
 
@@ -32,11 +33,11 @@ module _ {A : Pattern} {call : RunCall} (f : Follows A call) where
   columns-few : (b : Answer) → ¬ ColumnsOver (call .n) b
   columns-few b k = omega (arith, k .0, f .few)
 
-  starts-fine : (b : Answer) → ¬ StartsBad (runColumns call) b
-  starts-fine = agree-passed-iff _ _ (starts-agree (runColumns call)) .0 (lists-iff (call .n) (call .starts) (call .rows) .1 (lists-pass f) .0)
+  starts-fine : (b : Answer) → ¬ StartsBad (runLists call) b
+  starts-fine = agree-passed-iff _ _ (starts-agree (runLists call)) .0 (lists-iff (call .n) (call .starts) (call .rows) .1 (lists-pass f) .0)
 
-  rows-fine : (b : Answer) → ¬ BadRow (runColumns call) b
-  rows-fine = agree-passed-iff _ _ (rows-agree (runColumns call)) .0 (lists-iff (call .n) (call .starts) (call .rows) .1 (lists-pass f) .1)
+  rows-fine : (b : Answer) → ¬ BadRow (runLists call) b
+  rows-fine = agree-passed-iff _ _ (rows-agree (runLists call)) .0 (lists-iff (call .n) (call .starts) (call .rows) .1 (lists-pass f) .1)
 
   slices-long : (b : Answer) → ¬ RunShort call b
   slices-long b k = go (k .0)
@@ -77,6 +78,8 @@ module _ {A : Pattern} {call : RunCall} (f : Follows A call) where
     pattern-placed = λ s i j m. pattern-fit f s j m;
     popped-placed = popped-fit f;
     nothing-else = front-only f;
+    fronts = λ s k. ap (λ rows. stepColumn call s ∷ rows) (rows-in f (stepColumn call s));
+    updates = rows-in f;
     room = room-bound f;
     reached = room-reached f;
     empty = ends-empty f;

@@ -14,8 +14,8 @@ use Rattle.papers.specs.Job.{Pattern}
 use Rattle.papers.specs.Fill.{R}
 use Rattle.papers.specs.Tree.{parent}
 use Rattle.papers.specs.Order.{kidsOf, popsOf}
-use Rattle.papers.specs.Run.{RunCall, rowsIn, popsAt, stateAfter}
-use Rattle.papers.specs.Conditions.{stepColumn, heldAt, Known, AllFit}
+use Rattle.papers.specs.Run.{RunCall, rowsIn, popsAt, stateAfter, stepColumn, heldAt}
+use Rattle.papers.specs.Conditions.{Known, AllFit}
 use Rattle.list_laws.proofs.Ascending.{drop-head}
 use Rattle.fill_laws.proofs.Fill.{R-pattern}
 use Rattle.fill_laws.proofs.Parents.{parent-least, hands-on}

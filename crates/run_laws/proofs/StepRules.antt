@@ -6,8 +6,7 @@ use mathlib.Core.Logic.{_≢_}
 use mathlib.Core.List.{List, [], _∷_}
 use native.Mathlib.Omega.{arith}
 use lib.ListN.{drop}
-use Rattle.papers.specs.Run.{RunCall, State, rowsIn, popsAt, entries, roomIn, pushed, stepped, stateAfter}
-use Rattle.papers.specs.Conditions.{stepColumn}
+use Rattle.papers.specs.Run.{RunCall, State, rowsIn, popsAt, entries, roomIn, pushed, stepped, stateAfter, stepColumn}
 use Rattle.run_laws.specs.Runs.{StepRule}
 
 module _ (call : RunCall) where

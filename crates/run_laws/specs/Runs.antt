@@ -7,15 +7,14 @@ use mathlib.Core.List.{List, [], _∷_, map}
 use lib.ListN.{length, take, drop}
 use Rattle.papers.specs.Lists.{_∈_, Distinct, flat, startsFrom, zeros}
 use Rattle.papers.specs.Job.{Job, Pattern, pattern}
-use Rattle.papers.specs.Tree.{t, parent}
+use Rattle.papers.specs.Tree.{t, parent, front, update}
 use Rattle.papers.specs.Room.{roomAt}
 use Rattle.papers.specs.Order.{Ordered}
 use Rattle.papers.specs.Plan.{Plan, columnsIn, popsIn, planBytes}
 use Rattle.papers.specs.Refusals.{answer, Lent}
 use Rattle.papers.specs.Check.{checked}
-use Rattle.papers.specs.Run.{RunCall, rowsIn, popsAt, roomIn, stateAfter, ran}
+use Rattle.papers.specs.Run.{RunCall, rowsIn, popsAt, roomIn, stateAfter, ran, frontIn, stepColumn, heldAt}
 use Rattle.papers.specs.Sound.{handedOn}
-use Rattle.papers.specs.Conditions.{stepColumn, heldAt}
 
 -- the run of a plan's own lists
 abbrev pub planRun : ℕ → Plan → ℕ → List ℕ → RunCall
@@ -32,7 +31,7 @@ poppedAt call s = take (popsAt call s) (heldAt call s)
 
 -- the front of step s
 abbrev pub frontAt : RunCall → ℕ → List ℕ
-frontAt call s = stepColumn call s ∷ rowsIn call (stepColumn call s)
+frontAt call s = frontIn call (stepColumn call s)
 
 -- room in use at step s
 abbrev pub roomUsed : RunCall → ℕ → ℕ
@@ -54,6 +53,9 @@ pub record Runs (A : Pattern) (peak : ℕ) (call : RunCall) : Type 0 where
   -- each step pops the updates of its column's children, and no others; each once
   pub popped : (s : ℕ) → IsStep call s → (x : ℕ) → (x ∈ poppedAt call s) ↔ (parent A x ≡ stepColumn call s)
   pub once : (s : ℕ) → IsStep call s → Distinct (poppedAt call s)
+  -- the lists are the pattern's: a column's front, and its update
+  pub fronts : (s : ℕ) → IsStep call s → frontAt call s ≡ front A (stepColumn call s)
+  pub updates : (x : ℕ) → rowsIn call x ≡ update A x
   -- every pattern row, and every popped row, has a place in the front
   pub pattern-placed : (s : ℕ) → IsStep call s → (i : ℕ) → i ∈ A (stepColumn call s) → i ∈ frontAt call s
   pub popped-placed : (s : ℕ) → IsStep call s → (x i : ℕ) → x ∈ poppedAt call s → i ∈ rowsIn call x → i ∈ frontAt call s

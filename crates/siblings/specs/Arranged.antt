@@ -73,7 +73,7 @@ pub record Family (mark : ℕ) (factor : List ℕ) (kids : ℕ → List ℕ) (n 
 
 -- the W of column j
 abbrev pub aloneIn : ℕ → List ℕ → (ℕ → List ℕ) → ℕ → ℕ → ℕ
-aloneIn mark factor kids n j = alone mark (rowsIn factor) kids (stepsOf mark (rowsIn factor) kids n j)
+aloneIn mark factor kids n j = alone (rowsIn factor) kids (stepsOf mark (rowsIn factor) kids n j)
 
 -- the children of j by the mark
 abbrev pub arrangedIn : ℕ → List ℕ → (ℕ → List ℕ) → ℕ → ℕ → List ℕ
