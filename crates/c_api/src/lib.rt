@@ -1,0 +1,50 @@
+// The entry points for C: a slice is a pointer and a length, the answer's number is the result, its place and count are stored. Each calls its
+// entry point and says what that says.
+ghost use mathlib.Core.Path.{_≡_};
+ghost use mathlib.Core.List.{List};
+ghost use Prim.Native.Nat.{ℕ};
+ghost use Rattle.papers.specs.Refusals.{answer, Outcome};
+ghost use Rattle.papers.specs.Analysis.{keyWritten};
+ghost use Rattle.papers.specs.Run.{ran};
+use papers::JobHead;
+
+// The key of a job in bytes: key::write_key.
+#[no_mangle]
+pub extern "C" fn ls_write_key(
+    n: u64,
+    starts: &[u64],
+    rows: &[u32],
+    mark: u64,
+    limit: u64,
+    bytes: &mut [u8],
+    place: &mut u64,
+    count: &mut u64,
+) -> u64
+    ensures { λ r. ⌜ _≡_ {A = Outcome (List ℕ)} (record { answer = answer r (now (place .exit)) (now (count .exit)); lent = now (bytes .exit) }) (keyWritten (record { n = n; starts = now (starts .entry); rows = now (rows .entry); mark = mark; limit = limit }) (now (bytes .entry))) ⌝ }
+{
+    let answered = key::write_key(JobHead { n, mark, limit }, starts, rows, bytes);
+    *place = answered.place;
+    *count = answered.count;
+    answered.number
+}
+
+// A run of steps on a stack: stack_run::run.
+#[no_mangle]
+pub extern "C" fn ls_run(
+    n: u64,
+    fstarts: &[u64],
+    frows: &[u32],
+    columns: &[u32],
+    pops: &[u32],
+    room: u64,
+    stack: &mut [u32],
+    place: &mut u64,
+    count: &mut u64,
+) -> u64
+    ensures { λ r. ⌜ _≡_ {A = Outcome (List ℕ)} (record { answer = answer r (now (place .exit)) (now (count .exit)); lent = now (stack .exit) }) (ran (record { n = n; starts = now (fstarts .entry); rows = now (frows .entry); columns = now (columns .entry); pops = now (pops .entry); room = room; stack = now (stack .entry) })) ⌝ }
+{
+    let answered = stack_run::run(n, fstarts, frows, columns, pops, room, stack);
+    *place = answered.place;
+    *count = answered.count;
+    answered.number
+}
