@@ -8,7 +8,7 @@ use mathlib.Core.List.{List}
 use lib.ListN.{length, getD}
 use Rattle.papers.specs.Bounds.{maxGroups}
 use Rattle.papers.specs.Numbers.{over, readFrom, readNumber}
-use Rattle.papers.specs.Conditions.{Stands, ended, long, longer, value}
+use Rattle.papers.specs.Conditions.{Stands, ended, too-long, not-shortest, value}
 use Rattle.papers.specs.declared.Number.{Number}
 use Rattle.list_laws.proofs.Tests.{true-false, below-or}
 use Rattle.bytes_laws.proofs.NumberReading.{read-end, read-long, read-last, read-more}
@@ -52,8 +52,8 @@ number-stands-iff s at x = (λ e. into (rw e at (read-standing maxGroups true s 
   where
     into : {x : Number} → Standing maxGroups true s at x → Stands s at x
     into (ends l h c) = ended l h c
-    into (goes-on h c) = long h c
-    into (zero-last {k = k} o l h c e) = longer (some o) l h c e
+    into (goes-on h c) = too-long h c
+    into (zero-last {k = k} o l h c e) = not-shortest (some o) l h c e
       where
         some : (true ≡ false) ⊎ (0 < k) → 0 < k
         some (inl e) = absurd (true-false refl e)
@@ -66,8 +66,8 @@ number-stands-iff s at x = (λ e. into (rw e at (read-standing maxGroups true s 
 
     out : {x : Number} → Stands s at x → Standing maxGroups true s at x
     out (ended l h c) = ends l h c
-    out (long h c) = goes-on h c
-    out (longer p l h c e) = zero-last (inr p) l h c e
+    out (too-long h c) = goes-on h c
+    out (not-shortest p l h c e) = zero-last (inr p) l h c e
     out (value {k = k} l h c b o) = last l h c b (first o)
       where
         first : (k ≡ 0) ⊎ (0 < getD s (at + k) 0) → ((true ≡ true) × (k ≡ 0)) ⊎ (0 < getD s (at + k) 0)

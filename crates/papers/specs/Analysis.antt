@@ -12,13 +12,16 @@ use Rattle.papers.specs.Refusals.{answer, Verdict, Outcome, outcome, job
 
 -- ---- a key: 1 to 6, then 10
 
+-- what is handed over for a key, and lent
 pub record KeyCall : Type 0 where
   pub job : Job
   pub bytes : List ℕ
 
+-- a job's, then 10
 unfoldable pub keyTests : List (KeyCall → Verdict)
 keyTests = map (λ test call. test (call .job)) jobTests ++ ((λ call. bytesTest (keyOf (call .job)) (call .bytes)) ∷ [])
 
+-- done: the count is the bytes written
 unfoldable pub keyDone : KeyCall → Outcome (List ℕ)
 keyDone call = let key = keyOf (call .job) in record { answer = answer 0 0 (length key); lent = thenZeros key (call .bytes) }
 
@@ -28,6 +31,7 @@ keyWritten job bytes = outcome keyTests keyDone zeros (record { job = job; bytes
 
 -- ---- an analysis: 1 to 9
 
+-- what is handed over for an analysis, and lent
 pub record AnalysisCall : Type 0 where
   pub job : Job
   pub lent : Lent
@@ -37,6 +41,7 @@ unfoldable pub holdingPlan : Job → Plan → Lent → Lent
 holdingPlan job plan lent =
     holding (map (parent (pattern job)) (upTo (job .n))) (columnsIn (plan .steps)) (popsIn (plan .steps)) (startsFrom 0 (plan .lists)) (flat (plan .lists)) lent
 
+-- a job's, then 7, 8, 9
 unfoldable pub analysisTests : List (AnalysisCall → Verdict)
 analysisTests =
     map (λ test call. test (call .job)) jobTests
@@ -45,6 +50,7 @@ analysisTests =
     ∷ (λ call. peakTest (call .job .limit) (planOf (call .job) .peak))
     ∷ [])
 
+-- done: the count is the peak
 unfoldable pub analysisDone : AnalysisCall → Outcome Lent
 analysisDone call = let plan = planOf (call .job) in record { answer = answer 0 0 (plan .peak); lent = holdingPlan (call .job) plan (call .lent) }
 
@@ -59,15 +65,18 @@ pub record PlanLent : Type 0 where
   pub analysis : Lent
   pub bytes : List ℕ
 
+-- what is handed over for a plan, and lent
 pub record PlanCall : Type 0 where
   pub job : Job
   pub slices : PlanLent
 
+-- an analysis's, then 10
 unfoldable pub planTests : List (PlanCall → Verdict)
 planTests =
     map (λ test call. test (record { job = call .job; lent = call .slices .analysis })) analysisTests
     ++ ((λ call. bytesTest (planBytes (call .job) (planOf (call .job))) (call .slices .bytes)) ∷ [])
 
+-- done: the count is the bytes written
 unfoldable pub planDone : PlanCall → Outcome PlanLent
 planDone call =
     let plan = planOf (call .job) in
@@ -77,6 +86,7 @@ planDone call =
       lent = record { analysis = holdingPlan (call .job) plan (call .slices .analysis); bytes = thenZeros written (call .slices .bytes) };
     }
 
+-- after 8, 9, 10: every slice zero
 unfoldable pub planZero : PlanLent → PlanLent
 planZero slices = record { analysis = allZero (slices .analysis); bytes = zeros (slices .bytes) }
 

@@ -32,6 +32,7 @@ readKey s =
     then (readLists n 1 n s at) λ lists at.
     atEnd (record { n = n; starts = startsFrom 0 lists; rows = flat lists; mark = mark; limit = limit }) s at
 
+-- the two byte strings of a call
 pub record SolverCall : Type 0 where
   pub key : List ℕ
   pub plan : List ℕ
@@ -40,7 +41,7 @@ pub record SolverCall : Type 0 where
 unfoldable pub readableTest : SolverCall → Verdict
 readableTest call = elim (readKey (call .key)) [ got job at ↦ passed | bad number place ↦ refused (answer 27 0 0) untouched ]
 
--- 26: more columns or pattern rows than the program's sizes
+-- 26: a readable key that is too large for the program's buffers
 unfoldable pub sizesTest : SolverCall → Verdict
 sizesTest call =
     elim (readKey (call .key)) [
@@ -48,6 +49,7 @@ sizesTest call =
       | bad number place ↦ passed
     ]
 
+-- 27, then 26
 unfoldable pub callTests : List (SolverCall → Verdict)
 callTests = readableTest ∷ sizesTest ∷ []
 

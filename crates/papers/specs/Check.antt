@@ -16,6 +16,7 @@ use Rattle.papers.specs.Plan.{Plan, columnsIn, popsIn, Read, got, bad, r
 use Rattle.papers.specs.Refusals.{answer, zeroed, Verdict, passed, refused, refusedIf, refusedAt, Outcome, outcome, jobTests, Lent, allZero, lengthsTest, factorRowsTest, peakTest}
 use Rattle.papers.specs.Analysis.{holdingPlan}
 
+-- what is handed over for a check, and lent
 pub record CheckCall : Type 0 where
   pub job : Job
   pub plan : List ℕ
@@ -39,14 +40,15 @@ readTest call = elim (planRead call) [ got plan at ↦ passed | bad number place
 
 -- ---- tests of a plan that was read
 
--- 16: column repeated in the order; the later of the two steps
+-- the column of step s stood at an earlier step
 unfoldable pub repeated : List ℕ → ℕ → Bool
 repeated order s = member (columnAt order s) (take (s - 1) order)
 
+-- 16, at the later step
 unfoldable pub repeatTest : Job → Plan → Verdict
 repeatTest job plan = refusedAt 16 (least (repeated (columnsIn (plan .steps))) (job .n)) 0 zeroed
 
--- 17: a list is not R(j); the least column
+-- 17: the lowest column whose list differs from R
 unfoldable pub listTest : Job → Plan → Verdict
 listTest job plan = refusedAt 17 (least (λ j. not (same (getD (plan .lists) (j - 1) []) (R (pattern job) j))) (job .n)) 0 zeroed
 
@@ -70,7 +72,7 @@ popsTest job plan =
 unfoldable pub truePeak : Job → Plan → ℕ
 truePeak job plan = peak (job .n) (pattern job) (columnsIn (plan .steps))
 
--- 20: declared peak is not the peak
+-- 20: the plan declares another peak than its order has; the count is the right one
 unfoldable pub declaredTest : Job → Plan → Verdict
 declaredTest job plan = let true-peak = truePeak job plan in refusedIf (not (eqb (plan .peak) true-peak)) (answer 20 0 true-peak) zeroed
 

@@ -66,6 +66,7 @@ pub record RowLists : Type 0 where
   pub starts : List ℕ
   pub rows : List ℕ
 
+-- those of a job
 abbrev pub jobLists : Job → RowLists
 jobLists job = record { n = job .n; starts = job .starts; rows = job .rows }
 
@@ -74,16 +75,17 @@ abbrev pub Falls : List ℕ → ℕ → Type 0
 Falls starts j = start starts (suc j) < start starts j
 
 -- 4 with its place: one after the other, and of the columns the lowest
-pub data BadStarts (c : RowLists) : ℕ → Type 0 where
-  miscounted : length (c .starts) ≢ c .n + 1 → BadStarts c 0
-  not-zero : length (c .starts) ≡ c .n + 1 → start (c .starts) 1 ≢ 0 → BadStarts c 0
+pub data StartsFault (c : RowLists) : ℕ → Type 0 where
+  miscounted : length (c .starts) ≢ c .n + 1 → StartsFault c 0
+  not-zero : length (c .starts) ≡ c .n + 1 → start (c .starts) 1 ≢ 0 → StartsFault c 0
   falls : {j : ℕ} → length (c .starts) ≡ c .n + 1 → start (c .starts) 1 ≡ 0
-      → 1 ≤ j → j ≤ c .n → Falls (c .starts) j → ((k : ℕ) → 1 ≤ k → k < j → ¬ Falls (c .starts) k) → BadStarts c j
+      → 1 ≤ j → j ≤ c .n → Falls (c .starts) j → ((k : ℕ) → 1 ≤ k → k < j → ¬ Falls (c .starts) k) → StartsFault c j
   last : length (c .starts) ≡ c .n + 1 → start (c .starts) 1 ≡ 0
-      → ((k : ℕ) → 1 ≤ k → k ≤ c .n → ¬ Falls (c .starts) k) → start (c .starts) (suc (c .n)) ≢ length (c .rows) → BadStarts c (c .n)
+      → ((k : ℕ) → 1 ≤ k → k ≤ c .n → ¬ Falls (c .starts) k) → start (c .starts) (suc (c .n)) ≢ length (c .rows) → StartsFault c (c .n)
 
-abbrev pub StartsBad : Condition RowLists
-StartsBad c a = (p : ℕ) × BadStarts c p × (a ≡ answer 4 p 0)
+-- 4
+abbrev pub BadStarts : Condition RowLists
+BadStarts c a = (p : ℕ) × StartsFault c p × (a ≡ answer 4 p 0)
 
 -- row k of column j, the rows of a column counted from 0
 abbrev pub rowOf : RowLists → ℕ → ℕ → ℕ
@@ -93,11 +95,11 @@ rowOf c j k = getD (columnOf (c .starts) (c .rows) j) k 0
 abbrev pub IsRow : RowLists → ℕ → ℕ → Type 0
 IsRow c j k = (1 ≤ j) × (j ≤ c .n) × (k < length (columnOf (c .starts) (c .rows) j))
 
--- not above its column, or over n
+-- 5: at most j, or more than n
 abbrev pub Outside : RowLists → ℕ → ℕ → Type 0
 Outside c j k = (rowOf c j k ≤ j) ⊎ (c .n < rowOf c j k)
 
--- not above the one before it
+-- 6: a row before it in the column is as great
 abbrev pub NotAbove : RowLists → ℕ → ℕ → Type 0
 NotAbove c j k = (0 < k) × (rowOf c j k ≤ rowOf c j (k - 1))
 
@@ -109,13 +111,14 @@ RowFine c j k = (¬ Outside c j k) × (¬ NotAbove c j k)
 abbrev pub FineBefore : RowLists → ℕ → ℕ → Type 0
 FineBefore c j k = ((j′ k′ : ℕ) → j′ < j → IsRow c j′ k′ → RowFine c j′ k′) × ((k′ : ℕ) → k′ < k → RowFine c j k′)
 
--- 5 and 6: the first faulty row in reading order; a row with both is 5
+-- 5 and 6, by the first row at fault as they are read; 6 only of a row that is not 5
 pub data BadRow (c : RowLists) : Answer → Type 0 where
   five : {j k : ℕ} → IsRow c j k → FineBefore c j k → Outside c j k → BadRow c (answer 5 j 0)
   six : {j k : ℕ} → IsRow c j k → FineBefore c j k → ¬ Outside c j k → NotAbove c j k → BadRow c (answer 6 j 0)
 
+-- 1, 2, 3, 4, then 5 or 6
 abbrev pub jobConditions : List (Condition Job)
-jobConditions = (λ job. ColumnsOver (job .n)) ∷ MarkUnknown ∷ LimitOver ∷ (λ job. StartsBad (jobLists job)) ∷ (λ job. BadRow (jobLists job)) ∷ []
+jobConditions = (λ job. ColumnsOver (job .n)) ∷ MarkUnknown ∷ LimitOver ∷ (λ job. BadStarts (jobLists job)) ∷ (λ job. BadRow (jobLists job)) ∷ []
 
 -- ---- 7 to 10: lent slices, limit
 
@@ -141,9 +144,11 @@ PeakOver limit peak a = (limit < peak) × (a ≡ answer 9 0 peak)
 abbrev pub BytesShort : List ℕ → Condition (List ℕ)
 BytesShort written bytes a = (length bytes < length written) × (a ≡ answer 10 0 (length written))
 
+-- a key: a job's, then 10
 abbrev pub keyConditions : List (Condition KeyCall)
 keyConditions = of (λ call. call .job) jobConditions ++ ((λ call. BytesShort (keyOf (call .job)) (call .bytes)) ∷ [])
 
+-- an analysis: a job's, then 7, 8, 9
 abbrev pub analysisConditions : List (Condition AnalysisCall)
 analysisConditions =
     of (λ call. call .job) jobConditions
@@ -152,6 +157,7 @@ analysisConditions =
     ∷ (λ call. PeakOver (call .job .limit) (planOf (call .job) .peak))
     ∷ [])
 
+-- a written plan: an analysis's, then 10
 abbrev pub planConditions : List (Condition PlanCall)
 planConditions =
     of (λ call. record { job = call .job; lent = call .slices .analysis }) analysisConditions
@@ -185,8 +191,8 @@ groupsValue s at (suc k) = getD s at 0 - 128 + 128 * groupsValue s (at + 1) k
 -- the number that starts at `at`: the bytes end inside it; it has more groups than six; its last of several groups is 0; or its value
 pub data Stands (s : List ℕ) (at : ℕ) : Number → Type 0 where
   ended : {k : ℕ} → k ≤ maxGroups → length s ≤ at + k → Continues s at k → Stands s at Ended
-  long : at + maxGroups < length s → Continues s at maxGroups → Stands s at TooLong
-  longer : {k : ℕ} → 0 < k → k < maxGroups → at + k < length s → Continues s at k → getD s (at + k) 0 ≡ 0 → Stands s at NotShortest
+  too-long : at + maxGroups < length s → Continues s at maxGroups → Stands s at TooLong
+  not-shortest : {k : ℕ} → 0 < k → k < maxGroups → at + k < length s → Continues s at k → getD s (at + k) 0 ≡ 0 → Stands s at NotShortest
   value : {k : ℕ} → k < maxGroups → at + k < length s → Continues s at k → getD s (at + k) 0 < 128
       → (k ≡ 0) ⊎ (0 < getD s (at + k) 0) → Stands s at (Value (groupsValue s at k) (at + k + 1))
 
@@ -200,7 +206,7 @@ pub data Field : Type 0 where
   peak : Field
   nothing : Field
 
--- the range of a field: column 1..n, pops 0..n−1, count 0..n−j, gap from 1 with the row at most n, peak 0..2^40
+-- the least value of a field: 1 for a column and a gap, else 0
 unfoldable pub low : Field → ℕ
 low (column k) = 1
 low (pops k) = 0
@@ -209,6 +215,7 @@ low (gap j b k) = 1
 low peak = 0
 low nothing = 0
 
+-- the greatest: n; one less for pops; for a count the columns after j; for a gap what leads to row n; the bound of a peak
 unfoldable pub high : ℕ → Field → ℕ
 high n (column k) = n
 high n (pops k) = n - 1
@@ -217,14 +224,16 @@ high n (gap j b k) = n - b
 high n peak = maxPeak
 high n nothing = 0
 
--- the next field: of the lists from column j on; of k more gaps behind row b of column j; of k more steps
+-- the next field where the lists from column j on are to come: a count, or the peak where there is no column j
 unfoldable pub fromList : ℕ → ℕ → Field
 fromList n j = elim (leb j n) [ true ↦ count j | false ↦ peak ]
 
+-- where k more gaps behind row b of column j are to come
 unfoldable pub fromGap : ℕ → ℕ → ℕ → ℕ → Field
 fromGap n j b zero = fromList n (suc j)
 fromGap n j b (suc k) = gap j b k
 
+-- where k more steps are to come
 unfoldable pub fromStep : ℕ → ℕ → Field
 fromStep n zero = fromList n 1
 fromStep n (suc k) = column k
@@ -245,20 +254,21 @@ pub data Reaches (n : ℕ) (s : List ℕ) (from : ℕ) : Field → ℕ → Type 
       → Stands s at (Value v to) → low x ≤ v → v ≤ high n x → Reaches n s from (following n x v) to
 
 -- 12, 13, 14 of the first number at fault, at the byte where it starts; 15 at the first byte after the peak
-pub data BadPlan (n : ℕ) (s : List ℕ) (from : ℕ) : Answer → Type 0 where
-  twelve : {x : Field} {at : ℕ} → Reaches n s from x at → x ≢ nothing → Stands s at Ended → BadPlan n s from (answer 12 (at + 1) 0)
+pub data PlanFault (n : ℕ) (s : List ℕ) (from : ℕ) : Answer → Type 0 where
+  twelve : {x : Field} {at : ℕ} → Reaches n s from x at → x ≢ nothing → Stands s at Ended → PlanFault n s from (answer 12 (at + 1) 0)
   thirteen : {x : Field} {at : ℕ} → Reaches n s from x at → x ≢ nothing → Stands s at TooLong ⊎ Stands s at NotShortest
-      → BadPlan n s from (answer 13 (at + 1) 0)
+      → PlanFault n s from (answer 13 (at + 1) 0)
   fourteen : {x : Field} {at v to : ℕ} → Reaches n s from x at → x ≢ nothing → Stands s at (Value v to) → (v < low x) ⊎ (high n x < v)
-      → BadPlan n s from (answer 14 (at + 1) 0)
-  fifteen : {at : ℕ} → Reaches n s from nothing at → at < length s → BadPlan n s from (answer 15 (at + 1) 0)
+      → PlanFault n s from (answer 14 (at + 1) 0)
+  fifteen : {at : ℕ} → Reaches n s from nothing at → at < length s → PlanFault n s from (answer 15 (at + 1) 0)
 
-abbrev pub PlanBad : Condition CheckCall
-PlanBad call = BadPlan (call .job .n) (call .plan) (length (keyOf (call .job)))
+-- 12 to 15, behind the key
+abbrev pub BadPlan : Condition CheckCall
+BadPlan call = PlanFault (call .job .n) (call .plan) (length (keyOf (call .job)))
 
 -- ---- 8 and 16 to 20: the plan that was read
 
--- a condition of the plan that the bytes hold
+-- a condition of the plan that the bytes hold; bytes_laws proves that it is the one whose bytes they are (`plan-bytes-iff`)
 abbrev pub ofRead : (CheckCall → Plan → Answer → Type 0) → Condition CheckCall
 ofRead K call a = (plan : Plan) × (at : ℕ) × (planRead call ≡ got plan at) × K call plan a
 
@@ -290,12 +300,13 @@ leastPlaced number P = ofRead (λ call plan a. (p : ℕ) × Least (P (call .job)
 abbrev pub PeakWrong : Condition CheckCall
 PeakWrong = ofRead (λ call plan a. (plan .peak ≢ truePeak (call .job) plan) × (a ≡ answer 20 0 (truePeak (call .job) plan)))
 
+-- a check: a job's, then 7, 11, 12 to 15, 8, 16 to 20, 9
 abbrev pub checkConditions : List (Condition CheckCall)
 checkConditions =
     of (λ call. call .job) jobConditions
     ++ ((λ call. Short (call .job .n) (call .lent))
     ∷ KeyDiffers
-    ∷ PlanBad
+    ∷ BadPlan
     ∷ ofRead (λ call plan. RowsExceed (length (flat (plan .lists))) (call .lent))
     ∷ leastPlaced 16 (λ job plan. Repeated (columnsIn (plan .steps)))
     ∷ leastPlaced 17 NotR
@@ -311,6 +322,7 @@ checkConditions =
 abbrev pub RunShort : Condition RunCall
 RunShort call a = ((length (call .columns) < call .n) ⊎ ((length (call .pops) < call .n) ⊎ (length (call .stack) < call .n))) × (a ≡ answer 7 0 0)
 
+-- step s names a column from 1 to n
 abbrev pub Known : RunCall → ℕ → Type 0
 Known call s = (1 ≤ stepColumn call s) × (stepColumn call s ≤ call .n)
 
@@ -319,29 +331,31 @@ abbrev pub AllFit : RunCall → ℕ → Type 0
 AllFit call s = (u i : ℕ) → u ∈ take (popsAt call s) (heldAt call s) → i ∈ rowsIn call u → i ∈ frontIn call (stepColumn call s)
 
 -- the fault of step s, the steps before it done, in the order tested
-pub data BadStep (call : RunCall) (s : ℕ) : ℕ → Type 0 where
-  unknown-column : ¬ Known call s → BadStep call s 14
-  too-many-pops : Known call s → length (heldAt call s) < popsAt call s → BadStep call s 21
-  row-outside : Known call s → popsAt call s ≤ length (heldAt call s) → ¬ AllFit call s → BadStep call s 22
-  over-room : Known call s → popsAt call s ≤ length (heldAt call s) → AllFit call s → call .room < roomIn call s (stateAfter call (s - 1)) → BadStep call s 23
+pub data StepFault (call : RunCall) (s : ℕ) : ℕ → Type 0 where
+  unknown-column : ¬ Known call s → StepFault call s 14
+  too-many-pops : Known call s → length (heldAt call s) < popsAt call s → StepFault call s 21
+  row-outside : Known call s → popsAt call s ≤ length (heldAt call s) → ¬ AllFit call s → StepFault call s 22
+  over-room : Known call s → popsAt call s ≤ length (heldAt call s) → AllFit call s → call .room < roomIn call s (stateAfter call (s - 1)) → StepFault call s 23
 
--- 14, 21, 22, 23: the first step at fault, with the greatest room in use of the steps before it
-abbrev pub StepBad : Condition RunCall
-StepBad call a =
+-- 14, 21, 22, 23 by the first step at fault; the count is what the state before it has as greatest
+abbrev pub BadStep : Condition RunCall
+BadStep call a =
     (s number : ℕ) × ((1 ≤ s) × (s ≤ call .n))
-    × BadStep call s number
-    × ((k m : ℕ) → 1 ≤ k → k < s → ¬ BadStep call k m)
+    × StepFault call s number
+    × ((k m : ℕ) → 1 ≤ k → k < s → ¬ StepFault call k m)
     × (a ≡ answer number s (stateAfter call (s - 1) .greatest))
 
 -- 24
 abbrev pub UpdatesLeft : Condition RunCall
 UpdatesLeft call a = (0 < length (stateAfter call (call .n) .held)) × (a ≡ answer 24 (call .n) (stateAfter call (call .n) .greatest))
 
+-- the factor's lists of a run
 abbrev pub runLists : RunCall → RowLists
 runLists call = record { n = call .n; starts = call .starts; rows = call .rows }
 
+-- a run: 1, 4, 5 or 6, 7, the steps, 24
 abbrev pub runConditions : List (Condition RunCall)
-runConditions = (λ call. ColumnsOver (call .n)) ∷ (λ call. StartsBad (runLists call)) ∷ (λ call. BadRow (runLists call)) ∷ RunShort ∷ StepBad ∷ UpdatesLeft ∷ []
+runConditions = (λ call. ColumnsOver (call .n)) ∷ (λ call. BadStarts (runLists call)) ∷ (λ call. BadRow (runLists call)) ∷ RunShort ∷ BadStep ∷ UpdatesLeft ∷ []
 
 -- ---- 25 to 27: the job text, and the solver's call
 
@@ -350,7 +364,7 @@ pub data HeadLine : List ℕ → Type 0 where
   two : {n limit : ℕ} → HeadLine (n ∷ limit ∷ [])
   three : {n limit mark : ℕ} → HeadLine (n ∷ limit ∷ mark ∷ [])
 
--- a row count and that many rows
+-- how many rows, then the rows
 pub data RowLine : List ℕ → Type 0 where
   rows : {l : List ℕ} → RowLine (length l ∷ l)
 
@@ -364,23 +378,25 @@ pub data BadHead (input : Input) : Answer → Type 0 where
   columns-over : HeadLine (numbersAt (input .text) 1) → programColumns < textHead (input .text) .n → BadHead input (answer 26 1 0)
 
 -- the line of column j: 25, then 26 for the rows of the lines so far
-pub data BadLine (text : List ℕ) (j : ℕ) : ℕ → Type 0 where
-  bad-line : ¬ RowLine (numbersAt text (suc j)) → BadLine text j 25
-  rows-over : RowLine (numbersAt text (suc j)) → programRows < length (flat (textLists text j)) → BadLine text j 26
+pub data LineFault (text : List ℕ) (j : ℕ) : ℕ → Type 0 where
+  bad-line : ¬ RowLine (numbersAt text (suc j)) → LineFault text j 25
+  rows-over : RowLine (numbersAt text (suc j)) → programRows < length (flat (textLists text j)) → LineFault text j 26
 
-abbrev pub LineBad : Condition Input
-LineBad input a =
+-- the first row line at fault
+abbrev pub BadLine : Condition Input
+BadLine input a =
     (j number : ℕ) × ((1 ≤ j) × (j ≤ textHead (input .text) .n))
-    × BadLine (input .text) j number
-    × ((k m : ℕ) → 1 ≤ k → k < j → ¬ BadLine (input .text) k m)
+    × LineFault (input .text) j number
+    × ((k m : ℕ) → 1 ≤ k → k < j → ¬ LineFault (input .text) k m)
     × (a ≡ answer number (suc j) 0)
 
 -- text after the last row line
 abbrev pub TextAfter : Condition Input
 TextAfter input a = (0 < length (afterLines (suc (textHead (input .text) .n)) (input .text))) × (a ≡ answer 25 (textHead (input .text) .n + 2) 0)
 
+-- a text: 26 at 0, its first line, its row lines, its end
 abbrev pub textConditions : List (Condition Input)
-textConditions = InputOver ∷ BadHead ∷ LineBad ∷ TextAfter ∷ []
+textConditions = InputOver ∷ BadHead ∷ BadLine ∷ TextAfter ∷ []
 
 -- the analysis that the program runs, in its buffers
 abbrev pub programAnalysis : Input → AnalysisCall
@@ -406,6 +422,7 @@ Unreadable call a = (¬ Readable (call .key)) × (a ≡ answer 27 0 0)
 abbrev pub SizesOver : Condition SolverCall
 SizesOver call a = (r : Readable (call .key)) × ((programColumns < r .job .n) ⊎ (programRows < length (r .job .rows))) × (a ≡ answer 26 0 0)
 
+-- 27, then 26
 abbrev pub callConditions : List (Condition SolverCall)
 callConditions = Unreadable ∷ SizesOver ∷ []
 
@@ -417,5 +434,6 @@ solverCheck call job = record { job = job; plan = call .plan; lent = buffers }
 abbrev pub CheckRefuses : Condition SolverCall
 CheckRefuses call a = (r : Readable (call .key)) × Answered checkConditions (solverCheck call (r .job)) a
 
+-- the solver's call: 27, 26, then the check's
 abbrev pub solverConditions : List (Condition SolverCall)
 solverConditions = callConditions ++ (CheckRefuses ∷ [])

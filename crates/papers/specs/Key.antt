@@ -30,5 +30,6 @@ listsOf n A = map A (upTo n)
 unfoldable pub keyNumbers : Job → List ℕ
 keyNumbers job = edition ∷ job .n ∷ job .mark ∷ job .limit ∷ listsNumbers 1 (listsOf (job .n) (pattern job))
 
+-- the key's bytes
 unfoldable pub keyOf : Job → List ℕ
 keyOf job = encode (keyNumbers job)

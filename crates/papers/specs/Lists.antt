@@ -26,7 +26,7 @@ unfoldable pub upTo : ℕ → List ℕ
 upTo zero = []
 upTo (suc n) = upTo n ++ (suc n ∷ [])
 
--- number k of a list, counted from 1; 0 where there is none
+-- number k of a list, counted from 1; 0 past its end; number 0 is not asked for
 abbrev pub nth : List ℕ → ℕ → ℕ
 nth l k = getD l (k - 1) 0
 
@@ -57,6 +57,7 @@ unfoldable pub keep : (ℕ → Bool) → List ℕ → List ℕ
 keep f [] = []
 keep f (x ∷ xs) = elim (f x) [ true ↦ x ∷ keep f xs | false ↦ keep f xs ]
 
+-- all numbers added up
 unfoldable pub sum : List ℕ → ℕ
 sum [] = 0
 sum (x ∷ xs) = x + sum xs
@@ -73,11 +74,12 @@ merge (x ∷ xs) [] = x ∷ xs
 merge (x ∷ xs) (y ∷ ys) =
     elim (ltb x y) [ true ↦ x ∷ merge xs (y ∷ ys) | false ↦ elim (ltb y x) [ true ↦ y ∷ merge (x ∷ xs) ys | false ↦ x ∷ merge xs ys ] ]
 
--- sorted by descending key; where keys agree, what stood first stays first
+-- x before the first whose key is not greater
 unfoldable pub insert : (ℕ → ℕ) → ℕ → List ℕ → List ℕ
 insert key x [] = x ∷ []
 insert key x (y ∷ ys) = elim (ltb (key x) (key y)) [ true ↦ y ∷ insert key x ys | false ↦ x ∷ y ∷ ys ]
 
+-- sorted by descending key; where keys agree, what stood first stays first
 unfoldable pub sort : (ℕ → ℕ) → List ℕ → List ℕ
 sort key [] = []
 sort key (x ∷ xs) = insert key x (sort key xs)

@@ -1,4 +1,4 @@
--- Numbers in the bytes: groups of seven bits, low group first, the high bit set on all but the last.
+-- Numbers in the bytes: seven bits to a byte, the lowest first; a byte of 128 or more says that another follows.
 -- Assumes nothing.
 use Prim.Native.Nat.{ℕ, zero, suc, _+_, _-_, _*_, _/_, _%_}
 use mathlib.Core.Bool.{Bool, true, false}
@@ -23,7 +23,7 @@ unfoldable pub encode : List ℕ → List ℕ
 encode [] = []
 encode (x ∷ xs) = bytesOf x ++ encode xs
 
--- ---- reading, by place in the whole list of bytes, each below 256; places count from 0 here
+-- ---- reading, by index in the whole list of bytes, each below 256; an index counts from 0
 
 -- a number whose first group is low, and the rest of whose groups were read behind it
 unfoldable pub over : ℕ → Number → Number

@@ -29,8 +29,8 @@ pub record Ordered (par : ℕ → ℕ) (n : ℕ) (order : List ℕ) : Type 0 whe
 -- ---- the order of a mark
 
 -- the key by which siblings descend: of a child with its rows and its W, under a parent with `above` rows.
--- Mark 0: none, so that the numbers ascend; 1: W less the update's entries, which are part of it; 2: the update's entries. No mark looks at
--- `above` today.
+-- Mark 0: none, so that the numbers ascend; 1: W less the update's entries, which are part of it; 2: the update's entries; a mark over 2
+-- has been refused. No mark looks at `above` today.
 unfoldable pub siblingKey : ℕ → ℕ → ℕ → ℕ → ℕ
 siblingKey zero above rows W = 0
 siblingKey (suc zero) above rows W = W - t rows
@@ -60,7 +60,7 @@ kidsOf n A = children (parent A) n
 abbrev pub popsOf : ℕ → Pattern → ℕ → ℕ
 popsOf n A j = length (kidsOf n A j)
 
--- W(j): the peak of j's subtree done alone, in its order
+-- W(j): the peak of the steps of j's subtree, begun with nothing held
 unfoldable pub W : ℕ → ℕ → Pattern → ℕ → ℕ
 W mark n A j = alone (rowCount A) (kidsOf n A) (stepsOf mark (rowCount A) (kidsOf n A) n j)
 
@@ -68,9 +68,10 @@ W mark n A j = alone (rowCount A) (kidsOf n A) (stepsOf mark (rowCount A) (kidsO
 unfoldable pub orderOf : ℕ → ℕ → Pattern → List ℕ
 orderOf mark n A = flatMap (stepsOf mark (rowCount A) (kidsOf n A) n) (kidsOf n A 0)
 
--- the room in use at each step, and the peak
+-- the room in use at each step of an order
 unfoldable pub roomsOf : ℕ → Pattern → List ℕ → List ℕ
 roomsOf n A order = rooms (rowCount A) (popsOf n A) [] order
 
+-- its peak
 unfoldable pub peak : ℕ → Pattern → List ℕ → ℕ
 peak n A order = peakOf (rowCount A) (popsOf n A) order

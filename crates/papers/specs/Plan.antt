@@ -20,10 +20,11 @@ pub record Plan : Type 0 where
   pub lists : List (List ℕ)
   pub peak : ℕ
 
--- the columns, and the pops, of the steps
+-- the columns of the steps
 abbrev pub columnsIn : List (ℕ × ℕ) → List ℕ
 columnsIn steps = map (λ s. s .0) steps
 
+-- the pops of the steps
 abbrev pub popsIn : List (ℕ × ℕ) → List ℕ
 popsIn steps = map (λ s. s .1) steps
 
@@ -36,6 +37,7 @@ planOf job =
 
 -- ---- its bytes
 
+-- of each step its column and its pops
 unfoldable pub stepNumbers : List (ℕ × ℕ) → List ℕ
 stepNumbers [] = []
 stepNumbers (s ∷ ss) = s .0 ∷ s .1 ∷ stepNumbers ss
@@ -48,9 +50,9 @@ planNumbers p = stepNumbers (p .steps) ++ (listsNumbers 1 (p .lists) ++ (p .peak
 unfoldable pub planBytes : Job → Plan → List ℕ
 planBytes job p = keyOf job ++ encode (planNumbers p)
 
--- ---- reading, by place in the whole list of bytes. `at` counts from 0; a refusal's place counts from 1.
+-- ---- reading, by index in the whole list of bytes. The index `at` counts from 0; a refusal's place counts from 1.
 
--- a value and the place behind it; or a refusal's number and place
+-- a value and the index behind it; or a refusal's number and place
 pub data Read (A : Type 0) : Type 0 where
   got : A → ℕ → Read A
   bad : ℕ → ℕ → Read A
@@ -76,10 +78,11 @@ inField lo hi at NotShortest = bad 13 (at + 1)
 unfoldable pub field : ℕ → ℕ → List ℕ → ℕ → Read ℕ
 field lo hi s at = inField lo hi at (readNumber s at)
 
--- a step: column 1..n, pops 0..n−1
+-- a step: a column, then pops, which are fewer than n
 unfoldable pub readStep : ℕ → List ℕ → ℕ → Read (ℕ × ℕ)
 readStep n s at = then (field 1 n s at) λ column at. then (field 0 (n - 1) s at) λ pops at. got (column, pops) at
 
+-- k steps
 unfoldable pub readSteps : ℕ → ℕ → List ℕ → ℕ → Read (List (ℕ × ℕ))
 readSteps n zero s at = got [] at
 readSteps n (suc k) s at = then (readStep n s at) λ step at. onto (step ∷ []) (readSteps n k s at)

@@ -10,6 +10,7 @@ use Rattle.papers.specs.Lists.{least, zeros, thenZeros}
 use Rattle.papers.specs.Job.{Job, start, columnOf}
 use Rattle.papers.specs.declared.Answer.{Answer}
 
+-- an answer of number, place and count
 abbrev pub answer : ℕ → ℕ → ℕ → Answer
 answer number place count = record { number = number; place = place; count = count }
 
@@ -88,7 +89,7 @@ startsTest n starts rows =
       ]
     ]
 
--- the fault of row r of column j: 5 not above its column, or over n; 6 not above the one before it; 0 for none. Both is 5.
+-- the fault of row r of column j: 5 where it is j or less, or more than n; else 6 where it does not exceed the row before; else 0
 unfoldable pub rowFault : ℕ → ℕ → ℕ → ℕ → ℕ
 rowFault n j before r = elim (leb r j) [ true ↦ 5 | false ↦ elim (ltb n r) [ true ↦ 5 | false ↦ elim (leb r before) [ true ↦ 6 | false ↦ 0 ] ] ]
 

@@ -28,6 +28,6 @@ unfoldable pub rooms : (ℕ → ℕ) → (ℕ → ℕ) → List ℕ → List ℕ
 rooms size pops held [] = []
 rooms size pops held (j ∷ js) = roomAt (pops j) (size j) held ∷ rooms size pops (heldAfter (pops j) (size j) held) js
 
--- the peak: the greatest room in use, 0 for no step
+-- the peak: no step uses more room, and one uses as much; 0 without steps
 unfoldable pub peakOf : (ℕ → ℕ) → (ℕ → ℕ) → List ℕ → ℕ
 peakOf size pops order = greatest (rooms size pops [] order)

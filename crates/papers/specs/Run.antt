@@ -22,7 +22,7 @@ pub record RunCall : Type 0 where
   pub room : ℕ
   pub stack : List ℕ
 
--- the columns whose updates are held, the top one first; the greatest room in use of the steps done
+-- the columns whose updates are held, the top one first; the most room that a step so far has used
 pub record State : Type 0 where
   pub held : List ℕ
   pub greatest : ℕ
@@ -36,10 +36,11 @@ module _ (call : RunCall) where
   abbrev pub frontIn : ℕ → List ℕ
   frontIn c = c ∷ rowsIn c
 
-  -- the column of step s, and its pops
+  -- the column of step s
   abbrev pub stepColumn : ℕ → ℕ
   stepColumn s = columnAt (call .columns) s
 
+  -- the pops of step s
   unfoldable pub popsAt : ℕ → ℕ
   popsAt s = nth (call .pops) s
 
@@ -55,8 +56,8 @@ module _ (call : RunCall) where
   unfoldable pub fits : ℕ → List ℕ → Bool
   fits c popped = every (λ u. every (λ i. member i (frontIn c)) (rowsIn u)) popped
 
-  -- the fault of step s: 14 column not in 1..n; 21 pops more than held; 22 a popped row outside the front; 23 room in use over the room given;
-  -- 0 for none
+  -- the fault of step s, the first that applies: 14 there is no such column; 21 fewer updates are held than it pops; 22 a row of one of these has
+  -- no place in its front; 23 it needs more room than there is; else 0
   unfoldable pub stepFault : ℕ → State → ℕ
   stepFault s state =
       let c = stepColumn s in
@@ -120,6 +121,7 @@ runTests =
     ∷ leftTest
     ∷ []
 
+-- done: the count is the greatest room in use, and the stack is cleared
 unfoldable pub runDone : RunCall → Outcome (List ℕ)
 runDone call = record { answer = answer 0 0 (stateAfter call (call .n) .greatest); lent = zeros (call .stack) }
 

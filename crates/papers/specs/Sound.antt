@@ -12,6 +12,7 @@ use Rattle.papers.specs.Key.{listsOf}
 use Rattle.papers.specs.Plan.{Plan, columnsIn, popsIn}
 use Rattle.papers.specs.Refusals.{Lent}
 use Rattle.papers.specs.Run.{RunCall}
+use Rattle.papers.specs.declared.Answer.{Answer}
 
 -- a sound plan of a job: an order of its columns with whole subtrees, their tops last; each step's pops its column's number of children; each
 -- column's list its R; the peak that of the order, and within the limit
@@ -21,6 +22,10 @@ pub record Sound (job : Job) (plan : Plan) : Type 0 where
   pub rows : plan .lists ≡ listsOf (job .n) (R (pattern job))
   pub greatest : plan .peak ≡ peak (job .n) (pattern job) (columnsIn (plan .steps))
   pub within : plan .peak ≤ job .limit
+
+-- how a written key or plan is handed on: as many bytes as the answer counts
+abbrev pub writtenPart : Answer → List ℕ → List ℕ
+writtenPart a bytes = take (a .count) bytes
 
 -- a run of the parts that hold the result of an analysis or a check, without the zeros after it
 unfoldable pub handedOn : ℕ → Lent → ℕ → List ℕ → RunCall

@@ -14,16 +14,19 @@ use Rattle.papers.specs.Refusals.{answer, untouched, Verdict, passed, re
 use Rattle.papers.specs.Analysis.{analysed}
 use Rattle.papers.specs.declared.Answer.{Answer}
 
--- bytes that have a meaning: newline, space, the digits 0 to 9
+-- what ends a line
 abbrev pub newline : ℕ
 newline = 10
 
+-- what stands between the numbers of a line
 abbrev pub space : ℕ
 space = 32
 
+-- the digit d
 abbrev pub digit : ℕ → ℕ
 digit d = 48 + d
 
+-- whether a byte is a digit
 unfoldable pub isDigit : ℕ → Bool
 isDigit b = leb (digit 0) b && leb b (digit 9)
 
@@ -87,6 +90,7 @@ numbersAt text q = elim (cut (afterLines (q - 1) text)) [ line l rest ↦ number
 
 -- ---- the first line: n and limit, or n, limit and mark
 
+-- what line 1 says, and whether it is as it should be
 pub record Head : Type 0 where
   pub fine : Bool
   pub n : ℕ
@@ -105,21 +109,25 @@ headOf (n ∷ limit ∷ []) = record { fine = true; n = n; limit = limit; mark =
 headOf (n ∷ limit ∷ mark ∷ []) = record { fine = true; n = n; limit = limit; mark = mark }
 headOf (n ∷ limit ∷ mark ∷ x ∷ xs) = badHead
 
--- ---- a row line: a row count and that many rows
+-- ---- a row line: how many rows, then the rows
 
+-- the rows that the numbers of a line give
 unfoldable pub rowsOfLine : List ℕ → List ℕ
 rowsOfLine [] = []
 rowsOfLine (count ∷ rows) = rows
 
+-- whether the first number counts the others
 unfoldable pub isRowLine : List ℕ → Bool
 isRowLine [] = false
 isRowLine (count ∷ rows) = eqb count (length rows)
 
 -- ---- the job of a text: column j's rows stand in line j + 1
 
+-- line 1
 unfoldable pub textHead : List ℕ → Head
 textHead text = headOf (numbersAt text 1)
 
+-- the rows of the first n columns
 unfoldable pub textLists : List ℕ → ℕ → List (List ℕ)
 textLists text n = map (λ j. rowsOfLine (numbersAt text (suc j))) (upTo n)
 
@@ -132,7 +140,7 @@ textJob text =
 
 -- ---- 25 and 26, by the first line at fault. Nothing is lent here, so `untouched` says nothing.
 
--- what standard input held: at most 8,192 bytes of it, and whether more followed
+-- what was read of standard input, and whether more followed
 pub record Input : Type 0 where
   pub text : List ℕ
   pub more : Bool
@@ -166,6 +174,7 @@ endTest input =
     let n = textHead (input .text) .n in
     refusedIf (ltb 0 (length (afterLines (suc n) (input .text)))) (answer 25 (n + 2) 0) untouched
 
+-- 26 at 0, line 1, the row lines, the end
 unfoldable pub textTests : List (Input → Verdict)
 textTests = inputTest ∷ headTest ∷ rowLinesTest ∷ endTest ∷ []
 
@@ -193,10 +202,11 @@ wordPlan = 112 ∷ 108 ∷ 97 ∷ 110 ∷ []
 abbrev pub wordRefused : List ℕ
 wordRefused = 114 ∷ 101 ∷ 102 ∷ 117 ∷ 115 ∷ 101 ∷ 100 ∷ []
 
+-- the line of a refusal
 unfoldable pub refusalLine : Answer → List ℕ
 refusalLine a = printed wordRefused (a .number ∷ a .place ∷ a .count ∷ [])
 
--- a line per step: column, pops, room in use, rows of R
+-- the lines of the steps: column, pops and room of each, then the column's rows
 unfoldable pub stepLines : ℕ → Pattern → List ℕ → List ℕ → List ℕ
 stepLines n A [] rooms = []
 stepLines n A (j ∷ js) [] = []
@@ -232,13 +242,16 @@ programPrints input =
 -- ---- the listing into a lent slice: 7 where it is shorter than any listing may need. A refusal of the text or of its job is what is printed:
 -- the answer is then 0, and the count the bytes of that line.
 
+-- a text, and the slice for its listing
 pub record ListingCall : Type 0 where
   pub input : Input
   pub bytes : List ℕ
 
+-- 7 alone
 unfoldable pub listingTests : List (ListingCall → Verdict)
 listingTests = (λ call. refusedIf (ltb (length (call .bytes)) listingBytes) (answer 7 0 0) untouched) ∷ []
 
+-- done: the count is the bytes printed
 unfoldable pub listingDone : ListingCall → Outcome (List ℕ)
 listingDone call = let out = programPrints (call .input) in record { answer = answer 0 0 (length out); lent = thenZeros out (call .bytes) }
 

@@ -13,7 +13,7 @@ use Rattle.papers.specs.Fill.{R}
 unfoldable pub parent : Pattern → ℕ → ℕ
 parent A j = head0 (R A j)
 
--- the front of j: j, then R(j)
+-- a column's front: its own number before its rows
 abbrev pub front : Pattern → ℕ → List ℕ
 front A j = j ∷ R A j
 

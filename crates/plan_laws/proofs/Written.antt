@@ -4,6 +4,7 @@
 use Prim.Native.Nat.{_≤_}
 use mathlib.Core.Path.{_≡_, refl, ap}
 use lib.ListN.{length, take}
+use Rattle.papers.specs.Sound.{writtenPart}
 use Rattle.papers.specs.Lists.{flat}
 use Rattle.papers.specs.Job.{Job}
 use Rattle.papers.specs.Plan.{planOf, planBytes}
@@ -49,13 +50,13 @@ module _ (job : Job) (slices : PlanLent) (done : planWritten job slices .answer 
   written-holds = ap (λ (o : Outcome PlanLent). o .lent .analysis) written-is
 
   -- the part that holds its bytes
-  part-is : take (planWritten job slices .answer .count) (planWritten job slices .lent .bytes) ≡ planBytes job (planOf job)
+  part-is : writtenPart (planWritten job slices .answer) (planWritten job slices .lent .bytes) ≡ planBytes job (planOf job)
   unfolding planDone
   part-is = rw written-is (take-then-zeros (planBytes job (planOf job)) (slices .bytes))
 
   -- a plan that was written passes for its job, given slices long enough
   pub written-plan-passes : (lent : Lent) → Long (job .n) (length (flat (planOf job .lists))) lent
-      → Passing job (planOf job) (take (planWritten job slices .answer .count) (planWritten job slices .lent .bytes)) lent
+      → Passing job (planOf job) (writtenPart (planWritten job slices .answer) (planWritten job slices .lent .bytes)) lent
   written-plan-passes lent long = rw part-is (planned-passes job written-valid written-within lent long)
 
   -- written and then checked for the same job, it gives back the same lists

@@ -11,7 +11,7 @@ use Rattle.papers.specs.Plan.{Plan, planBytes}
 use Rattle.papers.specs.Refusals.{answer, passed, first, jobTests, Lent}
 use Rattle.papers.specs.Analysis.{holdingPlan, PlanLent, planWritten}
 use Rattle.papers.specs.Check.{checked}
-use Rattle.papers.specs.Sound.{Sound}
+use Rattle.papers.specs.Sound.{Sound, writtenPart}
 
 -- slices long enough for n columns and so many factor rows
 pub record Long (n needed : ℕ) (lent : Lent) : Type 0 where
@@ -36,5 +36,5 @@ pub record GivesBack (job : Job) (slices : PlanLent) (lent : Lent) : Type 0 wher
     answer = answer 0 0 (length (planBytes job plan));
     lent = record { analysis = holdingPlan job plan (slices .analysis); bytes = thenZeros (planBytes job plan) (slices .bytes) };
   }
-  pub checked-again : checked job (take (planWritten job slices .answer .count) (planWritten job slices .lent .bytes)) lent
+  pub checked-again : checked job (writtenPart (planWritten job slices .answer) (planWritten job slices .lent .bytes)) lent
       ≡ record { answer = answer 0 0 (plan .peak); lent = holdingPlan job plan lent }

@@ -1,7 +1,7 @@
 -- The solver's call answers exactly by its conditions. A key of bytes is readable just where it reads through, and then it is the key of one job only; so the
 -- tests, which go by the reading, agree with conditions that speak of any job whose key it is.
 -- Assumes nothing.
-use Prim.Native.Nat.{ℕ, _<_}
+use Prim.Native.Nat.{ℕ, _+_, _*_, _^_, _<_}
 use mathlib.Core.Path.{_≡_, refl, sym, ap, subst, _∙_}
 use mathlib.Core.Logic.{_↔_, _⊎_, inl, inr}
 use mathlib.Core.Bool.{_||_}
@@ -13,16 +13,16 @@ use Rattle.papers.specs.declared.Answer.{Answer}
 use Rattle.papers.specs.Bounds.{programColumns, programRows}
 use Rattle.papers.specs.Job.{Job}
 use Rattle.papers.specs.Plan.{Read, got, bad}
-use Rattle.papers.specs.Refusals.{answer, untouched, Leaves, Verdict, passed, refused, first, refusedIf}
-use Rattle.papers.specs.Check.{checked}
+use Rattle.papers.specs.Refusals.{answer, untouched, Leaves, Verdict, passed, refused, first, refusedIf, Outcome, Lent}
+use Rattle.papers.specs.Check.{checkTests, checked}
 use Rattle.papers.specs.Text.{buffers}
-use Rattle.papers.specs.Call.{Readable, readKey, SolverCall, readableTest, sizesTest, callTests, keyChecked, solverAnswer}
+use Rattle.papers.specs.Call.{Readable, readKey, SolverCall, readableTest, sizesTest, callTests, keyChecked, solverAnswer, called}
 use Rattle.papers.specs.Conditions.{Answered, Unrefused, Unreadable, SizesOver, checkConditions, callConditions, solverCheck, CheckRefuses, solverConditions}
 use Rattle.bytes_laws.proofs.Fields.{got-bad}
 use Rattle.job_laws.proofs.Firsts.{refused-passed}
 use Rattle.job_laws.proofs.Readable.{readable-read, readable-one, readable-iff}
 use Rattle.refusal_laws.proofs.Agreements.{Refuses, Agree, one-answer, agree-by, AgreeEach, _▸_, answered-iff, no-answer-iff, passed-iff, answered-append, unrefused-append}
-use Rattle.refusal_laws.proofs.Check.{check-exactly}
+use Rattle.refusal_laws.proofs.Check.{check-agree, check-exactly, done-place}
 use Rattle.refusal_laws.proofs.Tests.{below-iff, either-iff, agree-if}
 
 module _ (call : SolverCall) (bytes : (i : ℕ) → getD (call .key) i 0 < 256) where
@@ -153,3 +153,18 @@ module _ (call : SolverCall) (bytes : (i : ℕ) → getD (call .key) i 0 < 256) 
           let (r, c) = call-checked (call-none .1 u) in
           ap (λ (a : Answer). a .number) c
           ∙ check-exactly (solverCheck call (r .job)) .done-iff .1 (no-answer-iff checkConditions (solverCheck call (r .job)) .0 (λ b k. w .0 b (r, k)))
+
+  -- a call that is done has place 0
+  done-at : solverAnswer call .number ≡ 0 → solverAnswer call .place ≡ 0
+  done-at e =
+      let u = call-done .0 e in
+      let (r, c) = call-checked (call-none .1 (unrefused-append callConditions (CheckRefuses ∷ []) call .0 u .0)) in
+      let exact = check-exactly (solverCheck call (r .job)) in
+      let n = sym (ap (λ (a : Answer). a .number) c) ∙ e in
+      let p = passed-iff checkTests checkConditions (solverCheck call (r .job)) (check-agree (solverCheck call (r .job))) .1 (exact .done-iff .0 n) in
+      ap (λ (a : Answer). a .place) c ∙ ap (λ (o : Outcome Lent). o .answer .place) (exact .when-done n) ∙ done-place (solverCheck call (r .job)) p
+
+  -- the one number is 0 exactly when no condition gives anything
+  pub called-zero-iff : (called (call .key) (call .plan) ≡ 0) ↔ Unrefused solverConditions call
+  unfolding called
+  called-zero-iff = (λ e. call-done .0 (omega (arith, e)), λ u. let z = call-done .1 u in omega (arith, z, done-at z))

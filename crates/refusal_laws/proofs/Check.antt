@@ -96,6 +96,15 @@ module _ (call : CheckCall) where
       go (got plan at) e r = rw (e, checkDone)
       go (bad number place) e r = absurd (refused-passed (read-bad call e) r)
 
+  -- and its place is 0
+  pub done-place : first checkTests call ≡ passed → checkDone call .answer .place ≡ 0
+  unfolding checkTests jobTests checkDone
+  done-place p = go (planRead call) refl (first-passed-iff checkTests call .0 p .1 .1 .1 .1 .1 .1 .1 .0)
+    where
+      go : (x : Read Plan) → planRead call ≡ x → readTest call ≡ passed → checkDone call .answer .place ≡ 0
+      go (got plan at) e r = rw (e, checkDone)
+      go (bad number place) e r = absurd (refused-passed (read-bad call e) r)
+
   -- a plan passes, or is refused, exactly by the conditions of the check
   pub check-exactly : Exactly checkConditions call (call .lent) (allZero (call .lent)) (checkDone call) (checked (call .job) (call .plan) (call .lent))
   unfolding checked

@@ -3,7 +3,7 @@
 -- Assumes nothing.
 use Prim.Native.Nat.{ℕ, zero, suc, _<_, _≤_}
 use mathlib.Core.Path.{_≡_, refl, sym, ap, _∙_}
-use mathlib.Core.Logic.{_↔_}
+use mathlib.Core.Logic.{_↔_, _⊎_, inl, inr}
 use mathlib.Core.Bool.{Bool, true, false}
 use mathlib.Core.List.{List, _++_, map}
 use native.Mathlib.Omega.{arith}
@@ -11,12 +11,28 @@ use Rattle.papers.specs.declared.Answer.{Answer}
 use Rattle.papers.specs.Refusals.{Leaves, untouched, zeroed, Verdict, passed, refused, first, refusedIf, refusedAt, Outcome, outcome}
 use Rattle.papers.specs.Conditions.{Condition, Answered, Unrefused}
 use Rattle.refusal_laws.specs.Exactly.{Exactly}
+use Rattle.list_laws.proofs.Tests.{below-or}
 use Rattle.job_laws.proofs.Firsts.{refused-passed, first-append-passed, first-append-refused, first-map}
 use Rattle.refusal_laws.proofs.Agreements.{Refuses, one-answer, AgreeEach, answered-iff, passed-iff}
 
--- two outcomes that a contract allows, each being the one that it states, coincide
-pub outcomes-coincide : {S : Type 0} {stated x y : Outcome S} → x ≡ stated → y ≡ stated → x ≡ y
-outcomes-coincide e f = e ∙ sym f
+-- two outcomes that a statement by conditions allows coincide: answer, and all of each lent slice
+pub outcomes-coincide : {C S : Type 0} {conditions : List (Condition C)} {call : C} {lent zero : S} {done x y : Outcome S}
+    → Exactly conditions call lent zero done x → Exactly conditions call lent zero done y → x ≡ y
+outcomes-coincide {x = x} {y = y} p q = go (x .answer .number) refl
+  where
+    same : x .answer ≡ y .answer → x .lent ≡ y .lent → x ≡ y
+    same a l i = record { answer = a i; lent = l i }
+
+    go : (m : ℕ) → x .answer .number ≡ m → x ≡ y
+    go zero e = p .when-done e ∙ sym (q .when-done (q .done-iff .1 (p .done-iff .0 e)))
+    go (suc m) e =
+        let a : y .answer ≡ x .answer = q .refused-iff (x .answer) (omega arith) .1 (p .refused-iff (x .answer) (omega arith) .0 refl) in
+        let k = ap (λ (b : Answer). b .number) a in
+        left a k (below-or 7 (x .answer .number))
+      where
+        left : y .answer ≡ x .answer → y .answer .number ≡ x .answer .number → (7 < x .answer .number) ⊎ (x .answer .number ≤ 7) → x ≡ y
+        left a k (inl h) = same (sym a) (p .zeroed h ∙ sym (q .zeroed (omega arith)))
+        left a k (inr h) = same (sym a) (p .untouched (omega arith) h ∙ sym (q .untouched (omega arith) (omega arith)))
 
 -- ---- what a refusal leaves
 

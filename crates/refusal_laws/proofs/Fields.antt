@@ -11,7 +11,7 @@ use borrow.Author.Tests.{lt-ltb, le-ltb}
 use Rattle.papers.specs.Numbers.{readNumber}
 use Rattle.papers.specs.Plan.{Read, got, bad, inField, field}
 use Rattle.papers.specs.Refusals.{answer}
-use Rattle.papers.specs.Conditions.{Stands, Field, nothing, low, high, fromStep, following, Reaches, begin, next, BadPlan, twelve, thirteen, fourteen, fifteen}
+use Rattle.papers.specs.Conditions.{Stands, Field, nothing, low, high, fromStep, following, Reaches, begin, next, PlanFault, twelve, thirteen, fourteen, fifteen}
 use Rattle.papers.specs.declared.Answer.{Answer}
 use Rattle.papers.specs.declared.Number.{Number}
 use Rattle.papers.specs.declared.Number.the-variants.{Value, Ended, TooLong, NotShortest}
@@ -119,28 +119,28 @@ module _ (n : ℕ) (s : List ℕ) where
     leads begin = stay
     leads (next r h e l u) = leads-on (leads r) (on h (in-range _ _ s _ _ _ (number-stands-iff s _ _ .1 e) l u) stay)
 
-    bad-number : {y : Field} {to number place : ℕ} → Reaches n s from y to → y ≢ nothing → numberAt y to ≡ bad number place → BadPlan n s from (answer number place 0)
+    bad-number : {y : Field} {to number place : ℕ} → Reaches n s from y to → y ≢ nothing → numberAt y to ≡ bad number place → PlanFault n s from (answer number place 0)
     bad-number {y} {to} {number} {place} r h e = go (readNumber s to) refl
       where
         same : (m : ℕ) → numberAt y to ≡ bad m (to + 1) → answer number place 0 ≡ answer m (to + 1) 0
         same m f = let (a, b) = bad-inj (sym e ∙ f) in cc
 
-        out : (v end : ℕ) → readNumber s to ≡ Value v end → (v < low y) ⊎ (low y ≤ v) → (high n y < v) ⊎ (v ≤ high n y) → BadPlan n s from (answer number place 0)
+        out : (v end : ℕ) → readNumber s to ≡ Value v end → (v < low y) ⊎ (low y ≤ v) → (high n y < v) ⊎ (v ≤ high n y) → PlanFault n s from (answer number place 0)
         out v end q (inl l) u = rw (same 14 (out-of-range _ _ s to v end q (inl l))) (fourteen r h (standing _ _ q) (inl l))
         out v end q (inr l) (inl u) = rw (same 14 (out-of-range _ _ s to v end q (inr u))) (fourteen r h (standing _ _ q) (inr u))
         out v end q (inr l) (inr u) = absurd (got-bad (in-range _ _ s to v end q l u) e)
 
-        go : (m : Number) → readNumber s to ≡ m → BadPlan n s from (answer number place 0)
+        go : (m : Number) → readNumber s to ≡ m → PlanFault n s from (answer number place 0)
         go (Value v end) q = out v end q (below-or v (low y)) (below-or (high n y) v)
         go Ended q = rw (same 12 (ended _ _ s to q)) (twelve r h (standing _ _ q))
         go TooLong q = rw (same 13 (not-shortest _ _ s to (inl q))) (thirteen r h (inl (standing _ _ q)))
         go NotShortest q = rw (same 13 (not-shortest _ _ s to (inr q))) (thirteen r h (inr (standing _ _ q)))
 
     -- reading fails just as the conditions say
-    pub fails-iff : (number place : ℕ) → Fails (fromStep n n) from number place ↔ BadPlan n s from (answer number place 0)
+    pub fails-iff : (number place : ℕ) → Fails (fromStep n n) from number place ↔ PlanFault n s from (answer number place 0)
     fails-iff number place = (λ (y, to, l, h). there (reaches begin l) h, back (answer number place 0))
       where
-        there : {y : Field} {to number place : ℕ} → Reaches n s from y to → Halts y to number place → BadPlan n s from (answer number place 0)
+        there : {y : Field} {to number place : ℕ} → Reaches n s from y to → Halts y to number place → PlanFault n s from (answer number place 0)
         there r (at-number h e) = bad-number r h e
         there r (behind e l) = fifteen (rw e at r) l
 
@@ -148,7 +148,7 @@ module _ (n : ℕ) (s : List ℕ) where
         either (inl e) = inl (number-stands-iff s _ _ .1 e)
         either (inr e) = inr (number-stands-iff s _ _ .1 e)
 
-        back : (a : Answer) → BadPlan n s from a → Fails (fromStep n n) from (a .number) (a .place)
+        back : (a : Answer) → PlanFault n s from a → Fails (fromStep n n) from (a .number) (a .place)
         back a (twelve {x = x} {at = at} r h e) = (x, at, leads r, at-number h (ended _ _ s at (number-stands-iff s at Ended .1 e)))
         back a (thirteen {x = x} {at = at} r h e) = (x, at, leads r, at-number h (not-shortest _ _ s at (either e)))
         back a (fourteen {x = x} {at = at} r h e o) = (x, at, leads r, at-number h (out-of-range _ _ s at _ _ (number-stands-iff s at _ .1 e) o))

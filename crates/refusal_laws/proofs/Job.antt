@@ -14,7 +14,7 @@ use Rattle.papers.specs.Bounds.{maxColumns, maxMark, maxLimit}
 use Rattle.papers.specs.Lists.{least}
 use Rattle.papers.specs.Job.{Job, start}
 use Rattle.papers.specs.Refusals.{answer, untouched, Verdict, passed, refused, first, falls, columnsTest, markTest, limitTest, startsTest, jobTests}
-use Rattle.papers.specs.Conditions.{RowLists, jobLists, jobConditions, Least, ColumnsOver, MarkUnknown, LimitOver, Falls, BadStarts, miscounted, not-zero, falls as falls-at, last, StartsBad}
+use Rattle.papers.specs.Conditions.{RowLists, jobLists, jobConditions, Least, ColumnsOver, MarkUnknown, LimitOver, Falls, StartsFault, miscounted, not-zero, falls as falls-at, last, BadStarts}
 use Rattle.list_laws.proofs.Leasts.{least-zero-iff}
 use Rattle.job_laws.proofs.Untouched.{Early, job-untouched}
 use Rattle.job_laws.proofs.Starts.{falls-false-iff, starts-few, starts-from, starts-fall, starts-end, starts-pass}
@@ -62,23 +62,23 @@ module _ (c : RowLists) where
   fall long from-zero zero h = absurd (omega (arith, h .0 .0))
   fall long from-zero (suc j) h = starts-fall (c .n) (c .starts) (c .rows) long from-zero j (least-fall j .1 h)
 
-  pub starts-agree : Agree (startsTest (c .n) (c .starts) (c .rows)) (StartsBad c)
+  pub starts-agree : Agree (startsTest (c .n) (c .starts) (c .rows)) (BadStarts c)
   starts-agree =
       agree-by _ _ (λ a h. (untouched, rw (h .2) (gives (h .0) (h .1))))
       (go (ℕ-discrete (length (c .starts)) (c .n + 1)) (ℕ-discrete (start (c .starts) 1) 0) (least (falls (c .starts)) (c .n)) refl
       (ℕ-discrete (start (c .starts) (suc (c .n))) (length (c .rows))))
     where
-      gives : (p : ℕ) → BadStarts c p → startsTest (c .n) (c .starts) (c .rows) ≡ refused (answer 4 p 0) untouched
+      gives : (p : ℕ) → StartsFault c p → startsTest (c .n) (c .starts) (c .rows) ≡ refused (answer 4 p 0) untouched
       gives p (miscounted h) = starts-few (c .n) (c .starts) (c .rows) h
       gives p (not-zero long h) = starts-from (c .n) (c .starts) (c .rows) long h
       gives p (falls-at long from-zero l u f none) = fall long from-zero p ((l, u), f, none)
       gives p (last long from-zero none h) = starts-end (c .n) (c .starts) (c .rows) long from-zero (no-fall .0 none) h
 
-      four : (p : ℕ) → BadStarts c p → (startsTest (c .n) (c .starts) (c .rows) ≡ passed) ⊎ ((a : Answer) × StartsBad c a)
+      four : (p : ℕ) → StartsFault c p → (startsTest (c .n) (c .starts) (c .rows) ≡ passed) ⊎ ((a : Answer) × BadStarts c a)
       four p b = inr (answer 4 p 0, (p, b, refl))
 
       go : Dec (length (c .starts) ≡ c .n + 1) → Dec (start (c .starts) 1 ≡ 0) → (p : ℕ) → least (falls (c .starts)) (c .n) ≡ p
-          → Dec (start (c .starts) (suc (c .n)) ≡ length (c .rows)) → (startsTest (c .n) (c .starts) (c .rows) ≡ passed) ⊎ ((a : Answer) × StartsBad c a)
+          → Dec (start (c .starts) (suc (c .n)) ≡ length (c .rows)) → (startsTest (c .n) (c .starts) (c .rows) ≡ passed) ⊎ ((a : Answer) × BadStarts c a)
       go (no a) b p z d = four 0 (miscounted a)
       go (yes a) (no b) p z d = four 0 (not-zero a b)
       go (yes a) (yes b) (suc j) z d = let (r, f, none) = least-fall j .0 z in four (suc j) (falls-at a b (r .0) (r .1) f none)

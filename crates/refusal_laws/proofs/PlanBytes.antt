@@ -15,7 +15,7 @@ use Rattle.papers.specs.Key.{keyOf}
 use Rattle.papers.specs.Plan.{Plan, Read, got, bad}
 use Rattle.papers.specs.Refusals.{answer, zeroed, passed, refused}
 use Rattle.papers.specs.Check.{CheckCall, keyDiffers, keyTest, planRead, readTest}
-use Rattle.papers.specs.Conditions.{Agrees, KeyDiffers, BadPlan, twelve, thirteen, fourteen, fifteen, PlanBad}
+use Rattle.papers.specs.Conditions.{Agrees, KeyDiffers, PlanFault, twelve, thirteen, fourteen, fifteen, BadPlan}
 use Rattle.list_laws.proofs.Tests.{below-or}
 use Rattle.refusal_laws.proofs.Agreements.{Refuses, Agree, agree-same, agree-by}
 use Rattle.refusal_laws.proofs.Exactly.{Leaving}
@@ -64,14 +64,14 @@ module _ (call : CheckCall) where
 
 -- ---- 12 to 15
 
-bad-count : {n : ℕ} {s : List ℕ} {from : ℕ} {a : Answer} → BadPlan n s from a → (a .count ≡ 0) × (7 < a .number)
+bad-count : {n : ℕ} {s : List ℕ} {from : ℕ} {a : Answer} → PlanFault n s from a → (a .count ≡ 0) × (7 < a .number)
 bad-count (twelve r x e) = (refl, omega arith)
 bad-count (thirteen r x e) = (refl, omega arith)
 bad-count (fourteen r x e o) = (refl, omega arith)
 bad-count (fifteen r l) = (refl, omega arith)
 
 module _ (call : CheckCall) where
-  read-bad-iff : (number place : ℕ) → (planRead call ≡ bad number place) ↔ PlanBad call (answer number place 0)
+  read-bad-iff : (number place : ℕ) → (planRead call ≡ bad number place) ↔ BadPlan call (answer number place 0)
   unfolding planRead
   read-bad-iff = plan-bad-iff (call .job .n) (call .plan) (length (keyOf (call .job)))
 
@@ -84,15 +84,15 @@ module _ (call : CheckCall) where
   read-bad e = rw (e, readTest)
 
   -- the first number at fault, or the first byte after the peak
-  pub read-agree : Agree (readTest call) (PlanBad call)
+  pub read-agree : Agree (readTest call) (BadPlan call)
   read-agree = agree-by _ _ gives (go (planRead call) refl)
     where
-      gives : (a : Answer) → PlanBad call a → Refuses (readTest call) a
+      gives : (a : Answer) → BadPlan call a → Refuses (readTest call) a
       gives a b =
           let q : a ≡ answer (a .number) (a .place) 0 = λ i. record { number = a .number; place = a .place; count = bad-count b .0 i } in
           (zeroed, rw q (read-bad (read-bad-iff (a .number) (a .place) .1 (rw q at b))))
 
-      go : (x : Read Plan) → planRead call ≡ x → (readTest call ≡ passed) ⊎ ((a : Answer) × PlanBad call a)
+      go : (x : Read Plan) → planRead call ≡ x → (readTest call ≡ passed) ⊎ ((a : Answer) × BadPlan call a)
       go (got plan at) e = inl (read-got e)
       go (bad number place) e = inr (answer number place 0, read-bad-iff number place .0 e)
 

@@ -11,7 +11,7 @@ use borrow.Author.Tests.{le-leb, lt-leb, lt-ltb}
 use Rattle.papers.specs.Bounds.{maxPeak}
 use Rattle.papers.specs.Plan.{Plan, Read, got, bad, then, onto, field, readStep, readSteps, readRows, readList, readLists, atEnd, readPlan}
 use Rattle.papers.specs.Refusals.{answer}
-use Rattle.papers.specs.Conditions.{Field, column, pops, count, gap, peak, nothing, low, high, fromList, fromGap, fromStep, following, BadPlan}
+use Rattle.papers.specs.Conditions.{Field, column, pops, count, gap, peak, nothing, low, high, fromList, fromGap, fromStep, following, PlanFault}
 use Rattle.list_laws.proofs.Tests.{below-or}
 use Rattle.bytes_laws.proofs.Fields.{got-inj, got-bad, then-only}
 use Rattle.bytes_laws.proofs.Plans.{end-got, end-only}
@@ -118,7 +118,7 @@ module _ (n : ℕ) (s : List ℕ) where
       end-only _ _ s last _ v .2
 
   -- reading is refused just as the conditions of 12 to 15 say
-  pub plan-bad-iff : (from number place : ℕ) → (readPlan n s from ≡ bad number place) ↔ BadPlan n s from (answer number place 0)
+  pub plan-bad-iff : (from number place : ℕ) → (readPlan n s from ≡ bad number place) ↔ PlanFault n s from (answer number place 0)
   plan-bad-iff from number place =
       let i = fails-iff n s from number place in
       (λ e. i .0 (there e (plan-follows from)), λ b. back (i .1 b) (readPlan n s from) refl)

@@ -14,7 +14,7 @@ use Rattle.papers.specs.Lists.{member, every, zeros}
 use Rattle.papers.specs.Order.{columnAt}
 use Rattle.papers.specs.Refusals.{answer, untouched, zeroed, first, refusedAt, columnsTest, startsTest, rowsTest}
 use Rattle.papers.specs.Run.{RunCall, rowsIn, popsAt, roomIn, fits, stepFault, stateAfter, faultAt, runLengthsTest, stepsTest, leftTest, runTests, runDone, ran, stepColumn, heldAt}
-use Rattle.papers.specs.Conditions.{RunShort, Known, AllFit, BadStep, unknown-column, too-many-pops, row-outside, over-room, StepBad, UpdatesLeft, runLists, runConditions}
+use Rattle.papers.specs.Conditions.{RunShort, Known, AllFit, StepFault, unknown-column, too-many-pops, row-outside, over-room, BadStep, UpdatesLeft, runLists, runConditions}
 use Rattle.list_laws.proofs.Tests.{Test, passes, fails, test, and-both}
 use Rattle.list_laws.proofs.Members.{member-true, member-into}
 use Rattle.order_laws.proofs.TogetherTest.{every-all}
@@ -83,16 +83,16 @@ module _ (call : RunCall) where
     fewer-iff = (ltb-false (length (heldAt call s)) (popsAt call s), le-ltb (length (heldAt call s)) (popsAt call s))
 
   -- a step's fault is the one whose condition holds
-  step-faults : Faults (faultAt call) (BadStep call)
+  step-faults : Faults (faultAt call) (StepFault call)
   step-faults = record { is = is; some = λ s. go s (test (known s)) (test (many s)) (test (fit s)) (test (over s)) }
     where
-      is : (s m : ℕ) → BadStep call s m → (faultAt call s ≡ m) × (0 < m)
+      is : (s m : ℕ) → StepFault call s m → (faultAt call s ≡ m) × (0 < m)
       is s m (unknown-column k) = (rw (fault-is s, fails-iff (known s) (known-iff s) .1 k), omega arith)
       is s m (too-many-pops k h) = (rw (fault-is s, known-iff s .1 k, many-iff s .1 h), omega arith)
       is s m (row-outside k h f) = (rw (fault-is s, known-iff s .1 k, fewer-iff s .1 h, fails-iff (fit s) (fit-iff s) .1 f), omega arith)
       is s m (over-room k h f r) = (rw (fault-is s, known-iff s .1 k, fewer-iff s .1 h, fit-iff s .1 f, over-iff s .1 r), omega arith)
 
-      go : (s : ℕ) → Test (known s) → Test (many s) → Test (fit s) → Test (over s) → (faultAt call s ≡ 0) ⊎ BadStep call s (faultAt call s)
+      go : (s : ℕ) → Test (known s) → Test (many s) → Test (fit s) → Test (over s) → (faultAt call s ≡ 0) ⊎ StepFault call s (faultAt call s)
       go s (fails k) m f r = inr (rw (fault-is s, k) (unknown-column (fails-iff (known s) (known-iff s) .0 k)))
       go s (passes k) (passes m) f r = inr (rw (fault-is s, k, m) (too-many-pops (known-iff s .0 k) (many-iff s .0 m)))
       go s (passes k) (fails m) (fails f) r =
@@ -102,7 +102,7 @@ module _ (call : RunCall) where
       go s (passes k) (fails m) (passes f) (fails r) = inl (rw (fault-is s, k, m, f, r))
 
   -- 14, 21, 22, 23
-  steps-agree : Agree (stepsTest call) (StepBad call)
+  steps-agree : Agree (stepsTest call) (BadStep call)
   unfolding stepsTest refusedAt
   steps-agree =
       agree-faults step-faults (call .n) _ (λ number s. answer number s (stateAfter call (s - 1) .greatest)) zeroed (λ e. rw e) (λ p e. rw e)
@@ -139,13 +139,13 @@ unfolding stepsTest
 steps-leaving call =
     faults-each (faultAt call) (call .n) (λ s. stateAfter call (s - 1) .greatest) zeroed Leaving tt (λ s l h f. go f (step-faults call .some s))
   where
-    over : {s m : ℕ} → BadStep call s m → 7 < m
+    over : {s m : ℕ} → StepFault call s m → 7 < m
     over (unknown-column k) = omega arith
     over (too-many-pops k h) = omega arith
     over (row-outside k h f) = omega arith
     over (over-room k h f r) = omega arith
 
-    go : {s : ℕ} → 0 < faultAt call s → (faultAt call s ≡ 0) ⊎ BadStep call s (faultAt call s) → 7 < faultAt call s
+    go : {s : ℕ} → 0 < faultAt call s → (faultAt call s ≡ 0) ⊎ StepFault call s (faultAt call s) → 7 < faultAt call s
     go f (inl z) = absurd (omega arith)
     go f (inr b) = over b
 

@@ -14,7 +14,7 @@ use Rattle.papers.specs.Bounds.{inputBytes, programColumns, programRows}
 use Rattle.papers.specs.Lists.{flat}
 use Rattle.papers.specs.Refusals.{answer, untouched, passed, refused, refusedIf}
 use Rattle.papers.specs.Text.{numbersAt, headOf, isRowLine, afterLines, textHead, textLists, Input, inputTest, headTest, lineFault, rowLinesTest, endTest, textTests}
-use Rattle.papers.specs.Conditions.{HeadLine, two, three, RowLine, rows, InputOver, BadHead, bad-head, columns-over, BadLine, bad-line, rows-over, LineBad, TextAfter, textConditions}
+use Rattle.papers.specs.Conditions.{HeadLine, two, three, RowLine, rows, InputOver, BadHead, bad-head, columns-over, LineFault, bad-line, rows-over, BadLine, TextAfter, textConditions}
 use Rattle.list_laws.proofs.Tests.{Test, passes, fails, test, true-false}
 use Rattle.job_laws.proofs.Firsts.{refused-if, passed-if}
 use Rattle.refusal_laws.proofs.Agreements.{Refuses, Agree, agree-by, AgreeEach, _▸_}
@@ -106,19 +106,19 @@ module _ (text : List ℕ) where
     unfolding listed-over
     listed-over-iff = below-iff programRows (length (flat (textLists text j)))
 
-  line-faults : Faults (lineFault text) (BadLine text)
+  line-faults : Faults (lineFault text) (LineFault text)
   line-faults = record { is = is; some = λ j. go j (test (isRowLine (numbersAt text (suc j)))) (test (listed-over j)) }
     where
-      is : (j m : ℕ) → BadLine text j m → (lineFault text j ≡ m) × (0 < m)
+      is : (j m : ℕ) → LineFault text j m → (lineFault text j ≡ m) × (0 < m)
       is j m (bad-line r) = (line-bad j (fails-iff _ (row-line-iff (numbersAt text (suc j))) .1 r), omega arith)
       is j m (rows-over r o) = (line-over j (row-line-iff (numbersAt text (suc j)) .1 r) (listed-over-iff j .1 o), omega arith)
 
-      go : (j : ℕ) → Test (isRowLine (numbersAt text (suc j))) → Test (listed-over j) → (lineFault text j ≡ 0) ⊎ BadLine text j (lineFault text j)
+      go : (j : ℕ) → Test (isRowLine (numbersAt text (suc j))) → Test (listed-over j) → (lineFault text j ≡ 0) ⊎ LineFault text j (lineFault text j)
       go j (fails r) o = inr (rw (line-bad j r) (bad-line (fails-iff _ (row-line-iff (numbersAt text (suc j))) .0 r)))
       go j (passes r) (passes o) = inr (rw (line-over j r o) (rows-over (row-line-iff (numbersAt text (suc j)) .0 r) (listed-over-iff j .0 o)))
       go j (passes r) (fails o) = inl (line-fine j r o)
 
-lines-agree : (input : Input) → Agree (rowLinesTest input) (LineBad input)
+lines-agree : (input : Input) → Agree (rowLinesTest input) (BadLine input)
 unfolding rowLinesTest
 lines-agree input =
     agree-faults (line-faults (input .text)) (textHead (input .text) .n) _ (λ number j. answer number (suc j) 0) untouched (λ e. rw (e, rowLinesTest)) (λ p e. rw (e, rowLinesTest))

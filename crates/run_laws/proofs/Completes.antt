@@ -13,7 +13,7 @@ use Rattle.papers.specs.Job.{Pattern}
 use Rattle.papers.specs.Order.{popsOf, peak}
 use Rattle.papers.specs.Refusals.{answer}
 use Rattle.papers.specs.Run.{RunCall, stepColumn, stateAfter, runDone, ran}
-use Rattle.papers.specs.Conditions.{ColumnsOver, StartsBad, BadRow, RunShort, BadStep, unknown-column, too-many-pops, row-outside, over-room, StepBad, UpdatesLeft, runLists, runConditions, Answered, Unrefused}
+use Rattle.papers.specs.Conditions.{ColumnsOver, BadStarts, BadRow, RunShort, StepFault, unknown-column, too-many-pops, row-outside, over-room, BadStep, UpdatesLeft, runLists, runConditions, Answered, Unrefused}
 use Rattle.list_laws.proofs.Tests.{strong}
 use Rattle.job_laws.proofs.Passed.{lists-iff}
 use Rattle.refusal_laws.proofs.Agreements.{agree-passed-iff}
@@ -33,7 +33,7 @@ module _ {A : Pattern} {call : RunCall} (f : Follows A call) where
   columns-few : (b : Answer) → ¬ ColumnsOver (call .n) b
   columns-few b k = omega (arith, k .0, f .few)
 
-  starts-fine : (b : Answer) → ¬ StartsBad (runLists call) b
+  starts-fine : (b : Answer) → ¬ BadStarts (runLists call) b
   starts-fine = agree-passed-iff _ _ (starts-agree (runLists call)) .0 (lists-iff (call .n) (call .starts) (call .rows) .1 (lists-pass f) .0)
 
   rows-fine : (b : Answer) → ¬ BadRow (runLists call) b
@@ -51,7 +51,7 @@ module _ {A : Pattern} {call : RunCall} (f : Follows A call) where
   nothing-left b k = omega (arith, k .0, ap length (ends-empty f))
 
   -- a step can only lack room
-  lacks-room : {m : ℕ} (s : ℕ) → IsStep call s → BadStep call s m → (m ≡ 23) × (call .room < roomUsed call s)
+  lacks-room : {m : ℕ} (s : ℕ) → IsStep call s → StepFault call s m → (m ≡ 23) × (call .room < roomUsed call s)
   lacks-room s i (unknown-column k) = absurd (k (step-known f s i))
   lacks-room s i (too-many-pops k h) = absurd (omega (arith, step-held f s i))
   lacks-room s i (row-outside k h o) = absurd (o (popped-fit f s i))
@@ -59,13 +59,13 @@ module _ {A : Pattern} {call : RunCall} (f : Follows A call) where
 
   -- ---- with a room of the peak, or more
 
-  unrefused : ((b : Answer) → ¬ StepBad call b) → Unrefused runConditions call
+  unrefused : ((b : Answer) → ¬ BadStep call b) → Unrefused runConditions call
   unrefused h = columns-few & starts-fine & rows-fine & slices-long & h & nothing-left & tt
 
   done : peak (call .n) A (call .columns) ≤ call .room → ran call ≡ record { answer = answer 0 0 (peak (call .n) A (call .columns)); lent = zeros (call .stack) }
   unfolding runDone
   done h =
-      let none : (b : Answer) → ¬ StepBad call b = λ b (s, m, i, bad, earlier, e). absurd (omega (arith, lacks-room s i bad .1, room-bound f s i)) in
+      let none : (b : Answer) → ¬ BadStep call b = λ b (s, m, i, bad, earlier, e). absurd (omega (arith, lacks-room s i bad .1, room-bound f s i)) in
       let exactly = run-exactly call in
       rw (← greatest-peak f) (exactly .when-done (exactly .done-iff .1 (unrefused none)))
 
@@ -89,14 +89,14 @@ module _ {A : Pattern} {call : RunCall} (f : Follows A call) where
   -- ---- with less
 
   -- where no step is the first at fault, none is at fault
-  none-bad : ((b : Answer) → ¬ StepBad call b) → (s : ℕ) → IsStep call s → (m : ℕ) → ¬ BadStep call s m
-  none-bad none = strong (λ s. IsStep call s → (m : ℕ) → ¬ BadStep call s m) (λ s ih i m bad. none _ (s, m, i, bad, λ k m l h b. ih k h (l, omega arith) m b, refl))
+  none-bad : ((b : Answer) → ¬ BadStep call b) → (s : ℕ) → IsStep call s → (m : ℕ) → ¬ StepFault call s m
+  none-bad none = strong (λ s. IsStep call s → (m : ℕ) → ¬ StepFault call s m) (λ s ih i m bad. none _ (s, m, i, bad, λ k m l h b. ih k h (l, omega arith) m b, refl))
 
   -- a run with less is refused with 23
   pub less-refused : call .room < peak (call .n) A (call .columns) → LacksRoom call
   less-refused h = go (ran call .answer .number) refl
     where
-      by-room : StepBad call (ran call .answer) → LacksRoom call
+      by-room : BadStep call (ran call .answer) → LacksRoom call
       by-room (s, m, i, bad, earlier, e) =
           let (q, r) = lacks-room s i bad in
           let a : ran call .answer ≡ answer 23 s (stateAfter call (s - 1) .greatest) = rw q at e in
