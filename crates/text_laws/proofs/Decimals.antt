@@ -14,7 +14,8 @@ use Rattle.papers.specs.Bounds.{maxDigits}
 use Rattle.papers.specs.Lists.{every}
 use Rattle.papers.specs.Text.{digit, isDigit, isDecimal, valueOf, digitsOf, decimalOf}
 use Rattle.list_laws.proofs.Tests.{below-or, true-false, not-true, strong}
-use Rattle.text_laws.proofs.Parts.{and-iff, All, all-append, all-map, every-iff}
+use Rattle.text_laws.specs.Grammar.{All, Digit, Short}
+use Rattle.text_laws.proofs.Parts.{and-iff, all-append, all-map, every-iff}
 
 -- ---- the digits of a number
 
@@ -67,10 +68,6 @@ decimal-each P small more = strong (λ x. P x (decimalOf x)) (λ x ih. go x ih (
     go x ih (inr l) = rw (decimal-more x l) (more x l (ih (x / 10) (omega arith)))
 
 -- ---- digits
-
--- a byte that is a digit
-abbrev pub Digit : ℕ → Type 0
-Digit b = (digit 0 ≤ b) × (b ≤ digit 9)
 
 pub digit-iff : (b : ℕ) → (isDigit b ≡ true) ↔ Digit b
 unfolding isDigit
@@ -161,7 +158,7 @@ first =
     (λ x l ih. record { head = ih .head; tail = ih .tail ++ (digit (x % 10) ∷ []); parts = rw (ih .parts); zero-alone = λ h. ih .zero-alone (omega arith); alone = λ h. absurd (omega arith) })
 
 -- the decimal of a number of at most 13 digits is one
-decimal-passes : (x : ℕ) → x < 10 ^ maxDigits → isDecimal (decimalOf x) ≡ true
+decimal-passes : (x : ℕ) → Short x → isDecimal (decimalOf x) ≡ true
 decimal-passes x h =
     let f = first x in
     let long : length (decimalOf x) ≤ maxDigits = length-decimal (maxDigits - 1) x h in
@@ -173,7 +170,7 @@ decimal-passes x h =
     go f l z (inr s) = omega (arith, f .zero-alone (omega arith))
 
 -- a decimal is that of its value
-passes-decimal : (w : List ℕ) → isDecimal w ≡ true → (w ≡ decimalOf (valueOf 0 w)) × (valueOf 0 w < 10 ^ maxDigits)
+passes-decimal : (w : List ℕ) → isDecimal w ≡ true → (w ≡ decimalOf (valueOf 0 w)) × (Short (valueOf 0 w))
 unfolding valueOf isDecimal
 passes-decimal [] e = absurd (true-false e refl)
 passes-decimal (d ∷ []) e =
@@ -194,5 +191,5 @@ passes-decimal (d ∷ c ∷ ds) e =
     )
 
 -- a word is a decimal of value x just where it is the shortest decimal of x, of at most 13 digits
-pub decimal-iff : (w : List ℕ) (x : ℕ) → ((isDecimal w ≡ true) × (valueOf 0 w ≡ x)) ↔ ((w ≡ decimalOf x) × (x < 10 ^ maxDigits))
+pub decimal-iff : (w : List ℕ) (x : ℕ) → ((isDecimal w ≡ true) × (valueOf 0 w ≡ x)) ↔ ((w ≡ decimalOf x) × (Short x))
 decimal-iff w x = (λ h. rw (← h .1) (passes-decimal w (h .0)), λ h. rw (h .0) (decimal-passes x (h .1), decimal-value x))

@@ -2,18 +2,14 @@
 -- Assumes nothing.
 use Prim.Native.Nat.{ℕ, suc}
 use mathlib.Core.Path.{_≡_, refl, ap, _∙_}
-use mathlib.Core.Logic.{_↔_, _≢_}
+use mathlib.Core.Logic.{_↔_}
 use mathlib.Core.List.{List, [], _∷_, _++_}
 use native.Mathlib.Omega.{arith}
 use lib.Dec.{eqb}
 use borrow.Author.Tests.{eqb-true, eqb-false, eq-eqb, ne-eqb}
 use Rattle.papers.specs.Text.{newline, Cut, line, unended, startingWith, cut, afterLines}
 use Rattle.list_laws.proofs.Tests.{Test, passes, fails, test}
-use Rattle.text_laws.proofs.Parts.{All}
-
--- a byte that ends no line
-abbrev pub InLine : ℕ → Type 0
-InLine b = b ≢ newline
+use Rattle.text_laws.specs.Grammar.{All, InLine}
 
 -- the first byte ends the line, or is in it
 cut-here : (b : ℕ) (bs : List ℕ) → b ≡ newline → cut (b ∷ bs) ≡ line [] bs

@@ -1,23 +1,19 @@
 -- The numbers of a line: a line reads as numbers just where it is those numbers printed, and each has at most 13 digits. The line's words are then
 -- their decimals, and no byte of a decimal ends a word or a line.
 -- Assumes nothing.
-use Prim.Native.Nat.{ℕ, suc, _-_, _^_, _<_}
+use Prim.Native.Nat.{ℕ, suc, _-_}
 use mathlib.Core.Path.{_≡_, refl, sym, ap, _∙_}
 use mathlib.Core.Logic.{_↔_}
 use mathlib.Core.Bool.{true, false}
 use mathlib.Core.List.{List, [], _∷_, _++_, append-assoc, map}
 use native.Mathlib.Omega.{arith}
-use Rattle.papers.specs.Bounds.{maxDigits}
 use Rattle.papers.specs.Text.{newline, Cut, line, unended, cut, afterLines, wordsOf, isDecimal, allDecimal, valueOf, numbersOf, numbersAt, decimalOf, printed}
 use Rattle.list_laws.proofs.Tests.{Test, passes, fails, test}
-use Rattle.text_laws.proofs.Parts.{and-iff, All, all-append, all-map}
-use Rattle.text_laws.proofs.Decimals.{Digit, decimal-digits, decimal-iff}
-use Rattle.text_laws.proofs.Lines.{InLine, cut-iff, after-line}
-use Rattle.text_laws.proofs.Words.{InWord, spaced, words-spaced, Line, line-words, printed-spaced}
-
--- a number of at most 13 digits
-abbrev pub Short : ℕ → Type 0
-Short x = x < 10 ^ maxDigits
+use Rattle.text_laws.specs.Grammar.{All, Digit, InWord, InLine, Short, spaced}
+use Rattle.text_laws.proofs.Parts.{and-iff, all-append, all-map}
+use Rattle.text_laws.proofs.Decimals.{decimal-digits, decimal-iff}
+use Rattle.text_laws.proofs.Lines.{cut-iff, after-line}
+use Rattle.text_laws.proofs.Words.{words-spaced, Line, line-words, printed-spaced}
 
 no-cons : {A : Type 0} {x : A} {xs : List A} → _≡_ {A = List A} [] (x ∷ xs) → ⊥
 no-cons e = let z : _≡_ {A = ℕ} 0 1 = cc in omega arith

@@ -6,6 +6,7 @@ use mathlib.Core.Logic.{_↔_}
 use mathlib.Core.Bool.{Bool, true, false, _&&_}
 use mathlib.Core.List.{List, [], _∷_, _++_}
 use Rattle.papers.specs.Lists.{every}
+use Rattle.text_laws.specs.Grammar.{All}
 use Rattle.list_laws.proofs.Tests.{Test, passes, fails, test, true-false}
 
 -- both tests pass
@@ -13,15 +14,9 @@ pub and-iff : (a b : Bool) → ((a && b) ≡ true) ↔ ((a ≡ true) × (b ≡ t
 and-iff true b = (λ e. (refl, e), λ h. h .1)
 and-iff false b = (λ e. absurd (true-false e refl), λ h. absurd (true-false (h .0) refl))
 
-module _ {A : Type 0} (P : A → Type 0) where
-  -- every element has the property
-  abbrev pub All : List A → Type 0
-  All [] = Unit {0}
-  All (x ∷ xs) = P x × All xs
-
-  pub all-append : (xs ys : List A) → All xs → All ys → All (xs ++ ys)
-  all-append [] ys p q = q
-  all-append (x ∷ xs) ys p q = (p .0, all-append xs ys (p .1) q)
+pub all-append : {A : Type 0} (P : A → Type 0) (xs ys : List A) → All P xs → All P ys → All P (xs ++ ys)
+all-append P [] ys p q = q
+all-append P (x ∷ xs) ys p q = (p .0, all-append P xs ys (p .1) q)
 
 pub all-map : {A : Type 0} {P Q : A → Type 0} → ((x : A) → P x → Q x) → (xs : List A) → All P xs → All Q xs
 all-map f [] p = tt

@@ -2,22 +2,12 @@
 -- Assumes nothing.
 use Prim.Native.Nat.{ℕ}
 use mathlib.Core.Path.{_≡_, refl, sym, ap, _∙_}
-use mathlib.Core.Logic.{_≢_}
 use mathlib.Core.List.{List, [], _∷_, _++_, append-assoc, map}
 use lib.Dec.{eqb}
 use borrow.Author.Tests.{eqb-true, eqb-false, eq-eqb, ne-eqb}
 use Rattle.papers.specs.Text.{newline, space, onWord, wordsOf, decimalOf, printed}
 use Rattle.list_laws.proofs.Tests.{Test, passes, fails, test}
-use Rattle.text_laws.proofs.Parts.{All}
-
--- a byte that ends no word
-abbrev pub InWord : ℕ → Type 0
-InWord b = b ≢ space
-
--- words with one space between
-abbrev pub spaced : List ℕ → List (List ℕ) → List ℕ
-spaced w [] = w
-spaced w (v ∷ vs) = w ++ (space ∷ spaced v vs)
+use Rattle.text_laws.specs.Grammar.{All, InWord, spaced}
 
 words-here : (b : ℕ) (bs : List ℕ) → b ≡ space → wordsOf (b ∷ bs) ≡ [] ∷ wordsOf bs
 unfolding wordsOf
