@@ -3,7 +3,7 @@
 -- Assumes nothing.
 use Prim.Native.Nat.{ℕ, zero, suc, _+_, _-_, _*_, _/_, _%_, _^_, _<_, _≤_}
 use mathlib.Core.Path.{_≡_, refl, sym, ap, _∙_}
-use mathlib.Core.Logic.{_⊎_, inl, inr, _↔_, _≢_}
+use mathlib.Core.Logic.{_⊎_, inl, inr, _↔_}
 use mathlib.Core.Bool.{true}
 use mathlib.Core.List.{List, [], _∷_, _++_, append-assoc, append-nil}
 use native.Mathlib.Omega.{arith}
@@ -14,7 +14,7 @@ use Rattle.papers.specs.Bounds.{maxDigits}
 use Rattle.papers.specs.Lists.{every}
 use Rattle.papers.specs.Text.{digit, isDigit, isDecimal, valueOf, digitsOf, decimalOf}
 use Rattle.list_laws.proofs.Tests.{below-or, true-false, not-true, strong}
-use Rattle.text_laws.specs.Grammar.{All, Digit, Short}
+use Rattle.text_laws.specs.Grammar.{All, Digit, Short, Decimal}
 use Rattle.text_laws.proofs.Parts.{and-iff, all-append, all-map, every-iff}
 
 -- ---- the digits of a number
@@ -85,7 +85,7 @@ decimal-digits = decimal-each (λ x w. All Digit w) (λ x l. (omega arith, tt)) 
 
 -- ---- values
 
-value-append : (v : ℕ) (xs ys : List ℕ) → valueOf v (xs ++ ys) ≡ valueOf (valueOf v xs) ys
+pub value-append : (v : ℕ) (xs ys : List ℕ) → valueOf v (xs ++ ys) ≡ valueOf (valueOf v xs) ys
 unfolding valueOf
 value-append v [] ys = refl
 value-append v (x ∷ xs) ys = value-append (10 * v + (x - digit 0)) xs ys
@@ -109,7 +109,7 @@ digits-behind v (d ∷ ds) h p =
     let e : digit (d - digit 0) ≡ d = omega arith in
     digits-behind (10 * v + (d - digit 0)) ds (omega arith) (p .1) ∙ rw (decimal-next v (d - digit 0) h (omega arith), e) (append-assoc (decimalOf v) (d ∷ []) ds)
 
-value-below : (v : ℕ) (ds : List ℕ) → All Digit ds → valueOf v ds < (v + 1) * 10 ^ length ds
+pub value-below : (v : ℕ) (ds : List ℕ) → All Digit ds → valueOf v ds < (v + 1) * 10 ^ length ds
 unfolding valueOf
 value-below v [] p = omega arith
 value-below v (d ∷ ds) p =
@@ -121,17 +121,21 @@ value-below v (d ∷ ds) p =
 
 -- ---- words that are decimals
 
--- digits, the first no 0 before others, at most 13
-decimal-word-iff : (d : ℕ) (ds : List ℕ)
-    → (isDecimal (d ∷ ds) ≡ true) ↔ (All Digit (d ∷ ds) × (0 < length ds → d ≢ digit 0) × (length (d ∷ ds) ≤ maxDigits))
+-- the test of a word
+pub decimal-word-iff : (w : List ℕ) → (isDecimal w ≡ true) ↔ Decimal w
 unfolding isDecimal
-decimal-word-iff d [] = (λ e. ((digit-iff d .0 e, tt), λ l. absurd (omega arith), omega arith), λ h. digit-iff d .1 (h .0 .0))
-decimal-word-iff d (e ∷ ds) =
+decimal-word-iff [] = (λ e. absurd (true-false e refl), λ h. absurd (let l = h .some in omega arith))
+decimal-word-iff (d ∷ []) =
+    (λ e. record { digits = (digit-iff d .0 e, tt); some = omega arith; few = omega arith; lead = λ l. absurd (omega arith) }, λ h. digit-iff d .1 (h .digits .0))
+decimal-word-iff (d ∷ e ∷ ds) =
     let i = and-iff _ _ in
     let k = and-iff _ _ in
     let digits = digits-iff (d ∷ e ∷ ds) in (
-      λ q. let (p, o) = i .0 q in let (a, z) = k .0 p in (digits .0 a, λ l. eqb-false d (digit 0) (not-true _ z), leb-true _ _ o),
-      λ h. i .1 (k .1 (digits .1 (h .0), rw (ne-eqb d (digit 0) (h .1 (omega arith)))), le-leb _ _ (h .2)),
+      λ q.
+          let (p, o) = i .0 q in
+          let (a, z) = k .0 p in
+          record { digits = digits .0 a; some = omega arith; few = leb-true _ _ o; lead = λ l. eqb-false d (digit 0) (not-true _ z) },
+      λ h. i .1 (k .1 (digits .1 (h .digits), rw (ne-eqb d (digit 0) (h .lead (omega arith)))), le-leb _ _ (h .few)),
     )
 
 -- a number of so many digits
@@ -158,38 +162,40 @@ first =
     (λ x l ih. record { head = ih .head; tail = ih .tail ++ (digit (x % 10) ∷ []); parts = rw (ih .parts); zero-alone = λ h. ih .zero-alone (omega arith); alone = λ h. absurd (omega arith) })
 
 -- the decimal of a number of at most 13 digits is one
-decimal-passes : (x : ℕ) → Short x → isDecimal (decimalOf x) ≡ true
-decimal-passes x h =
+pub decimal-is : (x : ℕ) → Short x → Decimal (decimalOf x)
+decimal-is x h =
     let f = first x in
-    let long : length (decimalOf x) ≤ maxDigits = length-decimal (maxDigits - 1) x h in
     let e = f .parts in
-    rw e (decimal-word-iff (f .head) (f .tail) .1 (rw e at (decimal-digits x), λ l z. go f l z (below-or x 10), rw e at long))
+    let l = ap length e in
+    record { digits = decimal-digits x; some = omega arith; few = length-decimal (maxDigits - 1) x h; lead = λ m. rw e (λ z. lead f (omega arith) z (below-or x 10)) }
   where
-    go : (f : First x (decimalOf x)) → 0 < length (f .tail) → f .head ≡ digit 0 → (x < 10) ⊎ (10 ≤ x) → ⊥
-    go f l z (inl s) = omega (arith, ap length (f .alone s))
-    go f l z (inr s) = omega (arith, f .zero-alone (omega arith))
+    lead : (f : First x (decimalOf x)) → 0 < length (f .tail) → f .head ≡ digit 0 → (x < 10) ⊎ (10 ≤ x) → ⊥
+    lead f l z (inl s) = omega (arith, ap length (f .alone s))
+    lead f l z (inr s) = omega (arith, f .zero-alone (omega arith))
 
 -- a decimal is that of its value
-passes-decimal : (w : List ℕ) → isDecimal w ≡ true → (w ≡ decimalOf (valueOf 0 w)) × (Short (valueOf 0 w))
-unfolding valueOf isDecimal
-passes-decimal [] e = absurd (true-false e refl)
-passes-decimal (d ∷ []) e =
-    let (low, high) = digit-iff d .0 e in
+pub is-decimal : (w : List ℕ) → Decimal w → (w ≡ decimalOf (valueOf 0 w)) × Short (valueOf 0 w)
+unfolding valueOf
+is-decimal [] h = absurd (let l = h .some in omega arith)
+is-decimal (d ∷ []) h =
+    let low = h .digits .0 .0 in
+    let high = h .digits .0 .1 in
     let q : digit (10 * 0 + (d - digit 0)) ≡ d = omega arith in
     (rw (decimal-small (10 * 0 + (d - digit 0)) (omega arith), q), omega arith)
-passes-decimal (d ∷ c ∷ ds) e =
-    let (digits, lead, long) = decimal-word-iff d (c ∷ ds) .0 e in
-    let low = digits .0 .0 in
-    let high = digits .0 .1 in
-    let n = lead (omega arith) in
+is-decimal (d ∷ c ∷ ds) h =
+    let low = h .digits .0 .0 in
+    let high = h .digits .0 .1 in
+    let n = h .lead (omega arith) in
     let z : 10 * 0 + (d - digit 0) ≡ d - digit 0 = omega arith in
     let q : digit (d - digit 0) ≡ d = omega arith in
-    let grow = pow-le-pow-right {n = 10} (omega arith) long in
-    let below = value-below 0 (d ∷ c ∷ ds) digits in (
-      sym (rw z (rw (decimal-small (d - digit 0) (omega arith), q) at (digits-behind (d - digit 0) (c ∷ ds) (omega arith) (digits .1)))),
+    let grow = pow-le-pow-right {n = 10} (omega arith) (h .few) in
+    let below = value-below 0 (d ∷ c ∷ ds) (h .digits) in (
+      sym (rw z (rw (decimal-small (d - digit 0) (omega arith), q) at (digits-behind (d - digit 0) (c ∷ ds) (omega arith) (h .digits .1)))),
       omega arith,
     )
 
 -- a word is a decimal of value x just where it is the shortest decimal of x, of at most 13 digits
 pub decimal-iff : (w : List ℕ) (x : ℕ) → ((isDecimal w ≡ true) × (valueOf 0 w ≡ x)) ↔ ((w ≡ decimalOf x) × (Short x))
-decimal-iff w x = (λ h. rw (← h .1) (passes-decimal w (h .0)), λ h. rw (h .0) (decimal-passes x (h .1), decimal-value x))
+decimal-iff w x =
+    let i = decimal-word-iff w in
+    (λ h. rw (← h .1) (is-decimal w (i .0 (h .0))), λ h. rw (h .0) (decimal-word-iff (decimalOf x) .1 (decimal-is x (h .1)), decimal-value x))

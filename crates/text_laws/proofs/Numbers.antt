@@ -15,7 +15,7 @@ use Rattle.text_laws.proofs.Decimals.{decimal-digits, decimal-iff}
 use Rattle.text_laws.proofs.Lines.{cut-iff, after-line}
 use Rattle.text_laws.proofs.Words.{words-spaced, Line, line-words, printed-spaced}
 
-no-cons : {A : Type 0} {x : A} {xs : List A} → _≡_ {A = List A} [] (x ∷ xs) → ⊥
+pub no-cons : {A : Type 0} {x : A} {xs : List A} → _≡_ {A = List A} [] (x ∷ xs) → ⊥
 no-cons e = let z : _≡_ {A = ℕ} 0 1 = cc in omega arith
 
 -- ---- words
