@@ -1,0 +1,6 @@
+pub mod Parts
+pub mod Decimals
+pub mod Lines
+pub mod Words
+pub mod Numbers
+pub mod ByWords
