@@ -2,14 +2,14 @@
 -- The tests of the other modules compute; crate refusal_laws proves that they agree with what stands here, and bytes_laws that a number is read as
 -- `Stands` says.
 -- Assumes nothing.
-use Prim.Native.Nat.{ℕ, zero, suc, _+_, _-_, _*_, _<_, _≤_}
+use Prim.Native.Nat.{ℕ, zero, suc, _+_, _-_, _*_, _^_, _<_, _≤_}
 use mathlib.Core.Path.{_≡_}
 use mathlib.Core.Logic.{_⊎_, _≢_}
 use mathlib.Core.Bool.{true, false}
 use mathlib.Core.List.{List, [], _∷_, _++_}
 use lib.Dec.{leb}
 use lib.ListN.{length, getD, take}
-use Rattle.papers.specs.Bounds.{maxColumns, maxLimit, workLength, maxGroups, maxPeak, inputBytes, programColumns, programRows, listingBytes}
+use Rattle.papers.specs.Bounds.{maxColumns, maxLimit, workLength, maxGroups, maxPeak, maxDigits, inputBytes, programColumns, programRows, listingBytes}
 use Rattle.papers.specs.Lists.{_∈_, nth, flat}
 use Rattle.papers.specs.Job.{Job, pattern, start, columnOf}
 use Rattle.papers.specs.Fill.{R}
@@ -21,7 +21,7 @@ use Rattle.papers.specs.Refusals.{answer, Lent}
 use Rattle.papers.specs.Analysis.{KeyCall, AnalysisCall, PlanCall}
 use Rattle.papers.specs.Check.{CheckCall, planRead, truePeak}
 use Rattle.papers.specs.Run.{RunCall, rowsIn, frontIn, stepColumn, popsAt, roomIn, stateAfter, heldAt}
-use Rattle.papers.specs.Text.{Input, numbersAt, textHead, textLists, afterLines, textJob, listingOf, buffers, ListingCall}
+use Rattle.papers.specs.Text.{Input, decimalOf, printed, textHead, textLists, afterLines, textJob, listingOf, buffers, ListingCall}
 use Rattle.papers.specs.Call.{Readable, SolverCall}
 use Rattle.papers.specs.declared.Answer.{Answer}
 use Rattle.papers.specs.declared.Number.{Number}
@@ -359,14 +359,20 @@ runConditions = (λ call. ColumnsOver (call .n)) ∷ (λ call. BadStarts (runLis
 
 -- ---- 25 to 27: the job text, and the solver's call
 
+-- line q of a text, counted from 1, is these numbers: each in decimal of at most 13 digits, a space before each but the first, a newline behind
+pub record Spelt (text : List ℕ) (q x : ℕ) (xs : List ℕ) : Type 0 where
+  pub rest : List ℕ
+  pub line : afterLines (q - 1) text ≡ printed (decimalOf x) xs ++ rest
+  pub short : (y : ℕ) → y ∈ (x ∷ xs) → y < 10 ^ maxDigits
+
 -- a line 1 of n and limit, or of n, limit and mark
-pub data HeadLine : List ℕ → Type 0 where
-  two : {n limit : ℕ} → HeadLine (n ∷ limit ∷ [])
-  three : {n limit mark : ℕ} → HeadLine (n ∷ limit ∷ mark ∷ [])
+pub data HeadLine (text : List ℕ) : Type 0 where
+  two : {n limit : ℕ} → Spelt text 1 n (limit ∷ []) → HeadLine text
+  three : {n limit mark : ℕ} → Spelt text 1 n (limit ∷ mark ∷ []) → HeadLine text
 
 -- how many rows, then the rows
-pub data RowLine : List ℕ → Type 0 where
-  rows : {l : List ℕ} → RowLine (length l ∷ l)
+pub data RowLine (text : List ℕ) (q : ℕ) : Type 0 where
+  rows : {l : List ℕ} → Spelt text q (length l) l → RowLine text q
 
 -- 26 at 0
 abbrev pub InputOver : Condition Input
@@ -374,13 +380,13 @@ InputOver input a = ((input .more ≡ true) ⊎ (inputBytes < length (input .tex
 
 -- line 1: 25, then 26
 pub data BadHead (input : Input) : Answer → Type 0 where
-  bad-head : ¬ HeadLine (numbersAt (input .text) 1) → BadHead input (answer 25 1 0)
-  columns-over : HeadLine (numbersAt (input .text) 1) → programColumns < textHead (input .text) .n → BadHead input (answer 26 1 0)
+  bad-head : ¬ HeadLine (input .text) → BadHead input (answer 25 1 0)
+  columns-over : HeadLine (input .text) → programColumns < textHead (input .text) .n → BadHead input (answer 26 1 0)
 
 -- the line of column j: 25, then 26 for the rows of the lines so far
 pub data LineFault (text : List ℕ) (j : ℕ) : ℕ → Type 0 where
-  bad-line : ¬ RowLine (numbersAt text (suc j)) → LineFault text j 25
-  rows-over : RowLine (numbersAt text (suc j)) → programRows < length (flat (textLists text j)) → LineFault text j 26
+  bad-line : ¬ RowLine text (suc j) → LineFault text j 25
+  rows-over : RowLine text (suc j) → programRows < length (flat (textLists text j)) → LineFault text j 26
 
 -- the first row line at fault
 abbrev pub BadLine : Condition Input
