@@ -19,6 +19,7 @@ use Rattle.papers.specs.Call.{readKey}
 use Rattle.bytes_laws.proofs.Fields.{got-inj, then-got, Spans, spans-cut, spans-end, field-back}
 use Rattle.bytes_laws.proofs.Gaps.{RowsFit, ListsFit, lists-back}
 use Rattle.bytes_laws.proofs.Plans.{end-got}
+use Rattle.job_laws.specs.Same.{Same}
 use Rattle.job_laws.proofs.Passed.{Passed, passes-iff, passed-below}
 use Rattle.job_laws.proofs.Laid.{lists-none, lists-more, length-lists, lists-at, rows-laid, starts-laid}
 
@@ -62,13 +63,6 @@ key-back job p =
     ∙ rw (rows-laid (p .lists .whole), starts-laid (p .lists .whole))
 
 -- ---- two jobs with one key
-
--- what a key tells
-pub record Same (a b : Job) : Type 0 where
-  pub columns : a .n ≡ b .n
-  pub marks : a .mark ≡ b .mark
-  pub limits : a .limit ≡ b .limit
-  pub rows : (j : ℕ) → 1 ≤ j → j ≤ a .n → pattern a j ≡ pattern b j
 
 same-lists : (n : ℕ) (A B : Pattern) → ((j : ℕ) → 1 ≤ j → j ≤ n → A j ≡ B j) → listsOf n A ≡ listsOf n B
 same-lists n A B h =
