@@ -1,0 +1,30 @@
+-- The lists of a plan as they stand in two slices, and what judging one of them leaves in work.
+-- Assumes nothing.
+use Prim.Native.Nat.{ℕ, _+_, _-_}
+use mathlib.Core.Path.{_≡_}
+use mathlib.Core.Bool.{Bool, not}
+use mathlib.Core.List.{List, []}
+use lib.ListN.{length, getD, take}
+use Rattle.papers.specs.Lists.{same, flat, startsFrom}
+use Rattle.papers.specs.Job.{Pattern}
+use Rattle.papers.specs.Fill.{R}
+use Rattle.bytes_laws.proofs.Gaps.{ListsFit}
+use Rattle.child_lists.specs.Marks.{Changed}
+use Rattle.list_test.specs.NewRows.{MarkedAre}
+
+-- a plan's lists, one for each of n columns, in their ranges, at the front of two slices
+pub record PlanLists (n : ℕ) (lists : List (List ℕ)) (fstarts frows : List ℕ) : Type 0 where
+  pub count : length lists ≡ n
+  pub fit : ListsFit n 1 lists
+  pub starts-are : take (n + 1) fstarts ≡ startsFrom 0 lists
+  pub rows-are : take (length (flat lists)) frows ≡ flat lists
+
+-- whether the list of column j is another than R(j)
+abbrev pub wrong : Pattern → List (List ℕ) → ℕ → Bool
+wrong A lists j = not (same (getD lists (j - 1) []) (R A j))
+
+-- the rows of R(m + 1) are counted, and just they are marked; of work only marks have changed
+pub record Counted (n m : ℕ) (A : Pattern) (work₀ work : List ℕ) (count : ℕ) : Type 0 where
+  pub counts : count ≡ length (R A (m + 1))
+  pub marks : MarkedAre n (m + 1) work (R A (m + 1))
+  pub changed : Changed n (m + 1) work₀ work
