@@ -1,10 +1,12 @@
 // Refusal 17: the first column whose list in a plan is not R(j), by marks of rows, without a second set of lists.
 ghost use mathlib.Core.Path.{_≡_};
-ghost use Prim.Native.Nat.{_<_};
+ghost use Prim.Native.Nat.{_+_, _<_};
 ghost use lib.ListN.{length};
-ghost use Rattle.papers.specs.Lists.{Distinct};
-ghost use Rattle.child_lists.specs.Marks.{marked, Markable};
+ghost use Rattle.papers.specs.Lists.{Distinct, same};
+ghost use Rattle.child_lists.specs.Marks.{marked, Markable, Changed};
 ghost use Rattle.papers.specs.Job.{columnOf};
+ghost use Rattle.papers.specs.Fill.{R};
+ghost use Rattle.bytes_laws.proofs.Gaps.{RowsFit};
 ghost use Rattle.column_laws.specs.Tested.{Tested};
 ghost use Rattle.structure.specs.Stored.{Stored};
 ghost use Rattle.list_test.specs.NewRows.{newRows};
@@ -55,4 +57,28 @@ fn mark_column(
         c = work[n + c] as usize;
     }
     count
+}
+
+// Whether a list is R(m + 1), where the lists of the columns before are right: it has as many rows, and each of them is marked.
+fn is_right(
+    n: usize,
+    m: usize,
+    list: &[u32],
+    starts: &[u64],
+    rows: &[u32],
+    fstarts: &[u64],
+    frows: &[u32],
+    work: &mut [u64],
+) -> bool
+    requires tested { ⌜ Tested n (now starts) (now rows) ⌝ }
+    requires column { ⌜ m < n ⌝ }
+    requires before { ⌜ Stored n m (columnOf (now starts) (now rows)) (now fstarts) (now frows) (now work) ⌝ }
+    requires fits { ⌜ RowsFit n (m + 1) (now list) ⌝ }
+    ensures answers { λ r. ⌜ r ≡ same (now (list .entry)) (R (columnOf (now (starts .entry)) (now (rows .entry))) (m + 1)) ⌝ }
+    ensures changes { λ _. ⌜ Changed n (m + 1) (now (work .entry)) (now (work .exit)) ⌝ }
+{
+    if list.len() != mark_column(n, m, starts, rows, fstarts, frows, work) {
+        return false;
+    }
+    child_lists::covered(n, m + 1, list, work)
 }
