@@ -5,7 +5,7 @@ use mathlib.Core.Path.{_≡_}
 use mathlib.Core.Bool.{Bool, not}
 use mathlib.Core.List.{List, []}
 use lib.ListN.{length, getD, take}
-use Rattle.papers.specs.Lists.{same, flat, startsFrom}
+use Rattle.papers.specs.Lists.{same, least, flat, startsFrom}
 use Rattle.papers.specs.Job.{Pattern}
 use Rattle.papers.specs.Fill.{R}
 use Rattle.bytes_laws.proofs.Gaps.{ListsFit}
@@ -19,6 +19,11 @@ pub record PlanLists (n : ℕ) (lists : List (List ℕ)) (fstarts frows : List �
   pub starts-are : take (n + 1) fstarts ≡ startsFrom 0 lists
   pub rows-are : take (length (flat lists)) frows ≡ flat lists
 
+-- some lists stand there
+pub record Listed (n : ℕ) (fstarts frows : List ℕ) : Type 0 where
+  pub lists : List (List ℕ)
+  pub are : PlanLists n lists fstarts frows
+
 -- whether the list of column j is another than R(j)
 abbrev pub wrong : Pattern → List (List ℕ) → ℕ → Bool
 wrong A lists j = not (same (getD lists (j - 1) []) (R A j))
@@ -28,3 +33,7 @@ pub record Counted (n m : ℕ) (A : Pattern) (work₀ work : List ℕ) (count : 
   pub counts : count ≡ length (R A (m + 1))
   pub marks : MarkedAre n (m + 1) work (R A (m + 1))
   pub changed : Changed n (m + 1) work₀ work
+
+-- r is the least column whose list is wrong, of the lists that stand there; 0 where none is
+abbrev pub FirstWrong : ℕ → Pattern → List ℕ → List ℕ → ℕ → Type 0
+FirstWrong n A fstarts frows r = (lists : List (List ℕ)) → PlanLists n lists fstarts frows → r ≡ least (wrong A lists) n
