@@ -1,6 +1,3 @@
-pub mod Newly
-pub mod Marked
-pub mod Counting
 pub mod Judging
 pub mod Plans
 pub mod Passing

@@ -28,7 +28,7 @@ use Rattle.structure.specs.Hung.{hanging, Hangable}
 use Rattle.structure.specs.Stored.{Stored}
 use Rattle.structure.proofs.Hanging.{hung-none}
 use Rattle.structure.proofs.Storing.{parent-is, stored-on}
-use Rattle.list_test.specs.Judged.{PlanLists, wrong, FirstWrong}
+use Rattle.list_test.specs.Lists.{PlanLists, wrong, FirstWrong}
 use Rattle.list_test.proofs.Plans.{starts-long, first-start, plan-part, plan-list, stands-fits, stands}
 
 -- two tests that agree have one least place

@@ -19,7 +19,7 @@ use Rattle.column_laws.specs.Chains.{part}
 use Rattle.column_laws.proofs.Columns.{column-part}
 use Rattle.structure.specs.Hung.{hanging}
 use Rattle.structure.specs.Stored.{Part, Stores}
-use Rattle.list_test.specs.Judged.{PlanLists}
+use Rattle.list_test.specs.Lists.{PlanLists}
 
 module _ {n : ℕ} {lists : List (List ℕ)} {fs fr : List ℕ} (p : PlanLists n lists fs fr) where
   laid : PassedLists n (startsFrom 0 lists) (flat lists)

@@ -1,2 +1,1 @@
-pub mod NewRows
-pub mod Judged
+pub mod Lists

@@ -1,67 +1,19 @@
-// Refusal 17: the first column whose list in a plan is not R(j), by marks of rows, without a second set of lists.
+// Refusal 17: the first column whose list in a plan is not R(j), judged by marks of rows, without a second set of lists.
 ghost use mathlib.Core.Path.{_≡_};
 ghost use Prim.Native.Nat.{_+_, _<_, _≤_};
 ghost use mathlib.Core.List.{map};
 ghost use lib.ListN.{length};
 ghost use lib.Seq.{sets};
 ghost use Rattle.papers.specs.Bounds.{workLength};
-ghost use Rattle.papers.specs.Lists.{Distinct, same, upTo};
-ghost use Rattle.child_lists.specs.Marks.{marked, Markable, Changed};
+ghost use Rattle.papers.specs.Lists.{same, upTo};
 ghost use Rattle.papers.specs.Job.{columnOf};
 ghost use Rattle.papers.specs.Fill.{R};
 ghost use Rattle.papers.specs.Tree.{parent};
 ghost use Rattle.bytes_laws.proofs.Gaps.{RowsFit};
 ghost use Rattle.column_laws.specs.Tested.{Tested};
+ghost use Rattle.child_lists.specs.Marks.{Changed};
 ghost use Rattle.structure.specs.Stored.{Stored};
-ghost use Rattle.list_test.specs.NewRows.{newRows};
-ghost use Rattle.list_test.specs.Judged.{Counted, Listed, FirstWrong};
-
-// Marks the rows of a list for column j. Answers how many of them were not marked. Those before k are marked, count of them newly.
-fn mark_new(n: usize, j: usize, list: &[u32], work: &mut [u64]) -> usize
-    requires once { ⌜ Distinct (now list) ⌝ }
-    requires markable { ⌜ Markable n (now list) (now work) ⌝ }
-    ensures counts { λ r. ⌜ r ≡ length (newRows n j (now (work .entry)) (now (list .entry))) ⌝ }
-    ensures marks { λ _. ⌜ now (work .exit) ≡ marked n j (now (list .entry)) (now (work .entry)) ⌝ }
-{
-    let mut count = 0;
-    let mut k = 0;
-    while k < list.len() {
-        let p = n + n + list[k] as usize;
-        if work[p] == j as u64 {
-            k += 1;
-        } else {
-            work[p] = j as u64;
-            count += 1;
-            k += 1;
-        }
-    }
-    count
-}
-
-// Marks the rows of R(m + 1), where the lists of the columns before are right: its pattern rows, and what its children hand on.
-// Answers how many they are. The children from c on are left.
-fn mark_column(
-    n: usize,
-    m: usize,
-    starts: &[u64],
-    rows: &[u32],
-    fstarts: &[u64],
-    frows: &[u32],
-    work: &mut [u64],
-) -> usize
-    requires tested { ⌜ Tested n (now starts) (now rows) ⌝ }
-    requires column { ⌜ m < n ⌝ }
-    requires before { ⌜ Stored n m (columnOf (now starts) (now rows)) (now fstarts) (now frows) (now work) ⌝ }
-    ensures { λ r. ⌜ Counted n m (columnOf (now (starts .entry)) (now (rows .entry))) (now (work .entry)) (now (work .exit)) r ⌝ }
-{
-    let mut count = mark_new(n, m + 1, structure::pattern_rows(m, starts, rows), work);
-    let mut c = work[m + 1] as usize;
-    while c != 0 {
-        count += mark_new(n, m + 1, child_lists::handed_on(c, fstarts, frows), work);
-        c = work[n + c] as usize;
-    }
-    count
-}
+ghost use Rattle.list_test.specs.Lists.{HoldLists, FirstWrong};
 
 // Whether a list is R(m + 1), where the lists of the columns before are right: it has as many rows, and each of them is marked.
 fn is_right(
@@ -81,7 +33,7 @@ fn is_right(
     ensures answers { λ r. ⌜ r ≡ same (now (list .entry)) (R (columnOf (now (starts .entry)) (now (rows .entry))) (m + 1)) ⌝ }
     ensures changes { λ _. ⌜ Changed n (m + 1) (now (work .entry)) (now (work .exit)) ⌝ }
 {
-    if list.len() != mark_column(n, m, starts, rows, fstarts, frows, work) {
+    if list.len() != row_marks::mark_column(n, m, starts, rows, fstarts, frows, work) {
         return false;
     }
     child_lists::covered(n, m + 1, list, work)
@@ -99,7 +51,7 @@ pub fn first_wrong_list(
     work: &mut [u64],
 ) -> u64
     requires tested { ⌜ Tested n (now starts) (now rows) ⌝ }
-    requires listed { ⌜ Listed n (now fstarts) (now frows) ⌝ }
+    requires listed { ⌜ HoldLists n (now fstarts) (now frows) ⌝ }
     requires long { ⌜ (n ≤ length (now parents)) × (workLength n ≤ length (now work)) ⌝ }
     ensures answers { λ r. ⌜ FirstWrong n (columnOf (now (starts .entry)) (now (rows .entry))) (now (fstarts .entry)) (now (frows .entry)) r ⌝ }
     ensures stores { λ r. ⌜ (r ≡ 0 → now (parents .exit) ≡ sets (now (parents .entry)) 0 (map (parent (columnOf (now (starts .entry)) (now (rows .entry)))) (upTo n))) ⌝ }

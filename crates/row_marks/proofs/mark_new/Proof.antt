@@ -1,12 +1,12 @@
--- `list_test::mark_new` meets its contract: the rows left bring as many new ones as are still to be counted. The measure is what is left.
+-- `row_marks::mark_new` meets its contract: the rows left bring as many new ones as are still to be counted. The measure is what is left.
 -- Assumes nothing.
 use Prim.Native.Nat.{_-_}
 use native.Mathlib.Omega.{arith}
 use lib.ListN.{length}
 use Rattle.child_lists.proofs.Marks.{mark-place}
-use Rattle.list_test.proofs.Newly.{Newly, new-begin, new-old, new-mark, new-stop}
-use Rattle.list_test.proofs.mark_new.Statement.{statement}
-use Rattle.list_test.proofs.mark_new.Tie as tie
+use Rattle.row_marks.proofs.Newly.{Newly, new-begin, new-old, new-mark, new-stop}
+use Rattle.row_marks.proofs.mark_new.Statement.{statement}
+use Rattle.row_marks.proofs.mark_new.Tie as tie
 
 abbrev Inv-loop : tie.InvT-loop
 Inv-loop n j list work₀ count₀ k₀ work count k = Newly n j list work₀ work count k

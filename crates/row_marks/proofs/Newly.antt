@@ -14,7 +14,7 @@ use Rattle.papers.specs.Lists.{_∈_, Distinct}
 use Rattle.list_laws.proofs.Keeps.{keep-nil, keep-yes, keep-no}
 use Rattle.child_lists.specs.Marks.{marked, isMarked}
 use Rattle.child_lists.proofs.Marks.{Marking, mark-begin, mark-turn, mark-stop}
-use Rattle.list_test.specs.NewRows.{newRows}
+use Rattle.row_marks.specs.Marked.{newRows}
 
 -- whether a row is not marked
 abbrev pub isNew : ℕ → ℕ → List ℕ → ℕ → Bool

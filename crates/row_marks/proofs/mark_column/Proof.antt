@@ -1,13 +1,13 @@
--- `list_test::mark_column` meets its contract: what is marked and what the children left hand on make the column's list. The measure is the next
+-- `row_marks::mark_column` meets its contract: what is marked and what the children left hand on make the column's list. The measure is the next
 -- child, since the chain descends.
 -- Assumes nothing.
 use native.Mathlib.Omega.{arith}
 use Rattle.papers.specs.Job.{columnOf}
 use Rattle.column_laws.proofs.Columns.{tested-below}
 use Rattle.structure.proofs.Begins.{part-of}
-use Rattle.list_test.proofs.Counting.{Counting, own-once, own-markable, own-change, count-begin, count-few, child-at, link, more-once, more-markable, falls, count-turn, count-stop}
-use Rattle.list_test.proofs.mark_column.Statement.{statement}
-use Rattle.list_test.proofs.mark_column.Tie as tie
+use Rattle.row_marks.proofs.Counting.{Counting, own-once, own-markable, own-change, count-begin, count-few, child-at, link, more-once, more-markable, falls, count-turn, count-stop}
+use Rattle.row_marks.proofs.mark_column.Statement.{statement}
+use Rattle.row_marks.proofs.mark_column.Tie as tie
 
 abbrev Inv-loop : tie.InvT-loop
 Inv-loop n m starts rows fstarts frows work₀ count₀ c₀ work count c = Counting n m (columnOf starts rows) fstarts frows work₀ work c count

@@ -1,4 +1,4 @@
--- The lists of a plan as they stand in two slices, and what judging one of them leaves in work.
+-- The lists of a plan as they stand in two slices, and the first of them that is wrong.
 -- Assumes nothing.
 use Prim.Native.Nat.{ℕ, _+_, _-_}
 use mathlib.Core.Path.{_≡_}
@@ -9,8 +9,6 @@ use Rattle.papers.specs.Lists.{same, least, flat, startsFrom}
 use Rattle.papers.specs.Job.{Pattern}
 use Rattle.papers.specs.Fill.{R}
 use Rattle.bytes_laws.proofs.Gaps.{ListsFit}
-use Rattle.child_lists.specs.Marks.{Changed}
-use Rattle.list_test.specs.NewRows.{MarkedAre}
 
 -- a plan's lists, one for each of n columns, in their ranges, at the front of two slices
 pub record PlanLists (n : ℕ) (lists : List (List ℕ)) (fstarts frows : List ℕ) : Type 0 where
@@ -19,20 +17,14 @@ pub record PlanLists (n : ℕ) (lists : List (List ℕ)) (fstarts frows : List �
   pub starts-are : take (n + 1) fstarts ≡ startsFrom 0 lists
   pub rows-are : take (length (flat lists)) frows ≡ flat lists
 
--- some lists stand there
-pub record Listed (n : ℕ) (fstarts frows : List ℕ) : Type 0 where
+-- two slices hold some plan's lists
+pub record HoldLists (n : ℕ) (fstarts frows : List ℕ) : Type 0 where
   pub lists : List (List ℕ)
   pub are : PlanLists n lists fstarts frows
 
 -- whether the list of column j is another than R(j)
 abbrev pub wrong : Pattern → List (List ℕ) → ℕ → Bool
 wrong A lists j = not (same (getD lists (j - 1) []) (R A j))
-
--- the rows of R(m + 1) are counted, and just they are marked; of work only marks have changed
-pub record Counted (n m : ℕ) (A : Pattern) (work₀ work : List ℕ) (count : ℕ) : Type 0 where
-  pub counts : count ≡ length (R A (m + 1))
-  pub marks : MarkedAre n (m + 1) work (R A (m + 1))
-  pub changed : Changed n (m + 1) work₀ work
 
 -- r is the least column whose list is wrong, of the lists that stand there; 0 where none is
 abbrev pub FirstWrong : ℕ → Pattern → List ℕ → List ℕ → ℕ → Type 0

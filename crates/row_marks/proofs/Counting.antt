@@ -21,9 +21,8 @@ use Rattle.child_lists.proofs.Making.{makes-join, makes-end, makes-few}
 use Rattle.structure.specs.Hung.{hung}
 use Rattle.structure.specs.Stored.{Stored, Next}
 use Rattle.structure.proofs.Gathering.{siblings, found-child, makes}
-use Rattle.list_test.specs.NewRows.{newRows, MarkedAre}
-use Rattle.list_test.specs.Judged.{Counted}
-use Rattle.list_test.proofs.Marked.{marked-none, marked-more, marked-count}
+use Rattle.row_marks.specs.Marked.{newRows, MarkedAre, Counted}
+use Rattle.row_marks.proofs.Marked.{marked-none, marked-more, marked-count}
 
 -- a list above j that is marked
 marks-change : {n j : ℕ} {w : List ℕ} (l w′ : List ℕ) → Asc j l → w′ ≡ marked n j l w → Changed n j w w′

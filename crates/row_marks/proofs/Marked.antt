@@ -17,8 +17,8 @@ use Rattle.list_laws.proofs.Keeps.{keep-from, keep-into, keep-distinct}
 use Rattle.list_laws.proofs.Merges.{merge-asc, merge-left, merge-right, merge-from}
 use Rattle.child_lists.specs.Marks.{marked, isMarked, Markable}
 use Rattle.child_lists.proofs.Marks.{marked-cases, marks-sound}
-use Rattle.list_test.specs.NewRows.{newRows, MarkedAre}
-use Rattle.list_test.proofs.Newly.{isNew, new-no}
+use Rattle.row_marks.specs.Marked.{newRows, MarkedAre}
+use Rattle.row_marks.proofs.Newly.{isNew, new-no}
 
 -- ---- rows once marked
 
