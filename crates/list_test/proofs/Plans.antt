@@ -5,7 +5,7 @@ use mathlib.Core.Path.{_≡_, refl, sym, ap, _∙_}
 use mathlib.Core.List.{List, []}
 use native.Mathlib.Omega.{arith}
 use native.Mathlib.Numerals.{add-one}
-use lib.ListN.{length, getD, take, drop, set, length-take, length-drop, take-append-drop}
+use lib.ListN.{length, getD, drop, set, length-take, length-drop, take-append-drop}
 use lib.Seq.{getD-take, take-take, take-add, length-take-le, sets, sets-eq, set-getD}
 use Rattle.papers.specs.Lists.{head0, flat, startsFrom}
 use Rattle.papers.specs.Job.{columnOf}
