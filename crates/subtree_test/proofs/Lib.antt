@@ -1,0 +1,6 @@
+pub mod Counts
+pub mod Windows
+pub mod Earliest
+pub mod Strays
+pub mod Placing
+pub mod Whole

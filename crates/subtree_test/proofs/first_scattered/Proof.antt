@@ -1,0 +1,87 @@
+-- The two parts of work come back one after the other, and the columns are judged by them.
+-- Assumes nothing.
+use mathlib.Core.Path.{sym}
+use native.Mathlib.Omega.{arith}
+use lib.Seq.{length-take-le}
+use denote.Ref.{now}
+use borrow.Author.Needs.{needs}
+use Rattle.subtree_test.proofs.Whole.{steps-asked, stray-asked, front-room, stray-found}
+use Rattle.subtree_test.proofs.first_scattered.Statement.{statement}
+use Rattle.subtree_test.proofs.first_scattered.Tie as tie
+
+add-m : tie.Need-add-m
+add-m c = search needs
+
+add-e : tie.Need-add-e
+add-e c = search needs
+
+slice-relend-prefix-write-steps : tie.Need-slice-relend-prefix-write-steps
+slice-relend-prefix-write-steps c = search needs
+
+slice-aggregate-write-steps : tie.Need-slice-aggregate-write-steps
+slice-aggregate-write-steps c = sym (length-take-le _ (now (c .before .before .before .before .args .work)) (omega (arith, c .before .before .before .before .pre .1 .1)))
+
+write-steps-requires : tie.Need-write-steps-requires
+write-steps-requires c κs = steps-asked (now (c .before .before .before .before .args .work)) (c .before .before .before .before .pre .1 .0 .0) (c .before .before .before .before .pre .1 .0 .1) (c .before .before .before .before .pre .1 .1)
+
+mul-count-descendants : tie.Need-mul-count-descendants
+mul-count-descendants c = search needs
+
+sub-count-descendants : tie.Need-sub-count-descendants
+sub-count-descendants c = search needs
+
+part-count-descendants-start : tie.Need-part-count-descendants-start
+part-count-descendants-start c = search needs
+
+part-count-descendants-end : tie.Need-part-count-descendants-end
+part-count-descendants-end c = search needs
+
+count-descendants-requires : tie.Need-count-descendants-requires
+count-descendants-requires c κs = search needs
+
+slice-aggregate-first-stray : tie.Need-slice-aggregate-first-stray
+slice-aggregate-first-stray c = front-room _ _ (c .before .before .before .before .before .before .before .before .before .before .before .before .before .pre .0 .0) (c .before .before .before .before .before .before .before .before .before .before .before .before .before .pre .0 .1) (c .before .before .before .before .before .before .before .before .before .before .before .before .before .pre .1 .0 .0) (c .before .before .before .before .before .before .before .before .before .before .before .before .before .pre .1 .0 .1) (now (c .before .before .before .before .before .before .before .before .before .before .before .before .before .args .work)) (c .before .before .before .before .before .before .before .before .write-steps .last .1 .0) (c .before .before .before .before .count-descendants .last .1 .0) (c .before .before .before .before .before .before .before .before .before .before .before .before .before .pre .1 .1) (c .before .before .before .before .before .before .before .before .write-steps .kept .1 .0) (c .before .before .before .before .count-descendants .kept .1 .0) (c .before .before .before .before .before .before .before .before .write-steps .ensures) (c .before .before .before .before .count-descendants .ensures)
+
+mul-first-stray : tie.Need-mul-first-stray
+mul-first-stray c = search needs
+
+sub-first-stray : tie.Need-sub-first-stray
+sub-first-stray c = search needs
+
+part-first-stray-start : tie.Need-part-first-stray-start
+part-first-stray-start c = search needs
+
+part-first-stray-end : tie.Need-part-first-stray-end
+part-first-stray-end c = search needs
+
+first-stray-requires : tie.Need-first-stray-requires
+first-stray-requires c κs = stray-asked _ _ (c .before .before .before .before .before .before .before .before .before .before .before .before .before .before .pre .0 .0) (c .before .before .before .before .before .before .before .before .before .before .before .before .before .before .pre .0 .1) (c .before .before .before .before .before .before .before .before .before .before .before .before .before .before .pre .1 .0 .0) (c .before .before .before .before .before .before .before .before .before .before .before .before .before .before .pre .1 .0 .1) (now (c .before .before .before .before .before .before .before .before .before .before .before .before .before .before .args .work)) (c .before .before .before .before .before .before .before .before .before .write-steps .last .1 .0) (c .before .before .before .before .before .count-descendants .last .1 .0) (c .before .before .before .before .before .before .before .before .before .before .before .before .before .before .pre .1 .1) (c .before .before .before .before .before .before .before .before .before .write-steps .kept .1 .0) (c .before .before .before .before .before .count-descendants .kept .1 .0) (c .before .before .before .before .before .before .before .before .before .write-steps .ensures) (c .before .before .before .before .before .count-descendants .ensures)
+
+same-length : tie.Need-same-length
+same-length c = search needs
+
+returns : tie.Need-returns
+returns c = stray-found _ _ (c .before .before .before .before .before .before .before .before .before .before .before .before .before .before .before .pre .0 .0) (c .before .before .before .before .before .before .before .before .before .before .before .before .before .before .before .pre .0 .1) (c .before .before .before .before .before .before .before .before .before .before .before .before .before .before .before .pre .1 .0 .0) (c .before .before .before .before .before .before .before .before .before .before .before .before .before .before .before .pre .1 .0 .1) (now (c .before .before .before .before .before .before .before .before .before .before .before .before .before .before .before .args .work)) (c .before .before .before .before .before .before .before .before .before .before .write-steps .last .1 .0) (c .before .before .before .before .before .before .count-descendants .last .1 .0) (c .before .before .before .before .before .before .before .before .before .before .before .before .before .before .before .pre .1 .1) (c .before .before .before .before .before .before .before .before .before .before .write-steps .kept .1 .0) (c .before .before .before .before .before .before .count-descendants .kept .1 .0) (c .before .before .before .before .before .before .before .before .before .before .write-steps .ensures) (c .before .before .before .before .before .before .count-descendants .ensures) (c .first-stray .ensures)
+
+pub first-scattered-spec : {M : Type 1} → statement M
+first-scattered-spec =
+    tie.close
+    (tie.spec
+    add-m
+    add-e
+    slice-relend-prefix-write-steps
+    slice-aggregate-write-steps
+    write-steps-requires
+    mul-count-descendants
+    sub-count-descendants
+    part-count-descendants-start
+    part-count-descendants-end
+    count-descendants-requires
+    slice-aggregate-first-stray
+    mul-first-stray
+    sub-first-stray
+    part-first-stray-start
+    part-first-stray-end
+    first-stray-requires
+    same-length
+    returns)

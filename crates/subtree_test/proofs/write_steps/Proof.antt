@@ -1,0 +1,70 @@
+-- The loop's invariant: the first k steps are written. The measure is how many are left.
+-- Assumes nothing.
+use Prim.Native.Nat.{_-_}
+use native.Mathlib.Omega.{arith}
+use lib.ListN.{length}
+use borrow.Author.Needs.{needs}
+use Rattle.subtree_test.proofs.Placing.{Writing, writing-start, column-fits, writing-turn, writing-stop}
+use Rattle.subtree_test.proofs.write_steps.Statement.{statement}
+use Rattle.subtree_test.proofs.write_steps.Tie as tie
+
+abbrev Inv-loop : tie.InvT-loop
+Inv-loop order steps₀ k₀ steps k = Writing order steps k
+
+abbrev μ-loop : tie.MeasureT-loop
+μ-loop order steps₀ k₀ steps k = length order - k
+
+loop-holds : tie.Need-loop-holds Inv-loop μ-loop
+loop-holds c = writing-start _ _ (c .pre .1)
+
+add-steps : tie.Need-add-steps Inv-loop μ-loop
+add-steps c = search needs
+
+mul-steps : tie.Need-mul-steps Inv-loop μ-loop
+mul-steps c = search needs
+
+shared-slice-read-steps : tie.Need-shared-slice-read-steps Inv-loop μ-loop
+shared-slice-read-steps c = search needs
+
+cast-steps : tie.Need-cast-steps Inv-loop μ-loop
+cast-steps c = omega (arith, column-fits (c .before .before .before .pre .0) (c .before .before .loop .k) (search needs))
+
+mul-steps-2 : tie.Need-mul-steps-2 Inv-loop μ-loop
+mul-steps-2 c = let h = column-fits (c .before .before .before .pre .0) (c .before .before .loop .k) (search needs) in search needs
+
+slice-write-steps : tie.Need-slice-write-steps Inv-loop μ-loop
+slice-write-steps c = let h = column-fits (c .before .before .before .pre .0) (c .before .before .loop .k) (search needs) in search needs
+
+add-k : tie.Need-add-k Inv-loop μ-loop
+add-k c = search needs
+
+loop-less : tie.Need-loop-less Inv-loop μ-loop
+loop-less c = search needs
+
+loop-again : tie.Need-loop-again Inv-loop μ-loop
+loop-again c = writing-turn (c .before .before .before .pre .0) (c .before .before .loop .inv) (search needs)
+
+same-length : tie.Need-same-length Inv-loop μ-loop
+same-length c = search needs
+
+returns : tie.Need-returns Inv-loop μ-loop
+returns c = writing-stop (c .before .loop .inv) (search needs)
+
+pub write-steps-spec : {M : Type 1} → statement M
+write-steps-spec =
+    tie.close
+    (tie.spec
+    Inv-loop
+    μ-loop
+    loop-holds
+    add-steps
+    mul-steps
+    shared-slice-read-steps
+    cast-steps
+    mul-steps-2
+    slice-write-steps
+    add-k
+    loop-less
+    loop-again
+    same-length
+    returns)
