@@ -1,0 +1,31 @@
+-- The lists of a plan as they stand in two slices, and the first of them that is wrong.
+-- Assumes nothing.
+use Prim.Native.Nat.{ℕ, _+_, _-_}
+use mathlib.Core.Path.{_≡_}
+use mathlib.Core.Bool.{Bool, not}
+use mathlib.Core.List.{List, []}
+use lib.ListN.{length, getD, take}
+use Rattle.papers.specs.Lists.{same, least, flat, startsFrom}
+use Rattle.papers.specs.Job.{Pattern}
+use Rattle.papers.specs.Fill.{R}
+use Rattle.bytes_laws.proofs.Gaps.{ListsFit}
+
+-- a plan's lists, one for each of n columns, in their ranges, at the front of two slices
+pub record PlanLists (n : ℕ) (lists : List (List ℕ)) (fstarts frows : List ℕ) : Type 0 where
+  pub count : length lists ≡ n
+  pub fit : ListsFit n 1 lists
+  pub starts-are : take (n + 1) fstarts ≡ startsFrom 0 lists
+  pub rows-are : take (length (flat lists)) frows ≡ flat lists
+
+-- two slices hold some plan's lists
+pub record HoldLists (n : ℕ) (fstarts frows : List ℕ) : Type 0 where
+  pub lists : List (List ℕ)
+  pub are : PlanLists n lists fstarts frows
+
+-- whether the list of column j is another than R(j)
+abbrev pub wrong : Pattern → List (List ℕ) → ℕ → Bool
+wrong A lists j = not (same (getD lists (j - 1) []) (R A j))
+
+-- r is the least column whose list is wrong, of the lists that stand there; 0 where none is
+abbrev pub FirstWrong : ℕ → Pattern → List ℕ → List ℕ → ℕ → Type 0
+FirstWrong n A fstarts frows r = (lists : List (List ℕ)) → PlanLists n lists fstarts frows → r ≡ least (wrong A lists) n

@@ -1,0 +1,3 @@
+pub mod Newly
+pub mod Marked
+pub mod Counting

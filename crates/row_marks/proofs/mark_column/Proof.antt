@@ -1,0 +1,95 @@
+-- `row_marks::mark_column` meets its contract: what is marked and what the children left hand on make the column's list. The measure is the next
+-- child, since the chain descends.
+-- Assumes nothing.
+use native.Mathlib.Omega.{arith}
+use Rattle.papers.specs.Job.{columnOf}
+use Rattle.column_laws.proofs.Columns.{tested-below}
+use Rattle.structure.proofs.Begins.{part-of}
+use Rattle.row_marks.proofs.Counting.{Counting, own-once, own-markable, own-change, count-begin, count-few, child-at, link, more-once, more-markable, falls, count-turn, count-stop}
+use Rattle.row_marks.proofs.mark_column.Statement.{statement}
+use Rattle.row_marks.proofs.mark_column.Tie as tie
+
+abbrev Inv-loop : tie.InvT-loop
+Inv-loop n m starts rows fstarts frows work₀ count₀ c₀ work count c = Counting n m (columnOf starts rows) fstarts frows work₀ work c count
+
+abbrev μ-loop : tie.MeasureT-loop
+μ-loop n m starts rows fstarts frows work₀ count₀ c₀ work count c = c
+
+add-mark-new : tie.Need-add-mark-new Inv-loop μ-loop
+add-mark-new c = omega arith
+
+pattern-rows-requires : tie.Need-pattern-rows-requires Inv-loop μ-loop
+pattern-rows-requires c κs = part-of (c .before .before .before .before .before .pre .0) (c .before .before .before .before .before .pre .1 .0)
+
+mark-new-requires : tie.Need-mark-new-requires Inv-loop μ-loop
+mark-new-requires c κs = (own-once (tested-below (c .before .before .before .before .before .before .before .pre .0)) (c .before .before .before .before .before .before .before .pre .1 .0) (c .before .before .before .before .before .before .before .pre .1 .1) _ (c .before .pattern-rows .ensures), own-markable (tested-below (c .before .before .before .before .before .before .before .pre .0)) (c .before .before .before .before .before .before .before .pre .1 .0) (c .before .before .before .before .before .before .before .pre .1 .1) _ (c .before .pattern-rows .ensures))
+
+add-c : tie.Need-add-c Inv-loop μ-loop
+add-c c = omega arith
+
+mul-c : tie.Need-mul-c Inv-loop μ-loop
+mul-c c = omega arith
+
+slice-read-c : tie.Need-slice-read-c Inv-loop μ-loop
+slice-read-c c = omega arith
+
+loop-holds : tie.Need-loop-holds Inv-loop μ-loop
+loop-holds c = count-begin (tested-below (c .before .before .before .before .before .before .before .before .before .before .before .pre .0)) (c .before .before .before .before .before .before .before .before .before .before .before .pre .1 .0) (c .before .before .before .before .before .before .before .before .before .before .before .pre .1 .1) _ (c .before .before .before .before .before .pattern-rows .ensures) _ _ (c .before .before .before .mark-new .ensures) (c .before .before .before .mark-new .kept .1 .1 .1 .0)
+
+add-mark-new-2 : tie.Need-add-mark-new-2 Inv-loop μ-loop
+add-mark-new-2 c = omega arith
+
+handed-on-requires : tie.Need-handed-on-requires Inv-loop μ-loop
+handed-on-requires c κs = child-at (tested-below (c .before .before .before .before .before .before .before .before .before .before .before .before .before .pre .0)) (c .before .loop .inv) (c .loop-test .taken)
+
+mark-new-requires-2 : tie.Need-mark-new-requires-2 Inv-loop μ-loop
+mark-new-requires-2 c κs = (more-once (tested-below (c .before .before .before .before .before .before .before .before .before .before .before .before .before .before .before .pre .0)) (c .before .before .before .loop .inv) (c .before .before .loop-test .taken) _ (c .before .handed-on .ensures), more-markable (tested-below (c .before .before .before .before .before .before .before .before .before .before .before .before .before .before .before .pre .0)) (c .before .before .before .loop .inv) (c .before .before .loop-test .taken) _ (c .before .handed-on .ensures))
+
+add-count : tie.Need-add-count Inv-loop μ-loop
+add-count c = let l = count-few (tested-below (c .before .before .before .before .before .before .before .before .before .before .before .before .before .before .before .before .before .before .pre .0)) (count-turn (tested-below (c .before .before .before .before .before .before .before .before .before .before .before .before .before .before .before .before .before .before .pre .0)) (c .before .before .before .before .before .before .loop .inv) (c .before .before .before .before .before .loop-test .taken) _ (c .before .before .before .before .handed-on .ensures) _ _ (c .before .before .mark-new2 .ensures) (c .before .before .mark-new2 .kept .1 .1 .1 .0)) in let f = c .before .before .before .before .before .before .before .before .before .before .before .before .before .before .before .before .before .before .pre .0 .few in omega arith
+
+add-c-2 : tie.Need-add-c-2 Inv-loop μ-loop
+add-c-2 c = let l = link (tested-below (c .before .before .before .before .before .before .before .before .before .before .before .before .before .before .before .before .before .before .pre .0)) (c .before .before .before .before .before .before .loop .inv) (c .before .before .before .before .before .loop-test .taken) in let e = c .before .before .before .before .before .before .loop .inv .long in let k = c .before .before .before .before .before .before .before .before .before .before .mark-new .kept .1 .1 .1 .0 in let g = c .before .before .before .before .before .before .before .before .before .before .before .before .before .before .before .before .before .before .good .1 .1 .1 .1 .1 .1 .0 in omega arith
+
+mul-c-2 : tie.Need-mul-c-2 Inv-loop μ-loop
+mul-c-2 c = let l = link (tested-below (c .before .before .before .before .before .before .before .before .before .before .before .before .before .before .before .before .before .before .pre .0)) (c .before .before .before .before .before .before .loop .inv) (c .before .before .before .before .before .loop-test .taken) in let e = c .before .before .before .before .before .before .loop .inv .long in let k = c .before .before .before .before .before .before .before .before .before .before .mark-new .kept .1 .1 .1 .0 in let g = c .before .before .before .before .before .before .before .before .before .before .before .before .before .before .before .before .before .before .good .1 .1 .1 .1 .1 .1 .0 in omega arith
+
+slice-read-c-2 : tie.Need-slice-read-c-2 Inv-loop μ-loop
+slice-read-c-2 c = rw (c .before .before .before .mark-new2 .kept .1 .1 .1 .0) (link (tested-below (c .before .before .before .before .before .before .before .before .before .before .before .before .before .before .before .before .before .before .before .pre .0)) (c .before .before .before .before .before .before .before .loop .inv) (c .before .before .before .before .before .before .loop-test .taken))
+
+loop-less : tie.Need-loop-less Inv-loop μ-loop
+loop-less c = falls (tested-below (c .before .before .before .before .before .before .before .before .before .before .before .before .before .before .before .before .before .before .before .pre .0)) (c .before .before .before .before .before .before .before .loop .inv) (c .before .before .before .before .before .before .loop-test .taken) _ (c .before .before .before .before .before .handed-on .ensures) _ _ (c .before .before .before .mark-new2 .ensures) (c .before .before .before .mark-new2 .kept .1 .1 .1 .0)
+
+loop-again : tie.Need-loop-again Inv-loop μ-loop
+loop-again c = count-turn (tested-below (c .before .before .before .before .before .before .before .before .before .before .before .before .before .before .before .before .before .before .before .pre .0)) (c .before .before .before .before .before .before .before .loop .inv) (c .before .before .before .before .before .before .loop-test .taken) _ (c .before .before .before .before .before .handed-on .ensures) _ _ (c .before .before .before .mark-new2 .ensures) (c .before .before .before .mark-new2 .kept .1 .1 .1 .0)
+
+same-length : tie.Need-same-length Inv-loop μ-loop
+same-length c = omega arith
+
+returns : tie.Need-returns Inv-loop μ-loop
+returns c = count-stop (tested-below (c .before .before .before .before .before .before .before .before .before .before .before .before .before .pre .0)) (c .before .loop .inv) (own-change (tested-below (c .before .before .before .before .before .before .before .before .before .before .before .before .before .pre .0)) (c .before .before .before .before .before .before .before .before .before .before .before .before .before .pre .1 .0) (c .before .before .before .before .before .before .before .before .before .before .before .before .before .pre .1 .1) _ (c .before .before .before .before .before .before .before .pattern-rows .ensures) _ (c .before .before .before .before .before .mark-new .ensures .1)) (c .loop-test .left)
+
+pub mark-column-spec : {M : Type 1} → statement M
+mark-column-spec =
+    tie.close
+    (tie.spec
+    Inv-loop
+    μ-loop
+    add-mark-new
+    pattern-rows-requires
+    mark-new-requires
+    add-c
+    mul-c
+    slice-read-c
+    loop-holds
+    add-mark-new-2
+    handed-on-requires
+    mark-new-requires-2
+    add-count
+    add-c-2
+    mul-c-2
+    slice-read-c-2
+    loop-less
+    loop-again
+    same-length
+    returns)

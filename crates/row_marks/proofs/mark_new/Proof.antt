@@ -1,0 +1,98 @@
+-- `row_marks::mark_new` meets its contract: the rows left bring as many new ones as are still to be counted. The measure is what is left.
+-- Assumes nothing.
+use Prim.Native.Nat.{_-_}
+use native.Mathlib.Omega.{arith}
+use lib.ListN.{length}
+use Rattle.child_lists.proofs.Marks.{mark-place}
+use Rattle.row_marks.proofs.Newly.{Newly, new-begin, new-old, new-mark, new-stop}
+use Rattle.row_marks.proofs.mark_new.Statement.{statement}
+use Rattle.row_marks.proofs.mark_new.Tie as tie
+
+abbrev Inv-loop : tie.InvT-loop
+Inv-loop n j list work₀ count₀ k₀ work count k = Newly n j list work₀ work count k
+
+abbrev μ-loop : tie.MeasureT-loop
+μ-loop n j list work₀ count₀ k₀ work count k = length list - k
+
+loop-holds : tie.Need-loop-holds Inv-loop μ-loop
+loop-holds c = new-begin _ _ _ _ (c .pre .0)
+
+add-p : tie.Need-add-p Inv-loop μ-loop
+add-p c = omega arith
+
+mul-p : tie.Need-mul-p Inv-loop μ-loop
+mul-p c = omega arith
+
+shared-slice-read-p : tie.Need-shared-slice-read-p Inv-loop μ-loop
+shared-slice-read-p c = omega arith
+
+cast-p : tie.Need-cast-p Inv-loop μ-loop
+cast-p c = omega (arith, c .shared-slice-known .given (c .before .before .loop .k))
+
+add-p-2 : tie.Need-add-p-2 Inv-loop μ-loop
+add-p-2 c = let h = mark-place (c .before .before .before .pre .1) _ (c .before .loop-test .taken) in let g = c .before .before .before .good .1 .1 .1 .0 in omega arith
+
+mul-if1 : tie.Need-mul-if1 Inv-loop μ-loop
+mul-if1 c = let h = mark-place (c .before .before .before .pre .1) _ (c .before .loop-test .taken) in let g = c .before .before .before .good .1 .1 .1 .0 in omega arith
+
+slice-read-if1 : tie.Need-slice-read-if1 Inv-loop μ-loop
+slice-read-if1 c = let h = mark-place (c .before .before .before .before .pre .1) _ (c .before .before .loop-test .taken) in let l = c .before .before .before .loop .inv .marking .long in omega arith
+
+add-k : tie.Need-add-k Inv-loop μ-loop
+add-k c = omega arith
+
+loop-less : tie.Need-loop-less Inv-loop μ-loop
+loop-less c = omega arith
+
+loop-again : tie.Need-loop-again Inv-loop μ-loop
+loop-again c = new-old (c .before .before .before .before .loop .inv) (c .before .before .before .loop-test .taken) (c .if1 .taken)
+
+mul-work : tie.Need-mul-work Inv-loop μ-loop
+mul-work c = let h = mark-place (c .before .before .before .before .before .pre .1) _ (c .before .before .before .loop-test .taken) in let g = c .before .before .before .before .before .good .1 .1 .1 .0 in omega arith
+
+slice-write-work : tie.Need-slice-write-work Inv-loop μ-loop
+slice-write-work c = let h = mark-place (c .before .before .before .before .before .pre .1) _ (c .before .before .before .loop-test .taken) in let l = c .before .before .before .before .loop .inv .marking .long in omega arith
+
+add-count : tie.Need-add-count Inv-loop μ-loop
+add-count c = omega arith
+
+add-k-2 : tie.Need-add-k-2 Inv-loop μ-loop
+add-k-2 c = omega arith
+
+loop-less-2 : tie.Need-loop-less-2 Inv-loop μ-loop
+loop-less-2 c = omega arith
+
+loop-again-2 : tie.Need-loop-again-2 Inv-loop μ-loop
+loop-again-2 c = new-mark (c .before .before .before .before .loop .inv) (c .before .before .before .loop-test .taken) (c .if1 .left)
+
+same-length : tie.Need-same-length Inv-loop μ-loop
+same-length c = omega arith
+
+returns : tie.Need-returns Inv-loop μ-loop
+returns c = new-stop (c .before .loop .inv) (c .loop-test .left)
+
+pub mark-new-spec : {M : Type 1} → statement M
+mark-new-spec =
+    tie.close
+    (tie.spec
+    Inv-loop
+    μ-loop
+    loop-holds
+    add-p
+    mul-p
+    shared-slice-read-p
+    cast-p
+    add-p-2
+    mul-if1
+    slice-read-if1
+    add-k
+    loop-less
+    loop-again
+    mul-work
+    slice-write-work
+    add-count
+    add-k-2
+    loop-less-2
+    loop-again-2
+    same-length
+    returns)

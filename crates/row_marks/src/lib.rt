@@ -1,0 +1,58 @@
+// Rows marked and counted: those of R(j), of its pattern rows and of what its children hand on, each once.
+// In work the first child of column j stands at j, the sibling behind column c at n + c, and the mark of row i at n + n + i.
+ghost use mathlib.Core.Path.{_≡_};
+ghost use Prim.Native.Nat.{_<_};
+ghost use lib.ListN.{length};
+ghost use Rattle.papers.specs.Lists.{Distinct};
+ghost use Rattle.papers.specs.Job.{columnOf};
+ghost use Rattle.column_laws.specs.Tested.{Tested};
+ghost use Rattle.child_lists.specs.Marks.{marked, Markable};
+ghost use Rattle.structure.specs.Stored.{Stored};
+ghost use Rattle.row_marks.specs.Marked.{newRows, Counted};
+
+// Marks the rows of a list for column j. Answers how many of them were not marked. Those before k are marked, count of them newly.
+fn mark_new(n: usize, j: usize, list: &[u32], work: &mut [u64]) -> usize
+    requires once { ⌜ Distinct (now list) ⌝ }
+    requires markable { ⌜ Markable n (now list) (now work) ⌝ }
+    ensures counts { λ r. ⌜ r ≡ length (newRows n j (now (work .entry)) (now (list .entry))) ⌝ }
+    ensures marks { λ _. ⌜ now (work .exit) ≡ marked n j (now (list .entry)) (now (work .entry)) ⌝ }
+{
+    let mut count = 0;
+    let mut k = 0;
+    while k < list.len() {
+        let p = n + n + list[k] as usize;
+        if work[p] == j as u64 {
+            k += 1;
+        } else {
+            work[p] = j as u64;
+            count += 1;
+            k += 1;
+        }
+    }
+    count
+}
+
+// Marks the rows of R(m + 1), where the lists of the columns before are right: its pattern rows, and what its children hand on.
+// Answers how many they are. The children from c on are left.
+pub fn mark_column(
+    n: usize,
+    m: usize,
+    starts: &[u64],
+    rows: &[u32],
+    fstarts: &[u64],
+    frows: &[u32],
+    work: &mut [u64],
+) -> usize
+    requires tested { ⌜ Tested n (now starts) (now rows) ⌝ }
+    requires column { ⌜ m < n ⌝ }
+    requires before { ⌜ Stored n m (columnOf (now starts) (now rows)) (now fstarts) (now frows) (now work) ⌝ }
+    ensures { λ r. ⌜ Counted n m (columnOf (now (starts .entry)) (now (rows .entry))) (now (work .entry)) (now (work .exit)) r ⌝ }
+{
+    let mut count = mark_new(n, m + 1, structure::pattern_rows(m, starts, rows), work);
+    let mut c = work[m + 1] as usize;
+    while c != 0 {
+        count += mark_new(n, m + 1, child_lists::handed_on(c, fstarts, frows), work);
+        c = work[n + c] as usize;
+    }
+    count
+}
