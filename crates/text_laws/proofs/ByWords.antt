@@ -41,7 +41,7 @@ printed-more : (x y : ℕ) (ys rest : List ℕ) → printed (decimalOf x) (y ∷
 unfolding printed
 printed-more x y ys rest = append-assoc (decimalOf x) (space ∷ printed (decimalOf y) ys) rest
 
-no-digit : (b : ℕ) → Ends b → ¬ Digit b
+pub no-digit : (b : ℕ) → Ends b → ¬ Digit b
 no-digit b (inl e) d = omega arith
 no-digit b (inr e) d = omega arith
 

@@ -18,6 +18,10 @@ pub all-append : {A : Type 0} (P : A → Type 0) (xs ys : List A) → All P xs �
 all-append P [] ys p q = q
 all-append P (x ∷ xs) ys p q = (p .0, all-append P xs ys (p .1) q)
 
+pub all-back : {A : Type 0} (P : A → Type 0) (xs ys : List A) → All P (xs ++ ys) → All P ys
+all-back P [] ys p = p
+all-back P (x ∷ xs) ys p = all-back P xs ys (p .1)
+
 pub all-map : {A : Type 0} {P Q : A → Type 0} → ((x : A) → P x → Q x) → (xs : List A) → All P xs → All Q xs
 all-map f [] p = tt
 all-map f (x ∷ xs) p = (f x (p .0), all-map f xs (p .1))

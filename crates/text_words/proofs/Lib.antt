@@ -1,0 +1,2 @@
+pub mod Scan
+pub mod Numbers

@@ -1,0 +1,83 @@
+-- The loop's invariant: the first i bytes are digits, of this value. The measure is how many may come.
+-- Assumes nothing.
+use Prim.Native.Nat.{_-_}
+use mathlib.Core.Logic.{inr}
+use native.Mathlib.Omega.{arith}
+use borrow.Author.Needs.{needs}
+use Rattle.text_words.specs.Words.{DigitsRead}
+use Rattle.text_words.proofs.Scan.{digit-yes, digit-no, digits-start, digits-fit, digits-turn, digits-stop}
+use Rattle.text_words.proofs.read_digits.Statement.{statement}
+use Rattle.text_words.proofs.read_digits.Tie as tie
+
+abbrev Inv-loop : tie.InvT-loop
+Inv-loop text at most i₀ value₀ i value = DigitsRead text at i value
+
+abbrev μ-loop : tie.MeasureT-loop
+μ-loop text at most i₀ value₀ i value = most - i
+
+sub-most-digits : tie.Need-sub-most-digits Inv-loop μ-loop
+sub-most-digits c = search needs
+
+most-digits-requires : tie.Need-most-digits-requires Inv-loop μ-loop
+most-digits-requires c κs = search needs
+
+loop-holds : tie.Need-loop-holds Inv-loop μ-loop
+loop-holds c = digits-start _ _ (c .before .before .pre)
+
+add-wide : tie.Need-add-wide Inv-loop μ-loop
+add-wide c = search needs
+
+shared-slice-read-wide : tie.Need-shared-slice-read-wide Inv-loop μ-loop
+shared-slice-read-wide c = search needs
+
+wide-requires : tie.Need-wide-requires Inv-loop μ-loop
+wide-requires c κs = search needs
+
+is-digit-requires : tie.Need-is-digit-requires Inv-loop μ-loop
+is-digit-requires c κs = search needs
+
+returns : tie.Need-returns Inv-loop μ-loop
+returns c = (c .before .before .before .before .before .loop .inv, inr (inr (rw (c .before .before .wide .ensures .0) at (digit-no _ (c .before .is-digit .ensures) (c .if1 .taken)))))
+
+mul-value : tie.Need-mul-value Inv-loop μ-loop
+mul-value c = let few = c .before .before .before .before .before .before .most-digits .ensures in let fit = digits-fit _ _ (c .before .before .before .before .before .loop .inv) (omega (arith, c .before .before .before .before .loop-test .taken)) in omega arith
+
+sub-value : tie.Need-sub-value Inv-loop μ-loop
+sub-value c = digit-yes _ (c .before .is-digit .ensures) (c .if1 .left) .0
+
+add-value : tie.Need-add-value Inv-loop μ-loop
+add-value c = let few = c .before .before .before .before .before .before .most-digits .ensures in let fit = digits-fit _ _ (c .before .before .before .before .before .loop .inv) (omega (arith, c .before .before .before .before .loop-test .taken)) in let high = c .before .before .wide .ensures .1 in omega arith
+
+add-i : tie.Need-add-i Inv-loop μ-loop
+add-i c = search needs
+
+loop-less : tie.Need-loop-less Inv-loop μ-loop
+loop-less c = search needs
+
+loop-again : tie.Need-loop-again Inv-loop μ-loop
+loop-again c = let few = c .before .before .before .before .before .before .most-digits .ensures in let t = c .before .before .before .before .loop-test .taken in digits-turn _ _ (c .before .before .before .before .before .loop .inv) (omega arith) (omega arith) (c .before .before .wide .ensures .0) (digit-yes _ (c .before .is-digit .ensures) (c .if1 .left))
+
+returns-2 : tie.Need-returns-2 Inv-loop μ-loop
+returns-2 c = let few = c .before .before .most-digits .ensures in let l = c .loop-test .left in (c .before .loop .inv, digits-stop _ _ (c .before .loop .inv) (let h = c .before .loop .inv .there .inside in let f = c .before .loop .inv .there .few in omega arith))
+
+pub read-digits-spec : {M : Type 1} → statement M
+read-digits-spec =
+    tie.close
+    (tie.spec
+    Inv-loop
+    μ-loop
+    sub-most-digits
+    most-digits-requires
+    loop-holds
+    add-wide
+    shared-slice-read-wide
+    wide-requires
+    is-digit-requires
+    returns
+    mul-value
+    sub-value
+    add-value
+    add-i
+    loop-less
+    loop-again
+    returns-2)

@@ -1,0 +1,62 @@
+-- The number by its digits and the byte behind them; where one of the two fails no line that begins there has numbers.
+-- Assumes nothing.
+use mathlib.Core.Path.{refl, sym, _∙_}
+use borrow.Author.Needs.{needs}
+use Rattle.list_laws.proofs.Tests.{not-true, not-false}
+use Rattle.text_words.specs.Words.{more, last, bad}
+use Rattle.text_words.proofs.Numbers.{number-here, none-ended, none-bad, none-other}
+use Rattle.text_words.proofs.read_word.Statement.{statement}
+use Rattle.text_words.proofs.read_word.Tie as tie
+
+read-digits-requires : tie.Need-read-digits-requires
+read-digits-requires c κs = search needs
+
+add-end : tie.Need-add-end
+add-end c = search needs
+
+returns : tie.Need-returns
+returns c = bad refl (none-ended _ _ (c .before .before .read-digits .ensures .0) (c .before .before .read-digits .ensures .1) (c .if1 .taken))
+
+is-decimal-requires : tie.Need-is-decimal-requires
+is-decimal-requires c κs = search needs
+
+returns-2 : tie.Need-returns-2
+returns-2 c = bad refl (none-bad _ _ (c .before .before .before .before .read-digits .ensures .0) (c .before .before .before .before .read-digits .ensures .1) (sym (c .before .is-decimal .ensures) ∙ not-true _ (c .if2 .taken)))
+
+shared-slice-read-if3 : tie.Need-shared-slice-read-if3
+shared-slice-read-if3 c = search needs
+
+add-t11 : tie.Need-add-t11
+add-t11 c = search needs
+
+returns-3 : tie.Need-returns-3
+returns-3 c = more _ _ refl (number-here _ _ (c .before .before .before .before .before .before .read-digits .ensures .0) (sym (c .before .before .before .is-decimal .ensures) ∙ not-false _ (c .before .before .if2 .left)) (c .before .before .before .before .if1 .left) (c .if3 .taken))
+
+shared-slice-read-if4 : tie.Need-shared-slice-read-if4
+shared-slice-read-if4 c = search needs
+
+add-t13 : tie.Need-add-t13
+add-t13 c = search needs
+
+returns-4 : tie.Need-returns-4
+returns-4 c = last _ _ refl (number-here _ _ (c .before .before .before .before .before .before .before .before .read-digits .ensures .0) (sym (c .before .before .before .before .before .is-decimal .ensures) ∙ not-false _ (c .before .before .before .before .if2 .left)) (c .before .before .before .before .before .before .if1 .left) (c .if4 .taken))
+
+returns-5 : tie.Need-returns-5
+returns-5 c = bad refl (none-other _ _ (c .before .before .before .before .before .before .before .before .read-digits .ensures .0) (c .before .before .before .before .before .before .before .before .read-digits .ensures .1) (c .before .before .if3 .left) (c .if4 .left))
+
+pub read-word-spec : {M : Type 1} → statement M
+read-word-spec =
+    tie.close
+    (tie.spec
+    read-digits-requires
+    add-end
+    returns
+    is-decimal-requires
+    returns-2
+    shared-slice-read-if3
+    add-t11
+    returns-3
+    shared-slice-read-if4
+    add-t13
+    returns-4
+    returns-5)

@@ -1,0 +1,40 @@
+-- What is read at a place of a text: digits, and the number that they make with the byte behind them.
+-- Assumes nothing.
+use Prim.Native.Nat.{ℕ, _+_, _<_, _≤_}
+use mathlib.Core.Path.{_≡_}
+use mathlib.Core.Logic.{_⊎_}
+use mathlib.Core.List.{List, [], _∷_, _++_}
+use lib.ListN.{length, getD, take, drop}
+use Rattle.papers.specs.Bounds.{maxDigits}
+use Rattle.papers.specs.Text.{newline, space, valueOf, decimalOf, numbersAt}
+use Rattle.text_laws.specs.Grammar.{All, Digit, Short}
+use Rattle.text_words.specs.declared.Word.{Word}
+use Rattle.text_words.specs.declared.Word.the-variants.{More, Last, Bad}
+
+-- the first `count` bytes from `at` on are digits, no more than a decimal may have
+pub record DigitsAt (text : List ℕ) (at count : ℕ) : Type 0 where
+  pub digits : All Digit (take count (drop at text))
+  pub few : count ≤ maxDigits
+  pub inside : at + count ≤ length text
+
+-- and their value
+pub record DigitsRead (text : List ℕ) (at count value : ℕ) : Type 0 where
+  pub there : DigitsAt text at count
+  pub valued : value ≡ valueOf 0 (take count (drop at text))
+
+-- no digit follows them, unless they are as many as a decimal may have
+abbrev pub Stop : List ℕ → ℕ → ℕ → Type 0
+Stop text at count = (count ≡ maxDigits) ⊎ ((at + count ≡ length text) ⊎ (¬ Digit (getD text (at + count) 0)))
+
+-- the number x at `at`, in front of the byte b, and the place behind that
+pub record Number (text : List ℕ) (at b x next : ℕ) : Type 0 where
+  pub short : Short x
+  pub stands : drop at text ≡ decimalOf x ++ (b ∷ drop next text)
+  pub on : at < next
+  pub inside : next ≤ length text
+
+-- What stands at `at`. Where neither kind of number does, a line that begins there has none.
+pub data WordRead (text : List ℕ) (at : ℕ) (r : Word) : Type 0 where
+  more : (x next : ℕ) → r ≡ More x next → Number text at space x next → WordRead text at r
+  last : (x next : ℕ) → r ≡ Last x next → Number text at newline x next → WordRead text at r
+  bad : r ≡ Bad → numbersAt (drop at text) 1 ≡ [] → WordRead text at r

@@ -1,0 +1,110 @@
+// The numbers of a job text, word by word: a decimal, and the byte that ends it.
+ghost use mathlib.Core.Path.{_≡_};
+ghost use Prim.Native.Nat.{_<_, _≤_, min};
+ghost use lib.ListN.{length, take, drop};
+ghost use Rattle.papers.specs.Bounds.{maxDigits};
+ghost use Rattle.papers.specs.Text.{isDigit, isDecimal};
+ghost use Rattle.text_words.specs.Words.{DigitsAt, DigitsRead, Stop, WordRead};
+
+// The most digits of a decimal. The definitions have the same in Bounds.antt of papers.
+pub const MAX_DIGITS: usize = 13;
+
+// What stands at a place of a text: a number in front of a space, or of a newline, and the place behind that; or neither.
+pub enum Word {
+    More { value: u64, next: usize },
+    Last { value: u64, next: usize },
+    Bad,
+}
+
+// Digits in a row: how many, and their value.
+struct Digits {
+    count: usize,
+    value: u64,
+}
+
+// Whether a byte is a digit.
+fn is_digit(b: u64) -> bool
+    ensures { λ r. ⌜ r ≡ isDigit b ⌝ }
+{
+    48 <= b && b <= 57
+}
+
+// A byte as a 64-bit number.
+fn wide(b: u8) -> u64
+    ensures { λ r. ⌜ (r ≡ b) × (r < 256) ⌝ }
+{
+    b as u64
+}
+
+// How many bytes may be digits of one number, of those left.
+fn most_digits(left: usize) -> usize
+    ensures { λ r. ⌜ r ≡ min left maxDigits ⌝ }
+{
+    if left < MAX_DIGITS {
+        return left;
+    }
+    MAX_DIGITS
+}
+
+// The digits from `at` on, up to the first byte that is none, at most 13. The first i bytes are digits, of this value.
+fn read_digits(text: &[u8], at: usize) -> Digits
+    requires { ⌜ at ≤ length (now text) ⌝ }
+    ensures reads { λ r. ⌜ DigitsRead (now (text .entry)) at (r .count) (r .value) ⌝ }
+    ensures stops { λ r. ⌜ Stop (now (text .entry)) at (r .count) ⌝ }
+{
+    let most = most_digits(text.len() - at);
+    let mut i = 0;
+    let mut value = 0;
+    while i < most {
+        let b = wide(text[at + i]);
+        if !is_digit(b) {
+            return Digits { count: i, value };
+        }
+        value = 10 * value + (b - 48);
+        i += 1;
+    }
+    Digits { count: i, value }
+}
+
+// Whether digits are a decimal: there are some, and no 0 before others.
+fn is_decimal(text: &[u8], at: usize, count: usize) -> bool
+    requires { ⌜ DigitsAt (now text) at count ⌝ }
+    ensures { λ r. ⌜ r ≡ isDecimal (take count (drop at (now (text .entry)))) ⌝ }
+{
+    if count == 0 {
+        return false;
+    }
+    if count == 1 {
+        return true;
+    }
+    text[at] != 48
+}
+
+// The number at `at`, by the byte behind its digits.
+pub fn read_word(text: &[u8], at: usize) -> Word
+    requires { ⌜ at ≤ length (now text) ⌝ }
+    ensures { λ r. ⌜ WordRead (now (text .entry)) at r ⌝ }
+{
+    let digits = read_digits(text, at);
+    let value = digits.value;
+    let end = at + digits.count;
+    if text.len() <= end {
+        return Word::Bad;
+    }
+    if !is_decimal(text, at, digits.count) {
+        return Word::Bad;
+    }
+    if text[end] == 32 {
+        return Word::More {
+            value,
+            next: end + 1,
+        };
+    }
+    if text[end] == 10 {
+        return Word::Last {
+            value,
+            next: end + 1,
+        };
+    }
+    Word::Bad
+}
