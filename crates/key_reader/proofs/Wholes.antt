@@ -1,4 +1,4 @@
--- A key is its head, its lists and the end (key-by-head), so its first part at fault makes it unreadable, and where all are read it is the key of the job of
+-- A key is its head, its lists and the end (key-by-head), so its first part at fault makes it unreadable; where all are read it is the key of the job of
 -- that head and those lists.
 -- Assumes nothing.
 use Prim.Native.Nat.{ℕ, _+_, _<_, _≤_}
