@@ -13,7 +13,7 @@ use Rattle.papers.specs.declared.Answer.{Answer}
 use Rattle.papers.specs.Bounds.{programColumns, programRows}
 use Rattle.papers.specs.Job.{Job}
 use Rattle.papers.specs.Plan.{Read, got, bad}
-use Rattle.papers.specs.Refusals.{answer, untouched, Leaves, Verdict, passed, refused, first, refusedIf, Outcome, Lent}
+use Rattle.papers.specs.Refusals.{answer, untouched, Verdict, passed, refused, first, refusedIf, Outcome, Lent}
 use Rattle.papers.specs.Check.{checkTests, checked}
 use Rattle.papers.specs.Text.{buffers}
 use Rattle.papers.specs.Call.{Readable, readKey, SolverCall, readableTest, sizesTest, callTests, keyChecked, solverAnswer, called}
@@ -22,6 +22,7 @@ use Rattle.bytes_laws.proofs.Fields.{got-bad}
 use Rattle.job_laws.proofs.Firsts.{refused-passed}
 use Rattle.job_laws.proofs.Readable.{readable-read, readable-one, readable-iff}
 use Rattle.refusal_laws.proofs.Agreements.{Refuses, Agree, one-answer, agree-by, AgreeEach, _▸_, answered-iff, no-answer-iff, passed-iff, answered-append, unrefused-append}
+use Rattle.refusal_laws.proofs.Called.{call-refused}
 use Rattle.refusal_laws.proofs.Check.{check-agree, check-exactly, done-place}
 use Rattle.refusal_laws.proofs.Tests.{below-iff, either-iff, agree-if}
 
@@ -75,10 +76,6 @@ module _ (call : SolverCall) (bytes : (i : ℕ) → getD (call .key) i 0 < 256) 
 
   -- ---- the answer
 
-  call-refused : {a : Answer} {l : Leaves} → first callTests call ≡ refused a l → solverAnswer call ≡ a
-  unfolding solverAnswer
-  call-refused e = rw (e, solverAnswer)
-
   call-passed : first callTests call ≡ passed → solverAnswer call ≡ keyChecked call
   unfolding solverAnswer
   call-passed p = rw (p, solverAnswer)
@@ -120,10 +117,10 @@ module _ (call : SolverCall) (bytes : (i : ℕ) → getD (call .key) i 0 < 256) 
           back r c exact (inl k) = absurd (refused-passed (call-given a .1 k .1) q)
           back r c exact (inr (u, inl (s, k))) = c ∙ exact .1 (moved s r k)
           back r c exact (inr (u, inr (n, x))) = absurd x
-      go (refused b l) q = (λ e. both .1 (inl (call-given a .0 (l, rw (← (sym (call-refused q) ∙ e)) q))), λ x. back (both .0 x))
+      go (refused b l) q = (λ e. both .1 (inl (call-given a .0 (l, rw (← (sym (call-refused call q) ∙ e)) q))), λ x. back (both .0 x))
         where
           back : Answered callConditions call a ⊎ (Unrefused callConditions call × Answered (CheckRefuses ∷ []) call a) → solverAnswer call ≡ a
-          back (inl k) = call-refused q ∙ one-answer q (call-given a .1 k .1)
+          back (inl k) = call-refused call q ∙ one-answer q (call-given a .1 k .1)
           back (inr (u, x)) = absurd (refused-passed q (call-none .1 u))
 
   -- the plan passes exactly when no condition gives anything
@@ -141,7 +138,7 @@ module _ (call : SolverCall) (bytes : (i : ℕ) → getD (call .key) i 0 < 256) 
       there e (refused b l) q = absurd (positive (call-given b .0 (l, q)))
         where
           zero : b .number ≡ 0
-          zero = sym (ap (λ (a : Answer). a .number) (call-refused q)) ∙ e
+          zero = sym (ap (λ (a : Answer). a .number) (call-refused call q)) ∙ e
 
           positive : Answered callConditions call b → ⊥
           positive (inl (n, x)) = omega (arith, zero, ap (λ (a : Answer). a .number) x)

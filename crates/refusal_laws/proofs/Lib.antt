@@ -14,4 +14,6 @@ pub mod PlanTests
 pub mod Check
 pub mod Printed
 pub mod Program
+pub mod Bounded
+pub mod Called
 pub mod Call

@@ -1,0 +1,64 @@
+-- The loop that keeps lists, over slices that are empty: a store into one leaves it empty. The measure is the columns left.
+-- Assumes nothing.
+use Prim.Native.Nat.{_+_, _-_}
+use mathlib.Core.List.{[]}
+use mathlib.Core.Path.{refl}
+use borrow.Author.Needs.{needs}
+use Rattle.list_reader.specs.Reading.{refuses}
+use Rattle.plan_reader.proofs.Lists.{lists-long, Lists, lists-start, lists-turn, lists-fault, lists-stop}
+use Rattle.key_reader.proofs.Wholes.{told-alone}
+use Rattle.key_reader.proofs.count_rows.Statement.{statement}
+use Rattle.key_reader.proofs.count_rows.Tie as tie
+
+abbrev Inv-loop : tie.InvT-loop
+Inv-loop key at n none₀ k₀ j₀ total₀ none k j total = Lists n key at [] [] [] none k j total
+
+abbrev μ-loop : tie.MeasureT-loop
+μ-loop key at n none₀ k₀ j₀ total₀ none k j total = n + 1 - j
+
+loop-holds : tie.Need-loop-holds Inv-loop μ-loop
+loop-holds c = lists-start _ _ _ [] _ (c .before .pre .0)
+
+slice-aggregate-read-list : tie.Need-slice-aggregate-read-list Inv-loop μ-loop
+slice-aggregate-read-list c = let h = lists-long (c .before .before .loop .inv) .1 in search needs
+
+read-list-requires : tie.Need-read-list-requires Inv-loop μ-loop
+read-list-requires c κs = (c .before .before .loop .inv .inside, c .before .before .before .before .pre .1, c .before .loop-test .taken, c .before .before .loop .inv .paced)
+
+enum-known-number : tie.Need-enum-known-number Inv-loop μ-loop
+enum-known-number c = search needs
+
+returns : tie.Need-returns Inv-loop μ-loop
+returns c = refuses _ _ (lists-fault (c .before .before .before .before .before .before .before .loop .inv) (c .before .before .before .before .before .before .loop-test .taken) (c .before .before .before .before .read-list .ensures) (c .before .number .given .1)) refl
+
+enum-known-value : tie.Need-enum-known-value Inv-loop μ-loop
+enum-known-value c = search needs
+
+add-j : tie.Need-add-j Inv-loop μ-loop
+add-j c = search needs
+
+loop-less : tie.Need-loop-less Inv-loop μ-loop
+loop-less c = search needs
+
+loop-again : tie.Need-loop-again Inv-loop μ-loop
+loop-again c = lists-turn (c .before .before .before .before .before .before .before .loop .inv) (c .before .before .before .before .before .before .loop-test .taken) (c .before .before .before .before .read-list .ensures) (c .before .value .given .1) refl
+
+returns-2 : tie.Need-returns-2 Inv-loop μ-loop
+returns-2 c = told-alone (lists-stop (c .before .loop .inv) [] refl (c .loop-test .left))
+
+pub count-rows-spec : {M : Type 1} → statement M
+count-rows-spec =
+    tie.close
+    (tie.spec
+    Inv-loop
+    μ-loop
+    loop-holds
+    slice-aggregate-read-list
+    read-list-requires
+    enum-known-number
+    returns
+    enum-known-value
+    add-j
+    loop-less
+    loop-again
+    returns-2)

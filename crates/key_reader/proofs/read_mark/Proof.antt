@@ -1,0 +1,48 @@
+-- Mark and limit are two fields, one behind the other; either at fault is the head's fault.
+-- Assumes nothing.
+use borrow.Author.Needs.{needs}
+use Rattle.list_reader.proofs.Answers.{field-refused, field-found}
+use Rattle.key_reader.proofs.Heads.{no-mark, no-limit, mark-limit}
+use Rattle.key_reader.proofs.read_mark.Statement.{statement}
+use Rattle.key_reader.proofs.read_mark.Tie as tie
+
+read-field-requires : tie.Need-read-field-requires
+read-field-requires c κs = search needs
+
+enum-told : tie.Need-enum-told
+enum-told c = search needs
+
+returns : tie.Need-returns
+returns c = no-mark _ _ _ (field-refused _ _ _ _ (c .before .before .read-field .ensures) (c .enum-told .given .1))
+
+enum-known-mark : tie.Need-enum-known-mark
+enum-known-mark c = search needs
+
+read-field-requires-2 : tie.Need-read-field-requires-2
+read-field-requires-2 c κs = field-found _ _ _ _ (c .before .before .before .read-field .ensures) (c .before .mark .given .1) .1 .inside
+
+enum-told-2 : tie.Need-enum-told-2
+enum-told-2 c = search needs
+
+returns-2 : tie.Need-returns-2
+returns-2 c = no-limit _ _ _ (field-found _ _ _ _ (c .before .before .before .before .before .before .read-field .ensures) (c .before .before .before .before .mark .given .1) .0) (field-refused _ _ _ _ (c .before .before .read-field2 .ensures) (c .enum-told2 .given .1))
+
+enum-known-limit : tie.Need-enum-known-limit
+enum-known-limit c = search needs
+
+returns-3 : tie.Need-returns-3
+returns-3 c = mark-limit _ _ _ (field-found _ _ _ _ (c .before .before .before .before .before .before .before .read-field .ensures) (c .before .before .before .before .before .mark .given .1) .0) (field-found _ _ _ _ (c .before .before .before .read-field2 .ensures) (c .before .limit .given .1) .0)
+
+pub read-mark-spec : {M : Type 1} → statement M
+read-mark-spec =
+    tie.close
+    (tie.spec
+    read-field-requires
+    enum-told
+    returns
+    enum-known-mark
+    read-field-requires-2
+    enum-told-2
+    returns-2
+    enum-known-limit
+    returns-3)
