@@ -1,3 +1,2 @@
-pub mod Listings
-pub mod Orderings
 pub mod Ties
+pub mod Ways

@@ -4,15 +4,15 @@ use Prim.Native.Nat.{ℕ, _+_, _≤_}
 use mathlib.Core.Path.{_≡_, refl, sym, ap, _∙_}
 use mathlib.Core.List.{List, _++_}
 use native.Mathlib.Omega.{arith}
-use lib.ListN.{length, take, drop, length-replicate}
+use lib.ListN.{length, take, drop, replicate, length-replicate}
 use lib.Seq.{length-take-le, drop-at}
 use Rattle.papers.specs.Lists.{zeros}
 use Rattle.papers.specs.Job.{Pattern}
 use Rattle.papers.specs.Refusals.{Lent, allZero}
 use Rattle.structure.specs.Stored.{Lengths, Listed}
 use Rattle.lent.specs.Six.{six, LongEnough}
-use Rattle.lent.proofs.Sixes.{EachZero, each-zero}
-use Rattle.analysis.specs.Stages.{Listing}
+use Rattle.lent.proofs.Sixes.{all-cleared, EachZero, each-zero}
+use Rattle.lent_lists.specs.Listing.{Listing}
 
 -- a part of n places has n places
 pub part-long : (n : ℕ) (l : List ℕ) → n ≤ length l → n ≡ length (take n l)
@@ -21,6 +21,12 @@ part-long n l h = sym (length-take-le n l h)
 -- clearing leaves the lengths
 pub zero-long : (l₀ : List ℕ) {l : List ℕ} → l ≡ zeros l₀ → length l ≡ length l₀
 zero-long l₀ e = ap length e ∙ length-replicate (length l₀) 0
+
+-- whatever parents and work held meanwhile, the zeros are as many
+pub zeros-again : (p o q s r w p₁ w₁ : List ℕ) {lent : Lent} → length p₁ ≡ length p → length w₁ ≡ length w
+    → lent ≡ allZero (six p₁ o q s r w₁) → lent ≡ allZero (six p o q s r w)
+unfolding allZero
+zeros-again p o q s r w p₁ w₁ a b e = e ∙ all-cleared p o q s r w (ap (λ k. replicate k 0) a) refl refl refl refl (ap (λ k. replicate k 0) b)
 
 module _ (n : ℕ) (before lent : Lent) (long : LongEnough n before) (cleared : lent ≡ allZero before) where
   each : EachZero before lent
