@@ -1,4 +1,4 @@
--- The stage of the lists: cleared slices are long enough for it, and what it does not write stays zero.
+-- The column lists in the lent slices: cleared slices are long enough for them, and what they do not write stays zero.
 -- Assumes nothing.
 use Prim.Native.Nat.{ℕ, _+_, _≤_}
 use mathlib.Core.Path.{_≡_, refl, sym, ap, _∙_}
@@ -11,7 +11,7 @@ use Rattle.papers.specs.Job.{Pattern}
 use Rattle.papers.specs.Refusals.{Lent, allZero}
 use Rattle.structure.specs.Stored.{Lengths, Listed}
 use Rattle.lent.specs.Six.{six, LongEnough}
-use Rattle.lent.proofs.Sixes.{all-cleared, EachZero, each-zero}
+use Rattle.lent.proofs.Sixes.{sixes, EachZero, each-zero}
 use Rattle.lent_lists.specs.Listing.{Listing}
 
 -- a part of n places has n places
@@ -22,11 +22,36 @@ part-long n l h = sym (length-take-le n l h)
 pub zero-long : (l₀ : List ℕ) {l : List ℕ} → l ≡ zeros l₀ → length l ≡ length l₀
 zero-long l₀ e = ap length e ∙ length-replicate (length l₀) 0
 
--- whatever parents and work held meanwhile, the zeros are as many
-pub zeros-again : (p o q s r w p₁ w₁ : List ℕ) {lent : Lent} → length p₁ ≡ length p → length w₁ ≡ length w
-    → lent ≡ allZero (six p₁ o q s r w₁) → lent ≡ allZero (six p o q s r w)
+-- ---- slices of the same lengths
+
+pub record Alike (before lent : Lent) : Type 0 where
+  pub parents : length (lent .parents) ≡ length (before .parents)
+  pub order : length (lent .order) ≡ length (before .order)
+  pub pops : length (lent .pops) ≡ length (before .pops)
+  pub starts : length (lent .factorStarts) ≡ length (before .factorStarts)
+  pub rows : length (lent .factorRows) ≡ length (before .factorRows)
+  pub work : length (lent .work) ≡ length (before .work)
+
+-- cleared, they are the same
+pub zeros-alike : (before lent : Lent) {after : Lent} → Alike before lent → after ≡ allZero lent → after ≡ allZero before
 unfolding allZero
-zeros-again p o q s r w p₁ w₁ a b e = e ∙ all-cleared p o q s r w (ap (λ k. replicate k 0) a) refl refl refl refl (ap (λ k. replicate k 0) b)
+zeros-alike before lent a e =
+    e ∙ sixes (zeros-as (a .parents)) (zeros-as (a .order)) (zeros-as (a .pops)) (zeros-as (a .starts)) (zeros-as (a .rows)) (zeros-as (a .work))
+  where
+    zeros-as : {k m : ℕ} → k ≡ m → replicate {A = ℕ} k 0 ≡ replicate m 0
+    zeros-as e = ap (λ (k : ℕ). replicate {A = ℕ} k 0) e
+
+pub long-alike : {n : ℕ} {before lent : Lent} → Alike before lent → LongEnough n before → LongEnough n lent
+long-alike a long =
+    record {
+      parents = rw (a .parents) (long .parents);
+      order = rw (a .order) (long .order);
+      pops = rw (a .pops) (long .pops);
+      starts = rw (a .starts) (long .starts);
+      work = rw (a .work) (long .work);
+    }
+
+-- ---- the lists in cleared slices
 
 module _ (n : ℕ) (before lent : Lent) (long : LongEnough n before) (cleared : lent ≡ allZero before) where
   each : EachZero before lent

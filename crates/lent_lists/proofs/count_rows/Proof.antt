@@ -1,6 +1,7 @@
 -- The count is the callee's; the slices are cleared after it.
 -- Assumes nothing.
-use Rattle.lent_lists.proofs.Listings.{zeros-again}
+use mathlib.Core.Path.{refl}
+use Rattle.lent_lists.proofs.Listings.{zeros-alike}
 use borrow.Author.Needs.{needs}
 use Rattle.lent_lists.proofs.count_rows.Statement.{statement}
 use Rattle.lent_lists.proofs.count_rows.Tie as tie
@@ -30,7 +31,9 @@ same-length-6 : tie.Need-same-length-6
 same-length-6 c = search needs
 
 returns : tie.Need-returns
-returns c = (c .before .before .before .before .before .before .before .before .before .before .before .before .before .before .before .before .before .before .before .before .before .before .before .rows-needed .ensures, zeros-again _ _ _ _ _ _ _ _ (c .before .before .before .before .before .before .before .before .before .before .before .before .before .before .before .before .before .before .before .before .before .before .before .rows-needed .kept .1 .1 .1 .0) (c .before .before .before .before .before .before .before .before .before .before .before .before .before .before .before .before .before .before .before .before .before .before .before .rows-needed .kept .1 .1 .1 .1 .0) (c .before .before .before .before .before .before .before .before .before .before .before .before .clear-all .ensures))
+returns c =
+    let counted = c .before .before .before .before .before .before .before .before .before .before .before .before .before .before .before .before .before .before .before .before .before .before .before .rows-needed in
+    (counted .ensures, zeros-alike _ _ (record { parents = counted .kept .1 .1 .1 .0; order = refl; pops = refl; starts = refl; rows = refl; work = counted .kept .1 .1 .1 .1 .0 }) (c .before .before .before .before .before .before .before .before .before .before .before .before .clear-all .ensures))
 
 pub count-rows-spec : {M : Type 1} → statement M
 count-rows-spec =
