@@ -64,14 +64,14 @@ module _ (job : Job) (plan : Plan) (fit : Fit (job .n) plan) where
   read = (length-map (plan .steps) (λ x. x .0) ∙ fit .all-steps, columns-within (job .n) (plan .steps) (fit .steps))
 
   -- 16
-  repeat-iff : (repeatTest job plan ≡ passed) ↔ Distinct (columnsIn (plan .steps))
+  pub repeat-iff : (repeatTest job plan ≡ passed) ↔ Distinct (columnsIn (plan .steps))
   repeat-iff = (
     once job plan read,
     λ d. agree-passed-iff _ _ (repeat-agree job plan read) .1 (λ a (s, (i, (k, l, e), none), q). omega (arith, one-step order d k s (l .0) (omega (arith, read .0)) (i .0) (omega (arith, read .0)) e)),
   )
 
   -- 17
-  list-iff : (listTest job plan ≡ passed) ↔ (plan .lists ≡ listsOf (job .n) (R (pattern job)))
+  pub list-iff : (listTest job plan ≡ passed) ↔ (plan .lists ≡ listsOf (job .n) (R (pattern job)))
   unfolding listTest
   list-iff =
       let i = at-iff (λ j. not (same (getD (plan .lists) (j - 1) []) (R (pattern job) j))) (job .n) 17 in (
@@ -84,7 +84,7 @@ module _ (job : Job) (plan : Plan) (fit : Fit (job .n) plan) where
       here k l u = lists-at (R (pattern job)) (job .n) (k - 1) (omega arith) ∙ ap (R (pattern job)) (omega arith)
 
   -- 19
-  pops-iff : (popsTest job plan ≡ passed) ↔ (popsIn (plan .steps) ≡ map (popsOf (job .n) (pattern job)) (columnsIn (plan .steps)))
+  pub pops-iff : (popsTest job plan ≡ passed) ↔ (popsIn (plan .steps) ≡ map (popsOf (job .n) (pattern job)) (columnsIn (plan .steps)))
   unfolding popsTest columnAt
   pops-iff =
       let i = at-iff (λ s. not (eqb (getD (popsIn (plan .steps)) (s - 1) 0) (pops (columnAt order s)))) (job .n) 19 in (
@@ -112,7 +112,7 @@ module _ (job : Job) (plan : Plan) (fit : Fit (job .n) plan) where
 
   module _ (below : Below (job .n) (pattern job)) where
     -- 18, of steps that do all columns, each once
-    subtree-iff : ((j : ℕ) → (j ∈ columnsIn (plan .steps)) ↔ ((1 ≤ j) × (j ≤ job .n))) → Distinct (columnsIn (plan .steps))
+    pub subtree-iff : ((j : ℕ) → (j ∈ columnsIn (plan .steps)) ↔ ((1 ≤ j) × (j ≤ job .n))) → Distinct (columnsIn (plan .steps))
         → (subtreeTest job plan ≡ passed) ↔ ((s : ℕ) → 1 ≤ s → s ≤ length (columnsIn (plan .steps)) → Together (parent (pattern job)) (columnsIn (plan .steps)) s)
     unfolding subtreeTest
     subtree-iff each d =

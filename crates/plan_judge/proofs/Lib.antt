@@ -1,0 +1,4 @@
+pub mod Rulings
+pub mod Helds
+pub mod Trees
+pub mod Lists

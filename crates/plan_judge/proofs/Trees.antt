@@ -1,0 +1,186 @@
+use Prim.Native.Nat.{ℕ, zero, suc, _+_, _-_, _<_, _≤_}
+use mathlib.Core.Path.{_≡_, refl, sym, ap, _∙_}
+use mathlib.Core.Logic.{_↔_, _≢_}
+use mathlib.Core.Bool.{not}
+use mathlib.Core.List.{List, [], _∷_, map}
+use native.Mathlib.Omega.{arith}
+use lib.Dec.{eqb}
+use lib.ListN.{length, getD, take, length-map}
+use borrow.Author.Tests.{eq-eqb, ne-eqb}
+use Rattle.papers.specs.declared.Answer.{Answer}
+use Rattle.papers.specs.Bounds.{maxColumns}
+use Rattle.papers.specs.Lists.{_∈_, Distinct, least, upTo, startsFrom, flat}
+use Rattle.papers.specs.Job.{Job, Below, pattern}
+use Rattle.papers.specs.Fill.{R}
+use Rattle.papers.specs.Tree.{t, parent, rowCount, children}
+use Rattle.papers.specs.Room.{peakOf}
+use Rattle.papers.specs.Order.{columnAt, Ordered, popsOf, peak}
+use Rattle.papers.specs.Key.{listsOf}
+use Rattle.papers.specs.Plan.{Plan, columnsIn, popsIn}
+use Rattle.papers.specs.Refusals.{answer, zeroed, passed, refused, first, peakTest}
+use Rattle.papers.specs.Check.{repeatTest, listTest, scattered, subtreeTest, popsTest, truePeak, declaredTest}
+use Rattle.list_laws.proofs.UpTo.{length-upTo}
+use Rattle.list_laws.proofs.Stores.{length-starts}
+use Rattle.job_laws.proofs.Starts.{start-at}
+use Rattle.job_laws.proofs.Laid.{laid-starts}
+use Rattle.job_laws.proofs.Firsts.{first-passed-iff, refused-if, passed-if, over-refuses, over-passes-iff}
+use Rattle.job_laws.proofs.Passed.{passes-iff, passed-below}
+use Rattle.refusal_laws.proofs.PlanTests.{all}
+use Rattle.order_laws.specs.Held.{heldAfterAll}
+use Rattle.order_laws.specs.Stack.{heldColumns}
+use Rattle.order_laws.proofs.Steps.{column-at}
+use Rattle.order_laws.proofs.Takes.{step-enough}
+use Rattle.order_laws.proofs.Entries.{held-entries}
+use Rattle.order_laws.proofs.Patterns.{tree-of, root-rows, rows-fit}
+use Rattle.plan_laws.proofs.PlanSound.{repeat-iff, list-iff, pops-iff, subtree-iff}
+use Rattle.tree.specs.Parents.{parentIn, TreeIn, kidsIn}
+use Rattle.tree.proofs.Slices.{at-place}
+use Rattle.room.specs.Rows.{rowsIn, Column}
+use Rattle.room.specs.Steps.{rowsAt, popsAt, heldAt, Stepped}
+use Rattle.room.proofs.BySteps.{peak-by-steps, enough-by-steps}
+use Rattle.analysis.proofs.Ties.{parents-tie, rows-tie}
+use Rattle.step_tests.specs.Steps.{Within, popsWrong}
+use Rattle.subtree_test.specs.Steps.{EachOnce}
+use Rattle.plan_judge.specs.Judged.{OnTree, treeTests, ruling}
+use Rattle.plan_judge.proofs.Rulings.{ruling-refused, ruling-passed, decides, at-refuses, at-passes}
+use Rattle.plan_judge.proofs.Helds.{read, order-length, pops-length, in-range, within}
+
+module _ {job : Job} {plan : Plan} {limit greatest : ℕ} {parents order pops fstarts : List ℕ} (on : OnTree job plan limit greatest parents order pops fstarts) where
+  below : Below (job .n) (pattern job)
+  below = passed-below job (passes-iff job .0 (on .valid))
+
+  columns-few : job .n ≤ maxColumns
+  columns-few = passes-iff job .0 (on .valid) .few
+
+  -- ---- the tree
+
+  pub parents-length : length parents ≡ job .n
+  parents-length = ap length (on .parents-are) ∙ (length-map (upTo (job .n)) (parent (pattern job)) ∙ length-upTo (job .n))
+
+  same-parents : parentIn parents ≡ parent (pattern job)
+  same-parents = rw (on .parents-are) (λ i j. parents-tie below j i)
+
+  pub tree-in : TreeIn parents
+  tree-in = rw (same-parents, parents-length) (tree-of below)
+
+  pub as-long : length order ≡ length parents
+  as-long = order-length (on .held) ∙ sym parents-length
+
+  pub pops-as-long : length pops ≡ length parents
+  pops-as-long = pops-length (on .held) ∙ sym parents-length
+
+  once : Distinct (columnsIn (plan .steps))
+  once = repeat-iff job plan (on .held .fit) .0 (on .unrepeated)
+
+  pub each-once : EachOnce (length parents) order
+  each-once = record { range = λ j m. rw parents-length (in-range (on .held) j m); once = rw (on .held .columns) once }
+
+  pub few : length parents ≤ maxColumns
+  few = omega (arith, parents-length, columns-few)
+
+  pub within-order : Within (length order) order
+  within-order = within (on .held)
+
+  -- ---- 18
+  module _ {p : ℕ} (e : p ≡ least (scattered (parentIn parents) (length parents) order) (length parents)) where
+    found-18 : p ≡ least (scattered (parent (pattern job)) (job .n) (columnsIn (plan .steps))) (job .n)
+    found-18 = rw (same-parents, parents-length, on .held .columns) at e
+
+    pub refuses-18 : p ≢ 0 → {r : Answer} → r ≡ answer 18 p 0 → r ≡ ruling (first (treeTests job) plan) greatest
+    unfolding treeTests subtreeTest
+    refuses-18 z q = ruling-refused greatest (decides [] (subtreeTest job) _ plan tt (at-refuses 18 p found-18 z)) q
+
+    pub passes-18 : p ≡ 0 → subtreeTest job plan ≡ passed
+    unfolding subtreeTest
+    passes-18 z = at-passes 18 found-18 z
+
+  module _ (whole : subtreeTest job plan ≡ passed) where
+    -- ---- 19
+    module _ {p : ℕ} (e : p ≡ least (popsWrong parents order pops) (length order)) where
+      found-19 : p ≡ least (λ s. not (eqb (getD (popsIn (plan .steps)) (s - 1) 0) (popsOf (job .n) (pattern job) (columnAt (columnsIn (plan .steps)) s)))) (job .n)
+      found-19 =
+          e
+          ∙ λ i. least (λ s. not (eqb (getD (on .held .popped i) (s - 1) 0) (length (children (same-parents i) (parents-length i) (columnAt (on .held .columns i) s))))) (order-length (on .held) i)
+
+      pub refuses-19 : p ≢ 0 → {r : Answer} → r ≡ answer 19 p 0 → r ≡ ruling (first (treeTests job) plan) greatest
+      unfolding treeTests popsTest
+      refuses-19 z q = ruling-refused greatest (decides (subtreeTest job ∷ []) (popsTest job) _ plan (whole, tt) (at-refuses 19 p found-19 z)) q
+
+      pub passes-19 : p ≡ 0 → popsTest job plan ≡ passed
+      unfolding popsTest
+      passes-19 z = at-passes 19 found-19 z
+
+    -- ---- 20 and 9
+
+    ordered : Ordered (parent (pattern job)) (job .n) order
+    ordered = rw (on .held .columns) (record { each = each; once = once; together = subtree-iff job plan (on .held .fit) below each once .0 whole })
+      where
+        each : (j : ℕ) → (j ∈ columnsIn (plan .steps)) ↔ ((1 ≤ j) × (j ≤ job .n))
+        each j = (read (on .held) .1 j, λ (l, u). all job plan (read (on .held)) (on .unrepeated) j l u)
+
+    -- the starts in the slice are those of the lists R
+    factor-are : fstarts ≡ startsFrom 0 (listsOf (job .n) (R (pattern job)))
+    factor-are = on .held .begins ∙ ap (startsFrom 0) (list-iff job plan (on .held .fit) .0 (on .right))
+
+    rows-here : (j : ℕ) → rowsIn fstarts j ≡ rowCount (pattern job) j
+    rows-here = rw factor-are (rows-tie below)
+
+    column : (j : ℕ) → 1 ≤ j → j ≤ job .n → Column fstarts j
+    unfolding rowsIn
+    column zero l u = absurd (omega arith)
+    column (suc k) l u =
+        let e : suc k - 1 ≡ k = omega arith in
+        let long : length fstarts ≡ job .n + 1 = ap length (on .held .begins) ∙ length-starts 0 (plan .lists) ∙ ap (λ m. m + 1) (on .held .fit .all-lists) in
+        let rise : getD fstarts k 0 ≤ getD fstarts (suc k) 0 = rw (on .held .begins, ← start-at (startsFrom 0 (plan .lists)) k, ← start-at (startsFrom 0 (plan .lists)) (suc k)) (laid-starts (plan .lists) .rising (suc k) (omega arith) (omega (arith, on .held .fit .all-lists))) in
+        let rows = rw e at (rows-here (suc k)) in
+        record { some = l; known = omega arith; rise = rw e rise; few = rw e (omega (arith, rows-fit below (suc k), columns-few)) }
+
+    module _ (popped : popsTest job plan ≡ passed) where
+      pops-are : pops ≡ map (popsOf (job .n) (pattern job)) order
+      pops-are = on .held .popped ∙ pops-iff job plan (on .held .fit) .0 popped ∙ ap (map (popsOf (job .n) (pattern job))) (sym (on .held .columns))
+
+      enough : (k : ℕ) → k < length order → popsAt pops (suc k) ≤ length (heldAt fstarts order pops k)
+      enough k h = rw pops-are (enough-by-steps (rowsIn fstarts) (popsOf (job .n) (pattern job)) order k h (
+          rw (held-entries (rowsIn fstarts) (popsOf (job .n) (pattern job)) (parent (pattern job)) (λ j. rw (rows-here j) (root-rows below j)) order k (omega arith), ← (column-at order k))
+          (omega (arith, length-map (heldColumns (parent (pattern job)) (popsOf (job .n) (pattern job)) order k) (λ c. t (rowsIn fstarts c)), step-enough (tree-of below) order ordered k h))))
+
+      pub stepped : Stepped fstarts order pops
+      stepped = record {
+        column = λ k h. let (l, u) = in-range (on .held) (getD order k 0) (at-place order k h) in column (getD order k 0) l u;
+        enough = enough;
+        same = pops-as-long ∙ sym as-long;
+        few = omega (arith, as-long, parents-length, columns-few);
+      }
+
+      module _ {peak : ℕ} (e : peak ≡ peakOf (rowsAt fstarts order) (popsAt pops) (upTo (length order))) where
+        found-20 : peak ≡ truePeak job plan
+        unfolding truePeak peak
+        found-20 =
+            (rw pops-are at e)
+            ∙ peak-by-steps (rowsIn fstarts) (popsOf (job .n) (pattern job)) order
+            ∙ λ i. peakOf (λ j. rows-here j i) (popsOf (job .n) (pattern job)) (on .held .columns i)
+
+        pub refuses-20 : peak ≢ greatest → {r : Answer} → r ≡ answer 20 0 peak → r ≡ ruling (first (treeTests job) plan) greatest
+        unfolding treeTests declaredTest
+        refuses-20 z q =
+            let differ : plan .peak ≢ truePeak job plan = λ d. z (found-20 ∙ sym d ∙ on .held .declared) in
+            ruling-refused greatest (decides (subtreeTest job ∷ popsTest job ∷ []) (declaredTest job) _ plan (whole, (popped, tt)) (refused-if _ _ zeroed (rw (ne-eqb (plan .peak) (truePeak job plan) differ)))) (q ∙ ap (answer 20 0) found-20)
+
+        module _ (declared : peak ≡ greatest) where
+          passes-20 : declaredTest job plan ≡ passed
+          unfolding declaredTest
+          passes-20 = passed-if _ _ zeroed (rw (eq-eqb (plan .peak) (truePeak job plan) (on .held .declared ∙ sym declared ∙ found-20)))
+
+          pub refuses-9 : limit < peak → {r : Answer} → r ≡ answer 9 0 peak → r ≡ ruling (first (treeTests job) plan) greatest
+          unfolding treeTests peakTest
+          refuses-9 l q =
+              ruling-refused greatest
+              (decides (subtreeTest job ∷ popsTest job ∷ declaredTest job ∷ []) (λ plan. peakTest (job .limit) (truePeak job plan)) [] plan (whole, (popped, (passes-20, tt))) (over-refuses (job .limit) (truePeak job plan) _ zeroed (omega (arith, on .limited, found-20))))
+              (q ∙ ap (answer 9 0) found-20)
+
+          pub passes-all : peak ≤ limit → {r : Answer} → r ≡ answer 0 0 peak → r ≡ ruling (first (treeTests job) plan) greatest
+          unfolding treeTests peakTest
+          passes-all l q =
+              ruling-passed greatest
+              (first-passed-iff (treeTests job) plan .1 (whole, (popped, (passes-20, (over-passes-iff (job .limit) (truePeak job plan) _ zeroed .1 (omega (arith, on .limited, found-20)), tt)))))
+              (q ∙ ap (answer 0 0) declared)

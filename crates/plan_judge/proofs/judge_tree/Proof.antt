@@ -1,0 +1,93 @@
+-- Each test that is made decides or leaves it to the next, and what has passed is what the next one asks: an order with whole subtrees has the pops
+-- and the peak that the slices say.
+use native.Mathlib.Omega.{arith}
+use borrow.Author.Needs.{needs}
+use Rattle.plan_judge.proofs.Trees.{few, tree-in, as-long, pops-as-long, each-once, within-order, refuses-18, passes-18, refuses-19, passes-19, stepped, refuses-20, refuses-9, passes-all}
+use Rattle.plan_judge.proofs.judge_tree.Statement.{statement}
+use Rattle.plan_judge.proofs.judge_tree.Tie as tie
+
+first-scattered-requires : tie.Need-first-scattered-requires
+first-scattered-requires c κs = let on = c .before .before .before .before .before .before .pre .0 .on in ((tree-in on, few on), ((each-once on, as-long on), c .before .before .before .before .before .before .pre .1))
+
+answered-requires : tie.Need-answered-requires
+answered-requires c κs = search needs
+
+same-length : tie.Need-same-length
+same-length c = search needs
+
+returns : tie.Need-returns
+returns c = λ job plan on. refuses-18 on (c .before .before .before .before .first-scattered .ensures) (c .before .if1 .taken) (c .answered .ensures)
+
+first-wrong-pops-requires : tie.Need-first-wrong-pops-requires
+first-wrong-pops-requires c κs = let on = c .before .before .before .before .before .before .before .before .before .before .before .pre .0 .on in (tree-in on, (within-order on, ((as-long on, pops-as-long on), (few on, omega arith))))
+
+answered-requires-2 : tie.Need-answered-requires-2
+answered-requires-2 c κs = search needs
+
+same-length-2 : tie.Need-same-length-2
+same-length-2 c = search needs
+
+returns-2 : tie.Need-returns-2
+returns-2 c = λ job plan on. refuses-19 on (passes-18 on (c .before .before .before .before .before .before .before .before .before .first-scattered .ensures) (c .before .before .before .before .before .before .if1 .left)) (c .before .before .before .before .first-wrong-pops .ensures) (c .before .if2 .taken) (c .answered2 .ensures)
+
+peak-requires : tie.Need-peak-requires
+peak-requires c κs =
+    let on = c .before .before .before .before .before .before .before .before .before .before .before .before .before .before .before .before .pre .0 .on in
+    let whole = passes-18 on (c .before .before .before .before .before .before .before .before .before .first-scattered .ensures) (c .before .before .before .before .before .before .if1 .left) in
+    (stepped on whole (passes-19 on whole (c .before .before .before .before .first-wrong-pops .ensures) (c .before .if2 .left)), omega (arith, as-long on))
+
+answered-requires-3 : tie.Need-answered-requires-3
+answered-requires-3 c κs = search needs
+
+same-length-3 : tie.Need-same-length-3
+same-length-3 c = search needs
+
+returns-3 : tie.Need-returns-3
+returns-3 c = λ job plan on.
+    let whole = passes-18 on (c .before .before .before .before .before .before .before .before .before .before .before .before .before .before .first-scattered .ensures) (c .before .before .before .before .before .before .before .before .before .before .before .if1 .left) in
+    refuses-20 on whole (passes-19 on whole (c .before .before .before .before .before .before .before .before .before .first-wrong-pops .ensures) (c .before .before .before .before .before .before .if2 .left)) (c .before .before .before .before .peak .ensures) (c .before .if3 .taken) (c .answered3 .ensures)
+
+answered-requires-4 : tie.Need-answered-requires-4
+answered-requires-4 c κs = search needs
+
+same-length-4 : tie.Need-same-length-4
+same-length-4 c = search needs
+
+returns-4 : tie.Need-returns-4
+returns-4 c = λ job plan on.
+    let whole = passes-18 on (c .before .before .before .before .before .before .before .before .before .before .before .before .before .before .before .first-scattered .ensures) (c .before .before .before .before .before .before .before .before .before .before .before .before .if1 .left) in
+    refuses-9 on whole (passes-19 on whole (c .before .before .before .before .before .before .before .before .before .before .first-wrong-pops .ensures) (c .before .before .before .before .before .before .before .if2 .left)) (c .before .before .before .before .before .peak .ensures) (c .before .before .if3 .left) (c .before .if4 .taken) (c .answered4 .ensures)
+
+answered-requires-5 : tie.Need-answered-requires-5
+answered-requires-5 c κs = search needs
+
+same-length-5 : tie.Need-same-length-5
+same-length-5 c = search needs
+
+returns-5 : tie.Need-returns-5
+returns-5 c = λ job plan on.
+    let whole = passes-18 on (c .before .before .before .before .before .before .before .before .before .before .before .before .before .before .before .first-scattered .ensures) (c .before .before .before .before .before .before .before .before .before .before .before .before .if1 .left) in
+    passes-all on whole (passes-19 on whole (c .before .before .before .before .before .before .before .before .before .before .first-wrong-pops .ensures) (c .before .before .before .before .before .before .before .if2 .left)) (c .before .before .before .before .before .peak .ensures) (c .before .before .if3 .left) (c .before .if4 .left) (c .answered5 .ensures)
+
+pub judge-tree-spec : {M : Type 1} → statement M
+judge-tree-spec =
+    tie.close
+    (tie.spec
+    first-scattered-requires
+    answered-requires
+    same-length
+    returns
+    first-wrong-pops-requires
+    answered-requires-2
+    same-length-2
+    returns-2
+    peak-requires
+    answered-requires-3
+    same-length-3
+    returns-3
+    answered-requires-4
+    same-length-4
+    returns-4
+    answered-requires-5
+    same-length-5
+    returns-5)

@@ -1,0 +1,62 @@
+-- A plan that was read, as slices hold it; the tests that judge it, and the answer to their verdict.
+-- Assumes nothing.
+use Prim.Native.Nat.{ℕ}
+use mathlib.Core.Path.{_≡_}
+use mathlib.Core.List.{List, [], _∷_, map}
+use Rattle.papers.specs.declared.Answer.{Answer}
+use Rattle.papers.specs.Lists.{upTo, flat, startsFrom}
+use Rattle.papers.specs.Job.{Job, pattern}
+use Rattle.papers.specs.Tree.{parent}
+use Rattle.papers.specs.Plan.{Plan, columnsIn, popsIn}
+use Rattle.papers.specs.Refusals.{answer, Verdict, passed, refused, first, jobTests, peakTest}
+use Rattle.papers.specs.Check.{repeatTest, listTest, subtreeTest, popsTest, truePeak, declaredTest}
+use Rattle.bytes_laws.proofs.Plans.{Fit}
+
+-- a plan of n columns, its numbers in their ranges, in slices that are just as long as it
+pub record PlanHeld (n : ℕ) (plan : Plan) (peak : ℕ) (order pops fstarts frows : List ℕ) : Type 0 where
+  pub fit : Fit n plan
+  pub declared : plan .peak ≡ peak
+  pub columns : order ≡ columnsIn (plan .steps)
+  pub popped : pops ≡ popsIn (plan .steps)
+  pub begins : fstarts ≡ startsFrom 0 (plan .lists)
+  pub listed : frows ≡ flat (plan .lists)
+
+-- some plan, in these slices
+pub record HoldPlan (n peak : ℕ) (order pops fstarts frows : List ℕ) : Type 0 where
+  pub plan : Plan
+  pub held : PlanHeld n plan peak order pops fstarts frows
+
+-- a plan of a job that passed 1 to 6, with the parents of the job's columns; the plan has passed 16 and 17, so its lists are R
+pub record OnTree (job : Job) (plan : Plan) (limit peak : ℕ) (parents order pops fstarts : List ℕ) : Type 0 where
+  pub valid : first jobTests job ≡ passed
+  pub limited : job .limit ≡ limit
+  pub held : PlanHeld (job .n) plan peak order pops fstarts (flat (plan .lists))
+  pub unrepeated : repeatTest job plan ≡ passed
+  pub right : listTest job plan ≡ passed
+  pub parents-are : parents ≡ map (parent (pattern job)) (upTo (job .n))
+
+pub record SomeOnTree (limit peak : ℕ) (parents order pops fstarts : List ℕ) : Type 0 where
+  pub job : Job
+  pub plan : Plan
+  pub on : OnTree job plan limit peak parents order pops fstarts
+
+-- 18, 19, 20, 9
+unfoldable pub treeTests : Job → List (Plan → Verdict)
+treeTests job = subtreeTest job ∷ popsTest job ∷ declaredTest job ∷ (λ plan. peakTest (job .limit) (truePeak job plan)) ∷ []
+
+-- 16 to 20, 9
+unfoldable pub judgeTests : Job → List (Plan → Verdict)
+judgeTests job = repeatTest job ∷ listTest job ∷ treeTests job
+
+-- the answer to a verdict: the refusal's, or done with a count
+unfoldable pub ruling : Verdict → ℕ → Answer
+ruling passed count = answer 0 0 count
+ruling (refused a leaves) count = a
+
+-- r answers the tests 18, 19, 20, 9, and 16 to 20 and 9, on the plan that stands there
+abbrev pub TreeJudged : ℕ → ℕ → List ℕ → List ℕ → List ℕ → List ℕ → Answer → Type 0
+TreeJudged limit peak parents order pops fstarts r =
+    (job : Job) (plan : Plan) → OnTree job plan limit peak parents order pops fstarts → r ≡ ruling (first (treeTests job) plan) peak
+
+abbrev pub Judged : Job → ℕ → List ℕ → List ℕ → List ℕ → List ℕ → Answer → Type 0
+Judged job peak order pops fstarts frows r = (plan : Plan) → PlanHeld (job .n) plan peak order pops fstarts frows → r ≡ ruling (first (judgeTests job) plan) peak

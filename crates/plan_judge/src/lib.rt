@@ -1,0 +1,95 @@
+// The judgement on a plan that was read: tests 16 to 20 and 9.
+use papers::Answer;
+use papers::JobHead;
+ghost use mathlib.Core.Path.{_≡_};
+ghost use mathlib.Core.List.{map};
+ghost use Prim.Native.Nat.{_≤_};
+ghost use lib.ListN.{length};
+ghost use Rattle.papers.specs.Bounds.{workLength};
+ghost use Rattle.papers.specs.Lists.{upTo};
+ghost use Rattle.papers.specs.Job.{jobOf, columnOf};
+ghost use Rattle.papers.specs.Tree.{parent};
+ghost use Rattle.papers.specs.Refusals.{answer, passed, first, jobTests};
+ghost use Rattle.plan_judge.specs.Judged.{HoldPlan, SomeOnTree, TreeJudged, Judged};
+
+// An answer, of its three numbers.
+fn answered(number: u64, place: u64, count: u64) -> Answer
+    ensures { λ r. ⌜ r ≡ answer number place count ⌝ }
+{
+    Answer {
+        number,
+        place,
+        count,
+    }
+}
+
+// 18, 19, 20 and 9 of a plan whose lists are right; done, the count is the peak. parents are those of the lists.
+fn judge_tree(
+    limit: u64,
+    peak: u64,
+    parents: &[u32],
+    order: &[u32],
+    pops: &[u32],
+    fstarts: &[u64],
+    work: &mut [u64],
+) -> Answer
+    requires plan { ⌜ SomeOnTree limit peak (now parents) (now order) (now pops) (now fstarts) ⌝ }
+    requires room { ⌜ workLength (length (now parents)) ≤ length (now work) ⌝ }
+    ensures { λ r. ⌜ TreeJudged limit peak (now (parents .entry)) (now (order .entry)) (now (pops .entry)) (now (fstarts .entry)) r ⌝ }
+{
+    let top = subtree_test::first_scattered(parents, order, work);
+    if top != 0 {
+        return answered(18, top, 0);
+    }
+    let step = step_tests::first_wrong_pops(parents, order, pops, work);
+    if step != 0 {
+        return answered(19, step, 0);
+    }
+    let greatest = room::peak(fstarts, order, pops, work);
+    if greatest != peak {
+        return answered(20, 0, greatest);
+    }
+    if limit < greatest {
+        return answered(9, 0, greatest);
+    }
+    answered(0, 0, greatest)
+}
+
+// 16 to 20 and 9 of a plan that was read, in the slices that hold it; peak is what it declares. Where it passes, parents has the job's parents, and the
+// count is the peak.
+pub fn judge(
+    head: JobHead,
+    peak: u64,
+    starts: &[u64],
+    rows: &[u32],
+    parents: &mut [u32],
+    order: &[u32],
+    pops: &[u32],
+    fstarts: &[u64],
+    frows: &[u32],
+    work: &mut [u64],
+) -> Answer
+    requires valid { ⌜ first jobTests (jobOf head (now starts) (now rows)) ≡ passed ⌝ }
+    requires plan { ⌜ HoldPlan (head .n) peak (now order) (now pops) (now fstarts) (now frows) ⌝ }
+    requires room { ⌜ (length (now parents) ≡ head .n) × (workLength (head .n) ≤ length (now work)) ⌝ }
+    ensures answers { λ r. ⌜ Judged (jobOf head (now (starts .entry)) (now (rows .entry))) peak (now (order .entry)) (now (pops .entry)) (now (fstarts .entry)) (now (frows .entry)) r ⌝ }
+    ensures stores { λ r. ⌜ (r .number ≡ 0 → now (parents .exit) ≡ map (parent (columnOf (now (starts .entry)) (now (rows .entry)))) (upTo (head .n))) ⌝ }
+{
+    let step = step_tests::first_repeat(order, work);
+    if step != 0 {
+        return answered(16, step, 0);
+    }
+    let column = list_test::first_wrong_list(
+        order.len(),
+        starts,
+        rows,
+        fstarts,
+        frows,
+        parents,
+        work,
+    );
+    if column != 0 {
+        return answered(17, column, 0);
+    }
+    judge_tree(head.limit, peak, &parents[..], order, pops, fstarts, work)
+}
