@@ -79,7 +79,7 @@ fn read_steps(plan: &[u8], at: usize, n: u64, order: &mut [u32], pops: &mut [u32
 
 // The lists of all columns from `at` on: keeps where each starts, and the rows while there is room; answers how many rows there are.
 // The lists of the columns before j are done, with `total` rows, and the next starts at k.
-fn read_lists(plan: &[u8], at: usize, n: u64, starts: &mut [u64], rows: &mut [u32]) -> Reading
+pub fn read_lists(plan: &[u8], at: usize, n: u64, starts: &mut [u64], rows: &mut [u32]) -> Reading
     requires { ⌜ (at ≤ length (now plan)) × (n ≤ maxColumns) × (n + 1 ≤ length (now starts)) ⌝ }
     ensures { λ r. ⌜ Told (λ lists. length (flat lists)) (ListsIn (now (starts .entry)) (now (starts .exit)) (now (rows .entry)) (now (rows .exit))) (readLists n 1 n (now (plan .entry)) at) r ⌝ }
 {
