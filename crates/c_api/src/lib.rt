@@ -3,9 +3,10 @@
 ghost use mathlib.Core.Path.{_≡_};
 ghost use mathlib.Core.List.{List};
 ghost use Prim.Native.Nat.{ℕ};
-ghost use Rattle.papers.specs.Refusals.{answer, Outcome};
-ghost use Rattle.papers.specs.Analysis.{keyWritten};
+ghost use Rattle.papers.specs.Refusals.{answer, Outcome, Lent};
+ghost use Rattle.papers.specs.Analysis.{keyWritten, analysed};
 ghost use Rattle.papers.specs.Run.{ran};
+ghost use Rattle.lent.specs.Six.{six};
 use papers::JobHead;
 
 // The key of a job in bytes: key::write_key.
@@ -23,6 +24,41 @@ pub extern "C" fn ls_write_key(
     ensures { λ r. ⌜ _≡_ {A = Outcome (List ℕ)} (record { answer = answer r (now (place .exit)) (now (count .exit)); lent = now (bytes .exit) }) (keyWritten (record { n = n; starts = now (starts .entry); rows = now (rows .entry); mark = mark; limit = limit }) (now (bytes .entry))) ⌝ }
 {
     let answered = key::write_key(JobHead { n, mark, limit }, starts, rows, bytes);
+    *place = answered.place;
+    *count = answered.count;
+    answered.number
+}
+
+// The analysis of a job: analysis::analyse.
+#[no_mangle]
+pub extern "C" fn ls_analyse(
+    n: u64,
+    starts: &[u64],
+    rows: &[u32],
+    mark: u64,
+    limit: u64,
+    parents: &mut [u32],
+    order: &mut [u32],
+    pops: &mut [u32],
+    fstarts: &mut [u64],
+    frows: &mut [u32],
+    work: &mut [u64],
+    place: &mut u64,
+    count: &mut u64,
+) -> u64
+    ensures { λ r. ⌜ _≡_ {A = Outcome Lent} (record { answer = answer r (now (place .exit)) (now (count .exit)); lent = six (now (parents .exit)) (now (order .exit)) (now (pops .exit)) (now (fstarts .exit)) (now (frows .exit)) (now (work .exit)) }) (analysed (record { n = n; starts = now (starts .entry); rows = now (rows .entry); mark = mark; limit = limit }) (six (now (parents .entry)) (now (order .entry)) (now (pops .entry)) (now (fstarts .entry)) (now (frows .entry)) (now (work .entry)))) ⌝ }
+{
+    let answered = analysis::analyse(
+        JobHead { n, mark, limit },
+        starts,
+        rows,
+        parents,
+        order,
+        pops,
+        fstarts,
+        frows,
+        work,
+    );
     *place = answered.place;
     *count = answered.count;
     answered.number
