@@ -1,12 +1,14 @@
-use Prim.Native.Nat.{ℕ, _+_, _≤_}
+-- The test of a plan's lists as slices hold them; where it passes, the parents that it has stored are the job's, and the tests of the tree are left.
+-- Assumes nothing.
+use Prim.Native.Nat.{ℕ, _+_}
 use mathlib.Core.Path.{_≡_, refl, sym, ap, _∙_}
 use mathlib.Core.Logic.{_≢_}
 use mathlib.Core.List.{List, [], _∷_, map, append-nil}
 use native.Mathlib.Omega.{arith}
-use lib.ListN.{length, take, drop, length-map, drop-of-length-le}
+use lib.ListN.{length, drop, length-map, drop-of-length-le}
 use lib.Seq.{sets, sets-eq, take-all}
 use Rattle.papers.specs.declared.Answer.{Answer}
-use Rattle.papers.specs.Lists.{least, upTo, flat, startsFrom}
+use Rattle.papers.specs.Lists.{upTo, flat}
 use Rattle.papers.specs.Job.{Job, pattern}
 use Rattle.papers.specs.Tree.{parent}
 use Rattle.papers.specs.Plan.{Plan}

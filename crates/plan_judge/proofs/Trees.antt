@@ -1,15 +1,18 @@
+-- The tests of a plan whose lists are R: the parents and the starts in the slices name the pattern's tree and its rows, so the passes over the slices
+-- find what the tests name; and an order that passes them takes off no more than is held.
+-- Assumes nothing.
 use Prim.Native.Nat.{ℕ, zero, suc, _+_, _-_, _<_, _≤_}
-use mathlib.Core.Path.{_≡_, refl, sym, ap, _∙_}
+use mathlib.Core.Path.{_≡_, sym, ap, _∙_}
 use mathlib.Core.Logic.{_↔_, _≢_}
 use mathlib.Core.Bool.{not}
 use mathlib.Core.List.{List, [], _∷_, map}
 use native.Mathlib.Omega.{arith}
 use lib.Dec.{eqb}
-use lib.ListN.{length, getD, take, length-map}
+use lib.ListN.{length, getD, length-map}
 use borrow.Author.Tests.{eq-eqb, ne-eqb}
 use Rattle.papers.specs.declared.Answer.{Answer}
 use Rattle.papers.specs.Bounds.{maxColumns}
-use Rattle.papers.specs.Lists.{_∈_, Distinct, least, upTo, startsFrom, flat}
+use Rattle.papers.specs.Lists.{_∈_, Distinct, least, upTo, startsFrom}
 use Rattle.papers.specs.Job.{Job, Below, pattern}
 use Rattle.papers.specs.Fill.{R}
 use Rattle.papers.specs.Tree.{t, parent, rowCount, children}
@@ -17,23 +20,22 @@ use Rattle.papers.specs.Room.{peakOf}
 use Rattle.papers.specs.Order.{columnAt, Ordered, popsOf, peak}
 use Rattle.papers.specs.Key.{listsOf}
 use Rattle.papers.specs.Plan.{Plan, columnsIn, popsIn}
-use Rattle.papers.specs.Refusals.{answer, zeroed, passed, refused, first, peakTest}
-use Rattle.papers.specs.Check.{repeatTest, listTest, scattered, subtreeTest, popsTest, truePeak, declaredTest}
+use Rattle.papers.specs.Refusals.{answer, zeroed, passed, first, peakTest}
+use Rattle.papers.specs.Check.{scattered, subtreeTest, popsTest, truePeak, declaredTest}
 use Rattle.list_laws.proofs.UpTo.{length-upTo}
 use Rattle.list_laws.proofs.Stores.{length-starts}
-use Rattle.job_laws.proofs.Starts.{start-at}
-use Rattle.job_laws.proofs.Laid.{laid-starts}
-use Rattle.job_laws.proofs.Firsts.{first-passed-iff, refused-if, passed-if, over-refuses, over-passes-iff}
-use Rattle.job_laws.proofs.Passed.{passes-iff, passed-below}
-use Rattle.refusal_laws.proofs.PlanTests.{all}
-use Rattle.order_laws.specs.Held.{heldAfterAll}
 use Rattle.order_laws.specs.Stack.{heldColumns}
 use Rattle.order_laws.proofs.Steps.{column-at}
 use Rattle.order_laws.proofs.Takes.{step-enough}
 use Rattle.order_laws.proofs.Entries.{held-entries}
 use Rattle.order_laws.proofs.Patterns.{tree-of, root-rows, rows-fit}
+use Rattle.job_laws.proofs.Starts.{start-at}
+use Rattle.job_laws.proofs.Laid.{laid-starts}
+use Rattle.job_laws.proofs.Firsts.{first-passed-iff, refused-if, passed-if, over-refuses, over-passes-iff}
+use Rattle.job_laws.proofs.Passed.{passes-iff, passed-below}
+use Rattle.refusal_laws.proofs.PlanTests.{all}
 use Rattle.plan_laws.proofs.PlanSound.{repeat-iff, list-iff, pops-iff, subtree-iff}
-use Rattle.tree.specs.Parents.{parentIn, TreeIn, kidsIn}
+use Rattle.tree.specs.Parents.{parentIn, TreeIn}
 use Rattle.tree.proofs.Slices.{at-place}
 use Rattle.room.specs.Rows.{rowsIn, Column}
 use Rattle.room.specs.Steps.{rowsAt, popsAt, heldAt, Stepped}
