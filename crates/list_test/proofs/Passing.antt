@@ -4,7 +4,7 @@
 use Prim.Native.Nat.{ℕ, zero, suc, _+_, _-_, _<_, _≤_}
 use mathlib.Core.Path.{_≡_, refl, sym, ap, _∙_}
 use mathlib.Core.Bool.{Bool, true, false, not}
-use mathlib.Core.List.{List, [], map}
+use mathlib.Core.List.{List, map}
 use native.Mathlib.Omega.{arith}
 use native.Mathlib.Numerals.{add-one}
 use lib.ListN.{length, getD, set, length-map, length-replicate}
@@ -50,13 +50,12 @@ pub record Passing (n : ℕ) (A : Pattern) (fs fr p₀ w₀ p w : List ℕ) (m :
   pub stored : Stored n m A fs fr w
   pub none : least (wrongIn A fs fr) m ≡ 0
   pub parents-are : p ≡ sets p₀ 0 (map (parent A) (upTo m))
-  pub room : n ≤ length p₀
   pub long : length w ≡ length w₀
 
 pub pass-begin : {n : ℕ} {lists : List (List ℕ)} {fs fr : List ℕ} (A : Pattern) (p w w₁ : List ℕ) → PlanLists n lists fs fr
-    → n ≤ length p → workLength n ≤ length w → w₁ ≡ zeros w → Passing n A fs fr p w₁ p w₁ 0
+    → workLength n ≤ length w → w₁ ≡ zeros w → Passing n A fs fr p w₁ p w₁ 0
 unfolding least upTo flat
-pass-begin {n} {lists} {fs} {fr} A p w w₁ l hp hw e =
+pass-begin {n} {lists} {fs} {fr} A p w w₁ l hw e =
     record {
       most = omega arith;
       stored = record {
@@ -70,7 +69,6 @@ pass-begin {n} {lists} {fs} {fr} A p w w₁ l hp hw e =
       };
       none = refl;
       parents-are = refl;
-      room = hp;
       long = refl;
     }
   where
@@ -124,6 +122,5 @@ module _ {n m : ℕ} {A : Pattern} {fs fr p₀ w₀ p w : List ℕ} (s : Passing
             stored = rw (add-one, k, first) (stored-on good (s .stored) l list right (stands-fits t list is) w₁ g lw (stands t list is p w₁));
             none = rw add-one (least-none (wrongIn A fs fr) m (s .none) (ap not (sym (rw (is, add-one) at e))));
             parents-are = rw (add-one, map-upTo (parent A) m) (sets-more (map (parent A) (upTo m)) p₀ 0 (parent A (suc m)) m (s .parents-are) (rw (first, head)) (omega (arith, length-map (upTo m) (parent A), length-upTo m)));
-            room = s .room;
             long = lv ∙ lw ∙ s .long;
           }

@@ -1,4 +1,5 @@
 // Refusal 17: the first column whose list in a plan is not R(j), judged by marks of rows, without a second set of lists.
+// Columns are taken in ascending order, so that a list is held against lists already found right.
 ghost use mathlib.Core.Path.{_≡_};
 ghost use Prim.Native.Nat.{_+_, _<_, _≤_};
 ghost use mathlib.Core.List.{map};

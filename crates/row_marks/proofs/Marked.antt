@@ -2,14 +2,14 @@
 -- that were not marked.
 -- Assumes nothing.
 use Prim.Native.Nat.{ℕ, _+_, _<_, _≤_}
-use mathlib.Core.Path.{_≡_, refl, sym, _∙_}
+use mathlib.Core.Path.{_≡_, refl, _∙_}
 use mathlib.Core.Logic.{_⊎_, inl, inr, ⊎-elim}
 use mathlib.Core.List.{List, [], _∷_, _++_, List·Memᴰ·head, List·Memᴰ·tail, List·Memᴰ·not-nil, List·Memᴰ·cases-cons, List·Memᴰ·append-cases, Memᴰ·append-left, Memᴰ·append-right}
 use native.Mathlib.Omega.{arith}
 use lib.ListN.{length, getD, set, length-set, length-append}
 use lib.Seq.{getD-set-same}
 use borrow.Author.Tests.{eqb-true}
-use Rattle.papers.specs.Lists.{_∈_, Asc, Distinct, merge}
+use Rattle.papers.specs.Lists.{_∈_, Asc, merge}
 use Rattle.list_laws.proofs.Tests.{Test, passes, fails, test, true-false, not-false}
 use Rattle.list_laws.proofs.Ascending.{asc-above, asc-distinct}
 use Rattle.list_laws.proofs.Counts.{same-length, distinct-join}

@@ -1,9 +1,9 @@
-use denote.Ref.{now}
 -- `list_test::first_wrong_list` meets its contract: the lists of the columns up to m are right. The measure is what is left.
 -- Assumes nothing.
 use Prim.Native.Nat.{_-_}
 use mathlib.Core.Path.{sym, _∙_}
 use native.Mathlib.Omega.{arith}
+use denote.Ref.{now}
 use Rattle.papers.specs.Job.{columnOf}
 use Rattle.list_laws.proofs.Tests.{not-true, not-false}
 use Rattle.column_laws.proofs.Columns.{tested-below}
@@ -22,7 +22,7 @@ clear64-requires : tie.Need-clear64-requires Inv-loop μ-loop
 clear64-requires c κs = omega arith
 
 loop-holds : tie.Need-loop-holds Inv-loop μ-loop
-loop-holds c = pass-begin _ _ (now (c .before .before .before .before .before .before .before .before .before .before .args .work)) _ (c .before .before .before .before .before .before .before .before .before .before .pre .1 .0 .are) (c .before .before .before .before .before .before .before .before .before .before .pre .1 .1 .0) (c .before .before .before .before .before .before .before .before .before .before .pre .1 .1 .1) (c .before .before .clear64 .ensures)
+loop-holds c = pass-begin _ _ (now (c .before .before .before .before .before .before .before .before .before .before .args .work)) _ (c .before .before .before .before .before .before .before .before .before .before .pre .1 .0 .are) (c .before .before .before .before .before .before .before .before .before .before .pre .1 .1 .1) (c .before .before .clear64 .ensures)
 
 pattern-rows-requires : tie.Need-pattern-rows-requires Inv-loop μ-loop
 pattern-rows-requires c κs = plan-part (c .before .before .before .before .before .before .before .before .before .before .before .before .pre .1 .0 .are) _ (c .loop-test .taken)
