@@ -16,7 +16,7 @@ use Rattle.tree.proofs.Slices.{at-place}
 use Rattle.tree.proofs.Children.{parent-is, parent-low}
 use Rattle.subtree_test.specs.Steps.{EachOnce, listed, StepsIn}
 use Rattle.subtree_test.specs.Strays.{strayStep, Placed}
-use Rattle.subtree_test.proofs.Strays.{stray-root, stray-late, stray-early, stray-none}
+use Rattle.subtree_test.proofs.Judged.{stray-root, stray-late, stray-early, stray-none}
 
 -- ---- the first k steps are written
 pub record Writing (order steps : List ℕ) (k : ℕ) : Type 0 where
@@ -48,39 +48,34 @@ writing-stop inv h i l = inv .done i (omega arith)
 
 -- ---- the column at place i, and p its parent
 module _ (parents steps below : List ℕ) (i : ℕ) where
-  above : parentIn parents (i + 1) ≡ getD parents i 0
-  above = rw add-one (parent-is parents i)
-
   abbrev p : ℕ
   p = getD parents i 0
 
   abbrev judgedAs : ℕ
   judgedAs = strayStep (parentIn parents) (listed steps) (listed below) (i + 1)
 
-  pub root-judged : getD parents i 0 ≡ 0 → 0 ≡ strayStep (parentIn parents) (listed steps) (listed below) (i + 1)
+  above : parentIn parents (i + 1) ≡ p
+  above = rw add-one (parent-is parents i)
+
+  pub root-judged : p ≡ 0 → 0 ≡ judgedAs
   root-judged z = stray-root (parentIn parents) (listed steps) (listed below) (i + 1) (above ∙ z)
 
   pub late-judged : p ≢ 0 → listed steps p < listed steps (i + 1) → listed steps p ≡ judgedAs
-  late-judged z h = let s = stray-late (parentIn parents) (listed steps) (listed below) (i + 1) in rw above at s z h
+  late-judged = rw above at (stray-late (parentIn parents) (listed steps) (listed below) (i + 1))
 
   pub early-judged : p ≢ 0 → listed steps (i + 1) ≤ listed steps p → listed steps (i + 1) + listed below p < listed steps p + listed below (i + 1) → listed steps p ≡ judgedAs
-  early-judged z h k = let s = stray-early (parentIn parents) (listed steps) (listed below) (i + 1) in rw above at s z h k
+  early-judged = rw above at (stray-early (parentIn parents) (listed steps) (listed below) (i + 1))
 
   pub none-judged : p ≢ 0 → listed steps (i + 1) ≤ listed steps p → listed steps p + listed below (i + 1) ≤ listed steps (i + 1) + listed below p → 0 ≡ judgedAs
-  none-judged z h k = let s = stray-none (parentIn parents) (listed steps) (listed below) (i + 1) in rw above at s z h k
+  none-judged = rw above at (stray-none (parentIn parents) (listed steps) (listed below) (i + 1))
 
-  -- no sum exceeds its type, and the parent has its places
+  -- the parent has its places, and no sum is too great
   pub sums-fit : Placed parents steps below → i < length parents → p ≢ 0
-      → (p < length steps) × (p < length below) × (i + 1 < length steps) × (i + 1 < length below)
-      × (listed steps (i + 1) + listed below p ≤ maxColumns + maxColumns) × (listed steps p + listed below (i + 1) ≤ maxColumns + maxColumns)
+      → (p < length steps) × (p < length below) × (listed steps (i + 1) + listed below p ≤ maxColumns + maxColumns) × (listed steps p + listed below (i + 1) ≤ maxColumns + maxColumns)
   sums-fit placed h z =
-      let low = parent-low parents (placed .tree) i in
-      let a = placed .steps-length in
-      let b = placed .below-length in (
-        omega arith,
-        omega arith,
-        omega arith,
-        omega arith,
+      let low = parent-low parents (placed .tree) i in (
+        omega (arith, placed .steps-length),
+        omega (arith, placed .below-length),
         omega (arith, placed .steps-low (i + 1) (omega arith) (omega arith), placed .below-low p (omega arith) low),
         omega (arith, placed .steps-low p (omega arith) low, placed .below-low (i + 1) (omega arith) (omega arith)),
       )

@@ -1,5 +1,6 @@
 -- The least step that a child strays from is the least step of a scattered subtree. Where no child strays, every subtree lies within its
--- steps, child by child from the lowest column up. Where one strays and its own subtree does not, its parent's does.
+-- steps, child by child from the lowest column up. Where one strays and its own subtree is in one piece, its parent's is
+-- not.
 -- Assumes nothing.
 use Prim.Native.Nat.{ℕ, zero, suc, _+_, _<_, _≤_}
 use mathlib.Core.Path.{_≡_, refl, sym, ap, _∙_}
@@ -7,8 +8,8 @@ use mathlib.Core.Logic.{_⊎_, inl, inr, _↔_, _≢_}
 use mathlib.Core.Bool.{true, false}
 use mathlib.Core.List.{List}
 use native.Mathlib.Omega.{arith}
-use lib.Dec.{ltb, eqb}
-use borrow.Author.Tests.{ltb-true, ltb-false, eqb-true, eqb-false, lt-ltb, le-ltb, eq-eqb, ne-eqb}
+use lib.Dec.{eqb}
+use borrow.Author.Tests.{eqb-true, eqb-false}
 use Rattle.papers.specs.Lists.{least}
 use Rattle.papers.specs.Order.{columnAt, Together}
 use Rattle.papers.specs.Check.{scattered}
@@ -20,55 +21,8 @@ use Rattle.order_laws.proofs.Steps.{column-in}
 use Rattle.order_laws.proofs.TogetherTest.{scattered-test}
 use Rattle.subtree_test.specs.Strays.{strayStep, earliest}
 use Rattle.subtree_test.proofs.Earliest.{Earliest, none, found, earliest-is}
+use Rattle.subtree_test.proofs.Judged.{Fits, Judged, within, strays, judged}
 use Rattle.subtree_test.proofs.Windows.{Listing, Inside, step-range, together-inside, together-begins, inside-together}
-
-module _ (par step below : ℕ → ℕ) (c : ℕ) where
-  -- ---- as code tells the cases apart
-
-  pub stray-root : par c ≡ 0 → 0 ≡ strayStep par step below c
-  unfolding strayStep
-  stray-root e = rw (eq-eqb (par c) 0 e, strayStep)
-
-  pub stray-late : par c ≢ 0 → step (par c) < step c → step (par c) ≡ strayStep par step below c
-  unfolding strayStep
-  stray-late z h = rw (ne-eqb (par c) 0 z, lt-ltb (step (par c)) (step c) h, strayStep)
-
-  pub stray-early : par c ≢ 0 → step c ≤ step (par c) → step c + below (par c) < step (par c) + below c → step (par c) ≡ strayStep par step below c
-  unfolding strayStep
-  stray-early z h k = rw (ne-eqb (par c) 0 z, le-ltb (step (par c)) (step c) h, lt-ltb (step c + below (par c)) (step (par c) + below c) k, strayStep)
-
-  pub stray-none : par c ≢ 0 → step c ≤ step (par c) → step (par c) + below c ≤ step c + below (par c) → 0 ≡ strayStep par step below c
-  unfolding strayStep
-  stray-none z h k = rw (ne-eqb (par c) 0 z, le-ltb (step (par c)) (step c) h, le-ltb (step c + below (par c)) (step (par c) + below c) k, strayStep)
-
-  -- ---- what it says
-
-  -- the steps that c's subtree should take lie within its parent's
-  abbrev pub Fits : Type 0
-  Fits = (step c ≤ step (par c)) × (step (par c) + below c ≤ step c + below (par c))
-
-  pub data Judged : Type 0 where
-    within : strayStep par step below c ≡ 0 → (0 < par c → Fits) → Judged
-    strays : strayStep par step below c ≡ step (par c) → 0 < par c → (Fits → ⊥) → Judged
-
-  pub judged : Judged
-  judged = go (test (eqb (par c) 0)) (test (ltb (step (par c)) (step c))) (test (ltb (step c + below (par c)) (step (par c) + below c)))
-    where
-      go : Test (eqb (par c) 0) → Test (ltb (step (par c)) (step c)) → Test (ltb (step c + below (par c)) (step (par c) + below c)) → Judged
-      go (passes e) a b = let z = eqb-true (par c) 0 e in within (sym (stray-root z)) (λ l. absurd (omega arith))
-      go (fails e) (passes a) b =
-          let z : par c ≢ 0 = eqb-false (par c) 0 e in
-          let h = ltb-true (step (par c)) (step c) a in
-          strays (sym (stray-late z h)) (omega arith) (λ f. omega (arith, f .0))
-      go (fails e) (fails a) (passes b) =
-          let z : par c ≢ 0 = eqb-false (par c) 0 e in
-          let h = ltb-true (step c + below (par c)) (step (par c) + below c) b in
-          strays (sym (stray-early z (ltb-false (step (par c)) (step c) a) h)) (omega arith) (λ f. omega (arith, f .1))
-      go (fails e) (fails a) (fails b) =
-          let z : par c ≢ 0 = eqb-false (par c) 0 e in
-          let h = ltb-false (step (par c)) (step c) a in
-          let k = ltb-false (step c + below (par c)) (step (par c) + below c) b in
-          within (sym (stray-none z h k)) (λ l. (h, k))
 
 module _ {par : ℕ → ℕ} {n : ℕ} {order : List ℕ} {step below : ℕ → ℕ} (given : Listing par n order step below) where
   -- a column whose children fit, each with its subtree inside its own steps
@@ -119,7 +73,7 @@ module _ {par : ℕ → ℕ} {n : ℕ} {order : List ℕ} {step below : ℕ → 
   scattered-not : (k : ℕ) → 1 ≤ k → k ≤ n → (scattered par n order k ≡ false) ↔ Together par order k
   scattered-not k l u = scattered-test (given .tree) order (given .each) (given .once) k l (omega (arith, given .long))
 
-  -- a stray child is done before its parent or after it, not at the same step
+  -- a column is not done at its parent's step
   apart : (c : ℕ) → 0 < par c → step c ≢ step (par c)
   apart c z e =
       let (l, u) = child-range c z in

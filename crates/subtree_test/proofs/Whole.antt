@@ -50,21 +50,20 @@ module _ (parents order : List ℕ) (tree : TreeIn parents) (few : length parent
       below-low = λ c l u. omega (arith, subtree-few parents tree c l u, subtree-count parents tree c l u below counts);
     }
 
+  abbrev m : ℕ
+  m = length parents + 1
+
   -- s came back for the steps, z for the counts
-  module _ (work s z : List ℕ) (room : workLength (length parents) ≤ length work) (front-kept : length s ≡ length (take (length parents + 1) work))
-      (back-kept : length z ≡ length (part (length parents + 1) (length parents + 1 + (length parents + 1)) (s ++ drop (length parents + 1) work)))
-      (stepped : StepsIn order s) (counts : Descendants parents z)
+  module _ (work s z : List ℕ) (room : workLength (length parents) ≤ length work) (front-kept : length s ≡ length (take m work))
+      (back-kept : length z ≡ length (part m (m + m) (s ++ drop m work))) (stepped : StepsIn order s) (counts : Descendants parents z)
     where
-      abbrev m : ℕ
-      m = length parents + 1
-
       abbrev both : List ℕ
-      both = putMid (length parents + 1) (length parents + 1 + (length parents + 1) - (length parents + 1)) (s ++ drop (length parents + 1) work) z
+      both = putMid m (m + m - m) (s ++ drop m work) z
 
-      front : take (length parents + 1) both ≡ s
+      front : take m both ≡ s
       front = front-is work s z m (m + m) (omega arith) (omega arith) front-kept back-kept
 
-      back : part (length parents + 1) (length parents + 1 + (length parents + 1)) both ≡ z
+      back : part m (m + m) both ≡ z
       back = back-is work s z m (m + m) (omega arith) (omega arith) front-kept back-kept
 
       front-length : length s ≡ m
@@ -74,12 +73,12 @@ module _ (parents order : List ℕ) (tree : TreeIn parents) (few : length parent
       back-length =
           back-kept ∙ (part-length m (m + m) (s ++ drop m work) (omega arith) (omega (arith, length-append s (drop m work), length-drop m work, front-length)) ∙ omega arith)
 
-      pub stray-asked : Placed parents (take (length parents + 1) both) (part (length parents + 1) (length parents + 1 + (length parents + 1)) both)
-      stray-asked = rw (front, back) (placed s z stepped counts front-length back-length)
-
-      pub front-room : length parents + 1 ≡ length (take (length parents + 1) both)
+      pub front-room : m ≡ length (take m both)
       front-room = sym (ap length front ∙ front-length)
 
-      pub stray-found : {r : ℕ} → r ≡ earliest (strayStep (parentIn parents) (listed (take (length parents + 1) both)) (listed (part (length parents + 1) (length parents + 1 + (length parents + 1)) both))) (length parents)
+      pub stray-asked : Placed parents (take m both) (part m (m + m) both)
+      stray-asked = rw (front, back) (placed s z stepped counts front-length back-length)
+
+      pub stray-found : {r : ℕ} → r ≡ earliest (strayStep (parentIn parents) (listed (take m both)) (listed (part m (m + m) both))) (length parents)
           → r ≡ least (scattered (parentIn parents) (length parents) order) (length parents)
       stray-found e = e ∙ rw (front, back) (stray-least (listing s z stepped counts))

@@ -3,23 +3,20 @@
 -- Assumes nothing.
 use Prim.Native.Nat.{ℕ, zero, suc, _+_, _≤_, min}
 use mathlib.Core.Path.{_≡_}
-use mathlib.Core.Bool.{true, false}
+use mathlib.Core.Bool.{true, false, _&&_}
 use mathlib.Core.List.{List}
-use lib.Dec.{ltb, eqb}
+use lib.Dec.{leb, eqb}
 use lib.ListN.{length}
 use Rattle.papers.specs.Bounds.{maxColumns}
 use Rattle.tree.specs.Parents.{TreeIn}
 use Rattle.subtree_test.specs.Steps.{listed}
 
--- the step of c's parent where c should be done later than it, or begin before it; else 0, and for a root
+-- 0 where c's steps lie within its parent's, and for a root; else the parent's step
 unfoldable pub strayStep : (ℕ → ℕ) → (ℕ → ℕ) → (ℕ → ℕ) → ℕ → ℕ
 strayStep par step below c =
     elim (eqb (par c) 0) [
       | true ↦ 0
-      | false ↦ elim (ltb (step (par c)) (step c)) [
-        | true ↦ step (par c)
-        | false ↦ elim (ltb (step c + below (par c)) (step (par c) + below c)) [ true ↦ step (par c) | false ↦ 0 ]
-      ]
+      | false ↦ elim (leb (step c) (step (par c)) && leb (step (par c) + below c) (step c + below (par c))) [ true ↦ 0 | false ↦ step (par c) ]
     ]
 
 -- the lesser of two steps; 0 stands for none

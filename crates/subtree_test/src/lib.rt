@@ -24,7 +24,8 @@ fn write_steps(order: &[u32], steps: &mut [u64])
     }
 }
 
-// The step of the parent of the column at place i, if the column strays from it; else 0.
+// The step of the parent of the column at place i, if the column strays from it; else 0. Its window begins at own less its count of
+// descendants, its parent's at top less the parent's; the counts change sides, so that nothing falls below 0.
 fn stray_step(parents: &[u32], steps: &[u64], below: &[u64], i: usize) -> u64
     requires { ⌜ Placed (now parents) (now steps) (now below) × (i < length (now parents)) ⌝ }
     ensures { λ r. ⌜ r ≡ strayStep (parentIn (now (parents .entry))) (listed (now (steps .entry))) (listed (now (below .entry))) (i + 1) ⌝ }
@@ -33,15 +34,12 @@ fn stray_step(parents: &[u32], steps: &[u64], below: &[u64], i: usize) -> u64
     if p == 0 {
         return 0;
     }
-    let s = steps[p];
-    let t = steps[i + 1];
-    if s < t {
-        return s;
+    let top = steps[p];
+    let own = steps[i + 1];
+    if own <= top && top + below[i + 1] <= own + below[p] {
+        return 0;
     }
-    if t + below[p] < s + below[i + 1] {
-        return s;
-    }
-    0
+    top
 }
 
 // The lesser of two steps; 0 stands for none.
