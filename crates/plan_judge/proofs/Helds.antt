@@ -1,3 +1,5 @@
+-- A plan as slices hold it: its steps are of known columns, and the test of repeats is made on them.
+-- Assumes nothing.
 use Prim.Native.Nat.{ℕ, _≤_}
 use mathlib.Core.Path.{_≡_, ap, _∙_}
 use mathlib.Core.Logic.{_≢_}
@@ -13,7 +15,7 @@ use Rattle.refusal_laws.proofs.PlanTests.{Steps}
 use Rattle.plan_laws.proofs.Steps.{columns-within}
 use Rattle.tree.proofs.Slices.{at-place}
 use Rattle.step_tests.specs.Steps.{Within}
-use Rattle.plan_judge.specs.Judged.{PlanHeld, judgeTests, treeTests, ruling}
+use Rattle.plan_judge.specs.Judged.{PlanHeld, judgeTests, ruling}
 use Rattle.plan_judge.proofs.Rulings.{ruling-refused, decides, at-refuses, at-passes}
 
 module _ {n peak : ℕ} {plan : Plan} {order pops fstarts frows : List ℕ} (held : PlanHeld n plan peak order pops fstarts frows) where

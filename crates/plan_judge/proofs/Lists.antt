@@ -1,12 +1,14 @@
-use Prim.Native.Nat.{ℕ, _+_, _≤_}
+-- The test of a plan's lists as slices hold them; where it passes, the parents that it has stored are the job's, and the tests of the tree are left.
+-- Assumes nothing.
+use Prim.Native.Nat.{ℕ, _+_}
 use mathlib.Core.Path.{_≡_, refl, sym, ap, _∙_}
 use mathlib.Core.Logic.{_≢_}
 use mathlib.Core.List.{List, [], _∷_, map, append-nil}
 use native.Mathlib.Omega.{arith}
-use lib.ListN.{length, take, drop, length-map, drop-of-length-le}
+use lib.ListN.{length, drop, length-map, drop-of-length-le}
 use lib.Seq.{sets, sets-eq, take-all}
 use Rattle.papers.specs.declared.Answer.{Answer}
-use Rattle.papers.specs.Lists.{least, upTo, flat, startsFrom}
+use Rattle.papers.specs.Lists.{upTo, flat}
 use Rattle.papers.specs.Job.{Job, pattern}
 use Rattle.papers.specs.Tree.{parent}
 use Rattle.papers.specs.Plan.{Plan}
@@ -14,22 +16,18 @@ use Rattle.papers.specs.Refusals.{answer, zeroed, passed, first, refusedAt, job
 use Rattle.papers.specs.Check.{repeatTest, listTest}
 use Rattle.list_laws.proofs.UpTo.{length-upTo}
 use Rattle.list_laws.proofs.Stores.{length-starts}
-use Rattle.job_laws.proofs.Firsts.{first-passed-iff, first-passes}
-use Rattle.job_laws.proofs.Passed.{passes-iff}
+use Rattle.job_laws.proofs.Firsts.{first-passes}
 use Rattle.column_laws.specs.Tested.{Tested}
 use Rattle.list_test.specs.Lists.{PlanLists, HoldLists, FirstWrong}
 use Rattle.plan_judge.specs.Judged.{PlanHeld, OnTree, SomeOnTree, treeTests, judgeTests, ruling}
 use Rattle.plan_judge.proofs.Rulings.{ruling-refused, decides, at-refuses, at-passes}
 use Rattle.plan_judge.proofs.Helds.{order-length}
+use Rattle.lent_plan.proofs.Plans as plans
 
 module _ (job : Job) (valid : first jobTests job ≡ passed) where
-  tested-columns : Tested (job .n) (job .starts) (job .rows)
-  unfolding jobTests
-  tested-columns = let each = first-passed-iff jobTests job .0 valid in record { few = passes-iff job .0 valid .few; starts-pass = each .1 .1 .1 .0; rows-pass = each .1 .1 .1 .1 .0 }
-
   module _ (plan : Plan) {peak : ℕ} {order pops fstarts frows : List ℕ} (held : PlanHeld (job .n) plan peak order pops fstarts frows) where
     pub tested : Tested (length order) (job .starts) (job .rows)
-    tested = rw (order-length held) tested-columns
+    tested = rw (order-length held) (plans.tested job valid)
 
     plan-lists : PlanLists (length order) (plan .lists) fstarts frows
     plan-lists = rw (order-length held) (record {

@@ -1,44 +1,41 @@
-use Prim.Native.Nat.{ℕ, zero, suc, _+_, _-_, _<_, _≤_}
-use mathlib.Core.Path.{_≡_, refl, sym, ap, _∙_}
+-- The tests of a plan whose lists are R: the parents and the starts in the slices name the pattern's tree and its rows, so the passes over the slices
+-- find what the tests name; and an order that passes them takes off no more than is held.
+-- Assumes nothing.
+use Prim.Native.Nat.{ℕ, suc, _-_, _<_, _≤_}
+use mathlib.Core.Path.{_≡_, sym, ap, _∙_}
 use mathlib.Core.Logic.{_↔_, _≢_}
 use mathlib.Core.Bool.{not}
 use mathlib.Core.List.{List, [], _∷_, map}
 use native.Mathlib.Omega.{arith}
 use lib.Dec.{eqb}
-use lib.ListN.{length, getD, take, length-map}
+use lib.ListN.{length, getD, length-map}
 use borrow.Author.Tests.{eq-eqb, ne-eqb}
 use Rattle.papers.specs.declared.Answer.{Answer}
 use Rattle.papers.specs.Bounds.{maxColumns}
-use Rattle.papers.specs.Lists.{_∈_, Distinct, least, upTo, startsFrom, flat}
+use Rattle.papers.specs.Lists.{_∈_, Distinct, least, upTo, startsFrom}
 use Rattle.papers.specs.Job.{Job, Below, pattern}
-use Rattle.papers.specs.Fill.{R}
 use Rattle.papers.specs.Tree.{t, parent, rowCount, children}
 use Rattle.papers.specs.Room.{peakOf}
 use Rattle.papers.specs.Order.{columnAt, Ordered, popsOf, peak}
-use Rattle.papers.specs.Key.{listsOf}
 use Rattle.papers.specs.Plan.{Plan, columnsIn, popsIn}
-use Rattle.papers.specs.Refusals.{answer, zeroed, passed, refused, first, peakTest}
-use Rattle.papers.specs.Check.{repeatTest, listTest, scattered, subtreeTest, popsTest, truePeak, declaredTest}
-use Rattle.list_laws.proofs.UpTo.{length-upTo}
-use Rattle.list_laws.proofs.Stores.{length-starts}
-use Rattle.job_laws.proofs.Starts.{start-at}
-use Rattle.job_laws.proofs.Laid.{laid-starts}
-use Rattle.job_laws.proofs.Firsts.{first-passed-iff, refused-if, passed-if, over-refuses, over-passes-iff}
-use Rattle.job_laws.proofs.Passed.{passes-iff, passed-below}
-use Rattle.refusal_laws.proofs.PlanTests.{all}
-use Rattle.order_laws.specs.Held.{heldAfterAll}
+use Rattle.papers.specs.Refusals.{answer, zeroed, passed, first, peakTest}
+use Rattle.papers.specs.Check.{scattered, subtreeTest, popsTest, truePeak, declaredTest}
 use Rattle.order_laws.specs.Stack.{heldColumns}
 use Rattle.order_laws.proofs.Steps.{column-at}
 use Rattle.order_laws.proofs.Takes.{step-enough}
 use Rattle.order_laws.proofs.Entries.{held-entries}
-use Rattle.order_laws.proofs.Patterns.{tree-of, root-rows, rows-fit}
+use Rattle.order_laws.proofs.Patterns.{tree-of, root-rows}
+use Rattle.job_laws.proofs.Firsts.{first-passed-iff, refused-if, passed-if, over-refuses, over-passes-iff}
+use Rattle.job_laws.proofs.Passed.{passes-iff, passed-below}
+use Rattle.refusal_laws.proofs.PlanTests.{all}
 use Rattle.plan_laws.proofs.PlanSound.{repeat-iff, list-iff, pops-iff, subtree-iff}
-use Rattle.tree.specs.Parents.{parentIn, TreeIn, kidsIn}
+use Rattle.tree.specs.Parents.{parentIn, TreeIn}
 use Rattle.tree.proofs.Slices.{at-place}
 use Rattle.room.specs.Rows.{rowsIn, Column}
 use Rattle.room.specs.Steps.{rowsAt, popsAt, heldAt, Stepped}
 use Rattle.room.proofs.BySteps.{peak-by-steps, enough-by-steps}
-use Rattle.analysis.proofs.Ties.{parents-tie, rows-tie}
+use Rattle.order.proofs.Families.{column-of}
+use Rattle.lent_plan.proofs.Ties.{startsOf, length-parents, parents-tie, rows-tie, rowed}
 use Rattle.step_tests.specs.Steps.{Within, popsWrong}
 use Rattle.subtree_test.specs.Steps.{EachOnce}
 use Rattle.plan_judge.specs.Judged.{OnTree, treeTests, ruling}
@@ -55,13 +52,13 @@ module _ {job : Job} {plan : Plan} {limit greatest : ℕ} {parents order pops fs
   -- ---- the tree
 
   pub parents-length : length parents ≡ job .n
-  parents-length = ap length (on .parents-are) ∙ (length-map (upTo (job .n)) (parent (pattern job)) ∙ length-upTo (job .n))
+  parents-length = ap length (on .parents-are) ∙ length-parents below
 
   same-parents : parentIn parents ≡ parent (pattern job)
   same-parents = rw (on .parents-are) (λ i j. parents-tie below j i)
 
   pub tree-in : TreeIn parents
-  tree-in = rw (same-parents, parents-length) (tree-of below)
+  tree-in = rw (on .parents-are) (rowed below columns-few .tree)
 
   pub as-long : length order ≡ length parents
   as-long = order-length (on .held) ∙ sym parents-length
@@ -119,21 +116,14 @@ module _ {job : Job} {plan : Plan} {limit greatest : ℕ} {parents order pops fs
         each j = (read (on .held) .1 j, λ (l, u). all job plan (read (on .held)) (on .unrepeated) j l u)
 
     -- the starts in the slice are those of the lists R
-    factor-are : fstarts ≡ startsFrom 0 (listsOf (job .n) (R (pattern job)))
+    factor-are : fstarts ≡ startsOf (job .n) (pattern job)
     factor-are = on .held .begins ∙ ap (startsFrom 0) (list-iff job plan (on .held .fit) .0 (on .right))
 
     rows-here : (j : ℕ) → rowsIn fstarts j ≡ rowCount (pattern job) j
     rows-here = rw factor-are (rows-tie below)
 
     column : (j : ℕ) → 1 ≤ j → j ≤ job .n → Column fstarts j
-    unfolding rowsIn
-    column zero l u = absurd (omega arith)
-    column (suc k) l u =
-        let e : suc k - 1 ≡ k = omega arith in
-        let long : length fstarts ≡ job .n + 1 = ap length (on .held .begins) ∙ length-starts 0 (plan .lists) ∙ ap (λ m. m + 1) (on .held .fit .all-lists) in
-        let rise : getD fstarts k 0 ≤ getD fstarts (suc k) 0 = rw (on .held .begins, ← start-at (startsFrom 0 (plan .lists)) k, ← start-at (startsFrom 0 (plan .lists)) (suc k)) (laid-starts (plan .lists) .rising (suc k) (omega arith) (omega (arith, on .held .fit .all-lists))) in
-        let rows = rw e at (rows-here (suc k)) in
-        record { some = l; known = omega arith; rise = rw e rise; few = rw e (omega (arith, rows-fit below (suc k), columns-few)) }
+    column j l u = rw factor-are (column-of (rowed below columns-few) j l (omega (arith, length-parents below)))
 
     module _ (popped : popsTest job plan ≡ passed) where
       pops-are : pops ≡ map (popsOf (job .n) (pattern job)) order

@@ -1,9 +1,9 @@
 -- 16 and 17 decide, or leave a plan whose order has each column once and whose lists are R, with the job's parents, to the tests of the tree.
-use mathlib.Core.Path.{_≡_, refl, sym, ap, _∙_}
+-- Assumes nothing.
+use mathlib.Core.Path.{refl}
 use native.Mathlib.Omega.{arith}
 use denote.Ref.{now}
 use borrow.Author.Needs.{needs}
-use Rattle.papers.specs.declared.Answer.{Answer}
 use Rattle.plan_judge.proofs.Rulings.{number-of}
 use Rattle.plan_judge.proofs.Helds.{order-length, within, refuses-16, passes-16}
 use Rattle.plan_judge.proofs.Lists.{tested, lists-held, refuses-17, passes-17, left-to-tree, on-tree, some-on-tree, parents-stored}

@@ -1,5 +1,6 @@
--- Each test that is made decides or leaves it to the next, and what has passed is what the next one asks: an order with whole subtrees has the pops
--- and the peak that the slices say.
+-- Each test that is made decides or leaves it to the next, and what has passed is what the next one asks: in an order with whole subtrees and
+-- the right pops no step takes off more than is held.
+-- Assumes nothing.
 use native.Mathlib.Omega.{arith}
 use borrow.Author.Needs.{needs}
 use Rattle.plan_judge.proofs.Trees.{few, tree-in, as-long, pops-as-long, each-once, within-order, refuses-18, passes-18, refuses-19, passes-19, stepped, refuses-20, refuses-9, passes-all}
