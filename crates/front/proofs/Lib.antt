@@ -1,4 +1,5 @@
 pub mod Columns
 pub mod Every
 pub mod Places
+pub mod SameRows
 pub mod Sweeps

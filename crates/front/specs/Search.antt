@@ -1,6 +1,8 @@
--- Where a row belongs among ascending rows.
+-- Where a row belongs among ascending rows, and how far two lists are alike.
 -- Assumes nothing.
 use Prim.Native.Nat.{ℕ, _<_, _≤_}
+use mathlib.Core.Path.{_≡_}
+use mathlib.Core.Logic.{_≢_}
 use mathlib.Core.List.{List}
 use lib.ListN.{length, getD}
 
@@ -10,3 +12,14 @@ pub record Bracket (rows : List ℕ) (row lo hi : ℕ) : Type 0 where
   pub within : hi ≤ length rows
   pub before : (i : ℕ) → i < lo → getD rows i 0 < row
   pub behind : (i : ℕ) → hi ≤ i → i < length rows → row ≤ getD rows i 0
+
+-- the first `count` rows of two lists are the same
+pub record Same (a b : List ℕ) (count : ℕ) : Type 0 where
+  pub in-first : count ≤ length a
+  pub in-second : count ≤ length b
+  pub same : (k : ℕ) → k < count → getD a k 0 ≡ getD b k 0
+
+-- these and no more: the next rows are not the same, or one list has no next
+pub record Alike (a b : List ℕ) (count : ℕ) : Type 0 where
+  pub first : Same a b count
+  pub differ : count < length a → count < length b → getD a count 0 ≢ getD b count 0

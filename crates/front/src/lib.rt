@@ -1,14 +1,14 @@
 // A column's rows in a factor, and whether an update's rows stand in a column's front.
 ghost use mathlib.Core.Path.{_≡_};
 ghost use mathlib.Core.List.{_∷_};
-ghost use Prim.Native.Nat.{ℕ, _≤_};
+ghost use Prim.Native.Nat.{ℕ, _≤_, min};
 ghost use lib.ListN.{length};
 ghost use Rattle.papers.specs.Bounds.{maxColumns};
 ghost use Rattle.papers.specs.Lists.{Asc, member, every};
 ghost use Rattle.papers.specs.Job.{columnOf};
 ghost use Rattle.papers.specs.Tree.{t};
 ghost use Rattle.front.specs.Factor.{Factor, Column};
-ghost use Rattle.front.specs.Search.{Bracket};
+ghost use Rattle.front.specs.Search.{Bracket, Alike};
 
 // The rows of a column, as the part of the factor's rows that holds them.
 pub fn rows_of<'a>(n: u64, starts: &[u64], rows: &'a [u32], column: u64) -> &'a [u32]
@@ -77,7 +77,33 @@ fn seek(rows: &[u32], row: u32, from: usize) -> usize
     bisect(rows, row, low, rows.len())
 }
 
+// The lesser of two lengths.
+fn lesser(a: usize, b: usize) -> usize
+    ensures { λ r. ⌜ r ≡ min a b ⌝ }
+{
+    if a < b {
+        return a;
+    }
+    b
+}
+
+// How many rows two lists have alike, from their first rows on. The first i are.
+fn alike(a: &[u32], b: &[u32]) -> usize
+    ensures { λ r. ⌜ Alike (now (a .entry)) (now (b .entry)) r ⌝ }
+{
+    let end = lesser(a.len(), b.len());
+    let mut i = 0;
+    while i < end {
+        if a[i] != b[i] {
+            return i;
+        }
+        i += 1;
+    }
+    i
+}
+
 // Whether each row of an update is the column itself or one of its rows. Both lists ascend, so a row is searched behind the last one found.
+// Mostly the rows that follow it follow in both lists: these are passed without a search.
 pub fn stands_in(column: u64, rows: &[u32], update: &[u32]) -> bool
     requires rows_ascending { ⌜ Asc 0 (now rows) ⌝ }
     requires update_ascending { ⌜ Asc 0 (now update) ⌝ }
@@ -91,14 +117,12 @@ pub fn stands_in(column: u64, rows: &[u32], update: &[u32]) -> bool
             i += 1;
         } else {
             let place = seek(rows, row, found);
-            if rows.len() <= place {
+            let same = alike(&rows[place..], &update[i..]);
+            if same == 0 {
                 return false;
             }
-            if rows[place] != row {
-                return false;
-            }
-            found = place + 1;
-            i += 1;
+            found = place + same;
+            i += same;
         }
     }
     true

@@ -5,7 +5,7 @@ use Prim.Native.Nat.{_-_}
 use native.Mathlib.Omega.{arith}
 use lib.ListN.{length}
 use borrow.Author.Needs.{needs}
-use Rattle.front.proofs.Sweeps.{Swept, swept-start, swept-end, to-seek, swept-column, swept-row, swept-missing}
+use Rattle.front.proofs.Sweeps.{Swept, swept-start, swept-end, to-seek, swept-column, swept-alike, swept-missing}
 use Rattle.front.proofs.stands_in.Statement.{statement}
 use Rattle.front.proofs.stands_in.Tie as tie
 
@@ -39,17 +39,35 @@ loop-again c = swept-column (c .before .before .before .loop .inv) (c .before .b
 seek-requires : tie.Need-seek-requires Inv-loop μ-loop
 seek-requires c κs = (c .before .before .before .before .before .before .pre .0, to-seek (c .before .before .before .loop .inv) (c .before .before .loop-test .taken))
 
+mul-alike : tie.Need-mul-alike Inv-loop μ-loop
+mul-alike c = search needs
+
+sub-alike : tie.Need-sub-alike Inv-loop μ-loop
+sub-alike c = search needs
+
+part-alike-start : tie.Need-part-alike-start Inv-loop μ-loop
+part-alike-start c = search needs
+
+part-alike-end : tie.Need-part-alike-end Inv-loop μ-loop
+part-alike-end c = search needs
+
+mul-alike-2 : tie.Need-mul-alike-2 Inv-loop μ-loop
+mul-alike-2 c = search needs
+
+sub-alike-2 : tie.Need-sub-alike-2 Inv-loop μ-loop
+sub-alike-2 c = search needs
+
+part-alike-start-2 : tie.Need-part-alike-start-2 Inv-loop μ-loop
+part-alike-start-2 c = search needs
+
+part-alike-end-2 : tie.Need-part-alike-end-2 Inv-loop μ-loop
+part-alike-end-2 c = search needs
+
+alike-requires : tie.Need-alike-requires Inv-loop μ-loop
+alike-requires c κs = search needs
+
 returns : tie.Need-returns Inv-loop μ-loop
-returns c = swept-missing (c .before .before .before .before .before .loop .inv) (c .before .before .before .before .loop-test .taken) (c .before .before .before .before .before .before .before .before .pre .0) (c .before .before .if1 .left) (c .before .seek .ensures) (λ l. absurd (omega (arith, c .if2 .taken)))
-
-mul-if3 : tie.Need-mul-if3 Inv-loop μ-loop
-mul-if3 c = search needs
-
-shared-slice-read-if3 : tie.Need-shared-slice-read-if3 Inv-loop μ-loop
-shared-slice-read-if3 c = search needs
-
-returns-2 : tie.Need-returns-2 Inv-loop μ-loop
-returns-2 c = swept-missing (c .before .before .before .before .before .before .before .loop .inv) (c .before .before .before .before .before .before .loop-test .taken) (c .before .before .before .before .before .before .before .before .before .before .pre .0) (c .before .before .before .before .if1 .left) (c .before .before .before .seek .ensures) (λ l. c .if3 .taken)
+returns c = swept-missing (c .before .before .before .before .before .before .before .before .loop .inv) (c .before .before .before .before .before .before .before .loop-test .taken) (c .before .before .before .before .before .before .before .before .before .before .before .pre .0) (c .before .before .before .before .before .if1 .left) (c .before .before .before .before .seek .ensures) (rw (c .if2 .taken) at (c .before .alike .ensures))
 
 add-found : tie.Need-add-found Inv-loop μ-loop
 add-found c = search needs
@@ -61,10 +79,10 @@ loop-less-2 : tie.Need-loop-less-2 Inv-loop μ-loop
 loop-less-2 c = search needs
 
 loop-again-2 : tie.Need-loop-again-2 Inv-loop μ-loop
-loop-again-2 c = swept-row (c .before .before .before .before .before .before .before .loop .inv) (c .before .before .before .before .before .before .loop-test .taken) (c .before .before .before .before .before .before .before .before .before .before .pre .1) (c .before .before .before .seek .ensures) (c .before .before .if2 .left) (c .if3 .left)
+loop-again-2 c = swept-alike (c .before .before .before .before .before .before .before .before .before .before .before .pre .1) (c .before .before .before .before .before .before .before .before .loop .inv) (c .before .before .before .before .before .before .before .loop-test .taken) (c .before .before .before .before .seek .ensures) (c .before .alike .ensures)
 
-returns-3 : tie.Need-returns-3 Inv-loop μ-loop
-returns-3 c = swept-end (c .before .loop .inv) (c .loop-test .left)
+returns-2 : tie.Need-returns-2 Inv-loop μ-loop
+returns-2 c = swept-end (c .before .loop .inv) (c .loop-test .left)
 
 pub stands-in-spec : {M : Type 1} → statement M
 stands-in-spec =
@@ -80,12 +98,18 @@ stands-in-spec =
     loop-less
     loop-again
     seek-requires
+    mul-alike
+    sub-alike
+    part-alike-start
+    part-alike-end
+    mul-alike-2
+    sub-alike-2
+    part-alike-start-2
+    part-alike-end-2
+    alike-requires
     returns
-    mul-if3
-    shared-slice-read-if3
-    returns-2
     add-found
     add-i-2
     loop-less-2
     loop-again-2
-    returns-3)
+    returns-2)
