@@ -1,0 +1,77 @@
+-- By the count: alone it must be 0, and else as many rows must follow it.
+-- Assumes nothing.
+use native.Mathlib.Omega.{arith}
+use borrow.Author.Needs.{needs}
+use Rattle.text_lines.proofs.Told.{word-more, word-last, word-bad}
+use Rattle.text_lines.proofs.Rows.{line-bad, line-alone, line-lacks, line-no-rows, line-rows, line-differs}
+use Rattle.text_lines.proofs.read_line.Statement.{statement}
+use Rattle.text_lines.proofs.read_line.Tie as tie
+
+read-word-requires : tie.Need-read-word-requires
+read-word-requires c κs = search needs
+
+enum-told : tie.Need-enum-told
+enum-told c = search needs
+
+returns : tie.Need-returns
+returns c = line-bad (word-bad (c .before .before .read-word .ensures) (c .enum-told .given .1))
+
+enum-known-said : tie.Need-enum-known-said
+enum-known-said c = search needs
+
+returns-2 : tie.Need-returns-2
+returns-2 c = line-lacks (word-last (c .before .before .before .before .read-word .ensures) (c .before .before .said .given .1)) (c .if1 .taken)
+
+returns-3 : tie.Need-returns-3
+returns-3 c = line-alone (word-last (c .before .before .before .before .read-word .ensures) (c .before .before .said .given .1)) (c .if1 .left)
+
+enum-known-said-2 : tie.Need-enum-known-said-2
+enum-known-said-2 c = search needs
+
+read-rows-requires : tie.Need-read-rows-requires
+read-rows-requires c κs = let w = word-more (c .before .before .before .before .read-word .ensures) (c .before .before .said2 .given .1) in let o = w .on in let p = c .before .before .before .before .before .before .before .pre .1 in (w .inside, omega arith)
+
+enum-told-2 : tie.Need-enum-told-2
+enum-told-2 c = search needs
+
+same-length : tie.Need-same-length
+same-length c = search needs
+
+returns-4 : tie.Need-returns-4
+returns-4 c = line-no-rows (word-more (c .before .before .before .before .before .before .before .before .before .read-word .ensures) (c .before .before .before .before .before .before .before .said2 .given .1)) (c .before .before .before .before .read-rows .ensures) (c .enum-told2 .given .1)
+
+enum-known-count : tie.Need-enum-known-count
+enum-known-count c = search needs
+
+same-length-2 : tie.Need-same-length-2
+same-length-2 c = search needs
+
+returns-5 : tie.Need-returns-5
+returns-5 c = line-differs (word-more (c .before .before .before .before .before .before .before .before .before .before .before .read-word .ensures) (c .before .before .before .before .before .before .before .before .before .said2 .given .1)) (c .before .before .before .before .before .before .read-rows .ensures) (c .before .before .count .given .1) (c .if2 .taken)
+
+same-length-3 : tie.Need-same-length-3
+same-length-3 c = search needs
+
+returns-6 : tie.Need-returns-6
+returns-6 c = line-rows (word-more (c .before .before .before .before .before .before .before .before .before .before .before .read-word .ensures) (c .before .before .before .before .before .before .before .before .before .said2 .given .1)) (c .before .before .before .before .before .before .read-rows .ensures) (c .before .before .count .given .1) (c .if2 .left)
+
+pub read-line-spec : {M : Type 1} → statement M
+read-line-spec =
+    tie.close
+    (tie.spec
+    read-word-requires
+    enum-told
+    returns
+    enum-known-said
+    returns-2
+    returns-3
+    enum-known-said-2
+    read-rows-requires
+    enum-told-2
+    same-length
+    returns-4
+    enum-known-count
+    same-length-2
+    returns-5
+    same-length-3
+    returns-6)

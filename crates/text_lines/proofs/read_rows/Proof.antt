@@ -1,0 +1,100 @@
+-- The loop's invariant: the numbers before k are read and kept, and the rest of the line, behind them, is the line's. The measure is the text left.
+-- Assumes nothing.
+use Prim.Native.Nat.{_-_}
+use mathlib.Core.Path.{_∙_}
+use native.Mathlib.Omega.{arith}
+use lib.ListN.{length}
+use borrow.Author.Needs.{needs}
+use Rattle.text_lines.proofs.Told.{word-more, word-last, word-bad}
+use Rattle.text_lines.proofs.Rows.{RowsRead, rows-start, rows-long, rows-turn, rows-last, rows-bad, rows-out}
+use Rattle.text_lines.proofs.read_rows.Statement.{statement}
+use Rattle.text_lines.proofs.read_rows.Tie as tie
+
+abbrev Inv-loop : tie.InvT-loop
+Inv-loop text at rows₀ t k₀ count₀ rows k count = RowsRead text at t rows₀ rows k count
+
+abbrev μ-loop : tie.MeasureT-loop
+μ-loop text at rows₀ t k₀ count₀ rows k count = length text - k
+
+loop-holds : tie.Need-loop-holds Inv-loop μ-loop
+loop-holds c = rows-start _ _ _ _ (c .before .before .pre .0)
+
+read-word-requires : tie.Need-read-word-requires Inv-loop μ-loop
+read-word-requires c κs = c .before .loop .inv .inside
+
+enum-told : tie.Need-enum-told Inv-loop μ-loop
+enum-told c = search needs
+
+same-length : tie.Need-same-length Inv-loop μ-loop
+same-length c = rows-long (c .before .before .before .before .loop .inv)
+
+returns : tie.Need-returns Inv-loop μ-loop
+returns c = rows-bad (c .before .before .before .before .loop .inv) (word-bad (c .before .before .read-word .ensures) (c .enum-told .given .1))
+
+enum-known-value : tie.Need-enum-known-value Inv-loop μ-loop
+enum-known-value c = search needs
+
+add-keep-row : tie.Need-add-keep-row Inv-loop μ-loop
+add-keep-row c = search needs
+
+keep-row-requires : tie.Need-keep-row-requires Inv-loop μ-loop
+keep-row-requires c κs = search needs
+
+add-t17 : tie.Need-add-t17 Inv-loop μ-loop
+add-t17 c = search needs
+
+same-length-2 : tie.Need-same-length-2 Inv-loop μ-loop
+same-length-2 c = c .before .before .keep-row .kept .0 ∙ rows-long (c .before .before .before .before .before .before .before .before .before .loop .inv)
+
+returns-2 : tie.Need-returns-2 Inv-loop μ-loop
+returns-2 c = rows-last (c .before .before .before .before .before .before .before .before .before .loop .inv) (word-last (c .before .before .before .before .before .before .before .read-word .ensures) (c .before .before .before .before .before .value .given .1)) (c .before .before .keep-row .ensures)
+
+enum-known-value-2 : tie.Need-enum-known-value-2 Inv-loop μ-loop
+enum-known-value-2 c = search needs
+
+add-keep-row-2 : tie.Need-add-keep-row-2 Inv-loop μ-loop
+add-keep-row-2 c = search needs
+
+keep-row-requires-2 : tie.Need-keep-row-requires-2 Inv-loop μ-loop
+keep-row-requires-2 c κs = search needs
+
+add-count : tie.Need-add-count Inv-loop μ-loop
+add-count c = search needs
+
+loop-less : tie.Need-loop-less Inv-loop μ-loop
+loop-less c = let o = word-more (c .before .before .before .before .before .before .before .read-word .ensures) (c .before .before .before .before .before .value2 .given .1) .on in let t = c .before .before .before .before .before .before .before .before .loop-test .taken in omega arith
+
+loop-again : tie.Need-loop-again Inv-loop μ-loop
+loop-again c = rows-turn (c .before .before .before .before .before .before .before .before .before .loop .inv) (word-more (c .before .before .before .before .before .before .before .read-word .ensures) (c .before .before .before .before .before .value2 .given .1)) (c .before .before .keep-row2 .ensures)
+
+same-length-3 : tie.Need-same-length-3 Inv-loop μ-loop
+same-length-3 c = rows-long (c .before .loop .inv)
+
+returns-3 : tie.Need-returns-3 Inv-loop μ-loop
+returns-3 c = rows-out (c .before .loop .inv) (c .loop-test .left)
+
+pub read-rows-spec : {M : Type 1} → statement M
+read-rows-spec =
+    tie.close
+    (tie.spec
+    Inv-loop
+    μ-loop
+    loop-holds
+    read-word-requires
+    enum-told
+    same-length
+    returns
+    enum-known-value
+    add-keep-row
+    keep-row-requires
+    add-t17
+    same-length-2
+    returns-2
+    enum-known-value-2
+    add-keep-row-2
+    keep-row-requires-2
+    add-count
+    loop-less
+    loop-again
+    same-length-3
+    returns-3)
