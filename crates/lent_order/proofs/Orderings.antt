@@ -1,7 +1,7 @@
--- The stage of the order: it works in the front of order and pops, and what lies behind stays.
+-- The order in the lent slices: it works in the front of order and pops, and what lies behind stays.
 -- Assumes nothing.
-use Prim.Native.Nat.{ℕ, _+_, _≤_}
-use mathlib.Core.Path.{_≡_, refl, sym, ap}
+use Prim.Native.Nat.{ℕ, _+_}
+use mathlib.Core.Path.{_≡_}
 use mathlib.Core.List.{List, _++_, map}
 use lib.ListN.{length, take, drop}
 use Rattle.papers.specs.Lists.{zeros}

@@ -1,14 +1,13 @@
 -- The lists and the order that were made in the lent slices are those of the job's plan. A list stored at the front of a cleared slice is the result, then
 -- zeros; the tree and the rows that the order was made from are the pattern's (Ties).
 -- Assumes nothing.
-use Prim.Native.Nat.{ℕ, suc, _+_, _*_, _<_, _≤_}
+use Prim.Native.Nat.{ℕ, suc, _+_, _<_, _≤_}
 use mathlib.Core.Path.{_≡_, refl, sym, ap, _∙_}
 use mathlib.Core.List.{List, _++_, map, map-map, map-id}
 use native.Mathlib.Omega.{arith}
 use lib.ListN.{length, take, drop, length-map}
-use lib.Seq.{sets, sets-eq}
-use Rattle.papers.specs.Bounds.{workLength}
-use Rattle.papers.specs.Lists.{flat, startsFrom, zeros, thenZeros}
+use lib.Seq.{sets-eq}
+use Rattle.papers.specs.Lists.{flat, zeros, thenZeros}
 use Rattle.papers.specs.Job.{Job, pattern, Below}
 use Rattle.papers.specs.Fill.{R}
 use Rattle.papers.specs.Order.{popsOf, orderOf}

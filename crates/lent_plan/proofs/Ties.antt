@@ -1,16 +1,16 @@
 -- The tree that a list of the parents names, and the rows that the factor starts count, are those of the pattern: for every column of it by the
 -- place where it stands, and for every other number because it has neither rows nor a parent.
 -- Assumes nothing.
-use Prim.Native.Nat.{ℕ, zero, suc, _+_, _-_, _<_, _≤_}
-use mathlib.Core.Path.{_≡_, refl, sym, ap, _∙_}
+use Prim.Native.Nat.{ℕ, zero, suc, _-_, _<_, _≤_}
+use mathlib.Core.Path.{_≡_, sym, ap, _∙_}
 use mathlib.Core.Logic.{_⊎_, inl, inr}
-use mathlib.Core.List.{List, _++_, map, flatMap}
+use mathlib.Core.List.{List, map, flatMap}
 use native.Mathlib.Omega.{arith}
 use native.Mathlib.Nat.{le-suc-iff}
 use lib.ListN.{length, getD, length-map, List·getD-eq-default, List·getD-append}
 use lib.Seq.{getD-at}
 use Rattle.papers.specs.Bounds.{maxColumns}
-use Rattle.papers.specs.Lists.{upTo, flat, startsFrom}
+use Rattle.papers.specs.Lists.{upTo, startsFrom}
 use Rattle.papers.specs.Job.{Pattern, Below}
 use Rattle.papers.specs.Fill.{R}
 use Rattle.papers.specs.Tree.{parent, rowCount, children}

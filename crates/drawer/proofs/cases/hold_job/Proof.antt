@@ -1,0 +1,48 @@
+-- Every lent part is within its array.
+-- Assumes nothing.
+use native.Mathlib.Omega.{arith}
+use lib.ListN.{length-take}
+use borrow.Author.Needs.{needs}
+use Rattle.drawer.proofs.cases.hold_job.Statement.{statement}
+use Rattle.drawer.proofs.cases.hold_job.Tie as tie
+
+widen-requires : tie.Need-widen-requires
+widen-requires c κs = tt
+
+narrow-requires : tie.Need-narrow-requires
+narrow-requires c κs = tt
+
+add-a : tie.Need-add-a
+add-a c = omega arith
+
+array-share-prefix-starts : tie.Need-array-share-prefix-starts
+array-share-prefix-starts c = search needs
+
+slice-aggregate-hold-choices : tie.Need-slice-aggregate-hold-choices
+slice-aggregate-hold-choices c = simp length-take (omega arith)
+
+array-share-prefix-rows : tie.Need-array-share-prefix-rows
+array-share-prefix-rows c = search needs
+
+slice-aggregate-hold-choices-2 : tie.Need-slice-aggregate-hold-choices-2
+slice-aggregate-hold-choices-2 c = simp length-take (omega arith)
+
+hold-choices-requires : tie.Need-hold-choices-requires
+hold-choices-requires c κs = tt
+
+returns : tie.Need-returns
+returns c = tt
+
+pub hold-job-spec : {M : Type 1} → statement M
+hold-job-spec =
+    tie.close
+    (tie.spec
+    widen-requires
+    narrow-requires
+    add-a
+    array-share-prefix-starts
+    slice-aggregate-hold-choices
+    array-share-prefix-rows
+    slice-aggregate-hold-choices-2
+    hold-choices-requires
+    returns)

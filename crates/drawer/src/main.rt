@@ -1,0 +1,61 @@
+// Holds the analysis against an elimination apart from it: patterns of up to 24 columns in many shapes, every mark, limits about the peak, factor
+// slices about the rows needed, slices lent too short, the paper's bench pieces, and bad jobs. Number, place, count and every place of the six slices
+// are compared. Prints a tally; a case with anything wrong is named in it.
+mod sheet; // sheet.rt: what lent slices hold before and after a call
+mod call; // call.rt: one call, compared
+mod tally; // tally.rt: what is counted and printed
+mod cases; // cases.rt: a pattern under a mark
+mod bench; // bench.rt: bench pieces
+mod bad; // bad.rt: bad jobs
+
+use elimination::grid::Grid;
+use elimination::shapes;
+use tally::Tally;
+
+// Once in how many a random row is put into a pattern: two kinds are random only, the others get a few in later rounds.
+fn odds(kind: usize, round: usize) -> usize {
+    if kind == 14 {
+        return round % 100 * 2 + 3;
+    }
+    if kind == 15 {
+        return round % 100 * 3 + 8;
+    }
+    if round == 0 {
+        return 0;
+    }
+    40 / round
+}
+
+// A pattern of one of sixteen kinds: the named shapes, random trees, and random rows.
+fn draw(grid: &mut Grid, n: usize, kind: usize, round: usize, seed: usize) {
+    shapes::shape(grid, kind, n);
+    if kind / 2 == 6 {
+        shapes::tree(grid, n, shapes::next(seed));
+    }
+    shapes::sprinkle(grid, odds(kind, round), n, shapes::next(shapes::next(seed)));
+}
+
+// The pattern of a seed: its number of columns, its kind and its round are read off the seed. It is held under every mark.
+fn hold(tally: &mut Tally, seed: usize) {
+    let n = seed % 25;
+    let mut grid = [0usize; 625];
+    draw(&mut grid, n, seed / 25 % 16, seed / 400, seed);
+    cases::hold_pattern(tally, &grid, n, 0, seed);
+    cases::hold_pattern(tally, &grid, n, 1, seed);
+    cases::hold_pattern(tally, &grid, n, 2, seed);
+}
+
+// The patterns of the first seeds.
+fn hold_drawn(tally: &mut Tally, seeds: usize) {
+    for seed in 0..seeds {
+        hold(tally, seed);
+    }
+}
+
+fn main() {
+    let mut tally = [0u64; 16];
+    bad::all(&mut tally);
+    bench::all(&mut tally);
+    hold_drawn(&mut tally, 800);
+    tally::print(&tally);
+}

@@ -1,0 +1,35 @@
+// Grids of 25 by 25 numbers and lines of 25. Places count from 0 and wrap, so every number is a place.
+pub type Grid = [usize; 625];
+
+pub type Line = [usize; 25];
+
+// What stands in a row and a column of a grid.
+pub fn cell(grid: &Grid, row: usize, column: usize) -> usize {
+    grid[row % 25 * 25 + column % 25]
+}
+
+pub fn put(grid: &mut Grid, row: usize, column: usize, value: usize) {
+    grid[row % 25 * 25 + column % 25] = value;
+}
+
+// What stands at a place of a line.
+pub fn at(line: &Line, place: usize) -> usize {
+    line[place % 25]
+}
+
+pub fn set(line: &mut Line, place: usize, value: usize) {
+    line[place % 25] = value;
+}
+
+// The sum of two numbers below a million.
+pub fn add(a: usize, b: usize) -> usize {
+    a % 1000000 + b % 1000000
+}
+
+// The difference, or 0 where it would be negative.
+pub fn less(a: usize, b: usize) -> usize {
+    if a < b {
+        return 0;
+    }
+    a - b
+}
