@@ -1,0 +1,114 @@
+-- A whole text: its length, line 1, the lines of rows and the end, each tested once those before it pass. The job of a text that passes is what was read.
+-- Assumes nothing.
+use Prim.Native.Nat.{ℕ, _<_, _≤_}
+use mathlib.Core.Path.{_≡_, refl, sym, ap, _∙_}
+use mathlib.Core.Bool.{Bool, true, false, _||_}
+use mathlib.Core.List.{List, [], _∷_}
+use native.Mathlib.Omega.{arith}
+use lib.Dec.{ltb}
+use lib.ListN.{length}
+use borrow.Author.Tests.{lt-ltb, le-ltb}
+use Rattle.papers.specs.declared.JobHead.{JobHead}
+use Rattle.papers.specs.Bounds.{inputBytes, programColumns}
+use Rattle.papers.specs.Refusals.{answer, untouched, refused, first}
+use Rattle.papers.specs.Text.{numbersAt, headOf, textHead, textJob, inputTest, headTest, rowLinesTest, endTest, textTests}
+use Rattle.job_laws.proofs.Firsts.{first-passes, first-refuses, refused-if, passed-if}
+use Rattle.text_laws.proofs.ByWords.{behind-none}
+use Rattle.text_lines.specs.declared.Head.{Head}
+use Rattle.text_lines.specs.declared.Head.the-variants.{Numbers, Bad}
+use Rattle.text_lines.specs.Lines.{LineTo, HeadTold, head-line, bad-head}
+use Rattle.text_reader.specs.declared.Lines.{Lines}
+use Rattle.text_reader.specs.declared.Lines.the-variants as lines
+use Rattle.text_reader.specs.declared.JobRead.the-variants.{Job, Refused}
+use Rattle.text_reader.specs.Reading.{whole, LinesTold, all-lines, bad-lines, JobTold, job-read, text-refused}
+
+-- ---- line 1, from its answer
+
+-- the head of a text, and where its line ends
+pub record HeadFound (text : List ℕ) (head : JobHead) (next : ℕ) : Type 0 where
+  pub is : textHead text ≡ record { fine = true; n = head .n; limit = head .limit; mark = head .mark }
+  pub ends : LineTo text 0 next
+
+module _ {text : List ℕ} {r : Head} where
+  pub told-head : {head : JobHead} {next : ℕ} → HeadTold text [] 0 r → r ≡ Numbers head next → HeadFound text head next
+  unfolding textHead
+  told-head {head} {next} (head-line n limit mark m e h l) g =
+      let a : record { n = n; mark = mark; limit = limit } ≡ head = cc in
+      let b : m ≡ next = cc in
+      record { is = rw (← a) (ap headOf (sym (behind-none (numbersAt text 1))) ∙ h); ends = rw b at l }
+  told-head (bad-head e h) g = absurd (let z : _≡_ {A = ℕ} 0 1 = cc in omega arith)
+
+  pub told-no-head : HeadTold text [] 0 r → r ≡ Bad → textHead text .fine ≡ false
+  unfolding textHead
+  told-no-head (head-line n limit mark m e h l) g = absurd (let z : _≡_ {A = ℕ} 0 1 = cc in omega arith)
+  told-no-head (bad-head e h) g = ap (λ (l : List ℕ). headOf l .fine) (sym (behind-none (numbersAt text 1))) ∙ h
+
+-- ---- the tests in their order
+
+module _ (text : List ℕ) where
+  over-refused : (more : Bool) → (more || ltb inputBytes (length text)) ≡ true → first textTests (record { text = text; more = more }) ≡ refused (answer 26 0 0) untouched
+  unfolding textTests inputTest
+  over-refused more e = first-refuses inputTest _ (record { text = text; more = more }) (refused-if (more || ltb inputBytes (length text)) _ untouched e)
+
+  module _ (h : length text ≤ inputBytes) where
+    to-head : first textTests (whole text) ≡ first (headTest ∷ rowLinesTest ∷ endTest ∷ []) (whole text)
+    unfolding textTests inputTest
+    to-head = first-passes inputTest (headTest ∷ rowLinesTest ∷ endTest ∷ []) (whole text) (passed-if _ _ untouched (le-ltb inputBytes (length text) h))
+
+    head-refused : textHead text .fine ≡ false → first textTests (whole text) ≡ refused (answer 25 1 0) untouched
+    unfolding headTest
+    head-refused f = to-head ∙ first-refuses headTest (rowLinesTest ∷ endTest ∷ []) (whole text) (rw (f, headTest))
+
+    module _ (f : textHead text .fine ≡ true) where
+      columns-refused : programColumns < textHead text .n → first textTests (whole text) ≡ refused (answer 26 1 0) untouched
+      unfolding headTest
+      columns-refused l =
+          to-head ∙ first-refuses headTest (rowLinesTest ∷ endTest ∷ []) (whole text) (rw (f, headTest) (refused-if _ _ untouched (lt-ltb programColumns (textHead text .n) l)))
+
+      to-lines : textHead text .n ≤ programColumns → first textTests (whole text) ≡ first (rowLinesTest ∷ endTest ∷ []) (whole text)
+      unfolding headTest
+      to-lines l =
+          to-head ∙ first-passes headTest (rowLinesTest ∷ endTest ∷ []) (whole text) (rw (f, headTest) (passed-if _ _ untouched (le-ltb programColumns (textHead text .n) l)))
+
+-- ---- what is told of a text
+
+to-told : {text : List ℕ} {head : JobHead} {next : ℕ} → length text ≤ inputBytes → HeadFound text head next → head .n ≤ programColumns
+    → first textTests (whole text) ≡ first (rowLinesTest ∷ endTest ∷ []) (whole text)
+to-told {text} h x l = to-lines text h (rw (x .is)) (rw (x .is) l)
+
+same-head : (h : JobHead) {n mark limit : ℕ} → h .n ≡ n → h .mark ≡ mark → h .limit ≡ limit → h ≡ record { n = n; mark = mark; limit = limit }
+same-head h p q r i = record { n = p i; mark = q i; limit = r i }
+
+module _ {text starts₀ rows₀ starts rows : List ℕ} {more : Bool} where
+  pub told-more : more ≡ true → JobTold (record { text = text; more = more }) starts₀ rows₀ starts rows (Refused 26 0)
+  told-more e = text-refused 26 0 (over-refused text more (rw e)) refl
+
+  module _ (m : more ≡ false) where
+    pub told-long : inputBytes < length text → JobTold (record { text = text; more = more }) starts₀ rows₀ starts rows (Refused 26 0)
+    told-long h = text-refused 26 0 (over-refused text more (rw m (lt-ltb inputBytes (length text) h))) refl
+
+    module _ (h : length text ≤ inputBytes) where
+      pub told-bad-head : textHead text .fine ≡ false → JobTold (record { text = text; more = more }) starts₀ rows₀ starts rows (Refused 25 1)
+      told-bad-head f = rw m (text-refused 25 1 (head-refused text h f) refl)
+
+      module _ {head : JobHead} {next : ℕ} (x : HeadFound text head next) where
+        pub told-columns : programColumns < head .n → JobTold (record { text = text; more = more }) starts₀ rows₀ starts rows (Refused 26 1)
+        told-columns l = rw m (text-refused 26 1 (columns-refused text h (rw (x .is)) (rw (x .is) l)) refl)
+
+        module _ (l : head .n ≤ programColumns) where
+          pub told-bad-lines : {r : Lines} {number place : ℕ} → LinesTold text starts₀ rows₀ starts rows r → r ≡ lines.Refused number place
+              → JobTold (record { text = text; more = more }) starts₀ rows₀ starts rows (Refused number place)
+          told-bad-lines (all-lines e p s k) g = absurd (let z : _≡_ {A = ℕ} 0 1 = cc in omega arith)
+          told-bad-lines {number = number} {place = place} (bad-lines c q e p) g =
+              let a : c ≡ number = cc in
+              let b : q ≡ place = cc in
+              rw m (text-refused number place (to-told h x l ∙ (rw (a, b) at p)) refl)
+
+          pub told-job : {r : Lines} {count : ℕ} → LinesTold text starts₀ rows₀ starts rows r → r ≡ lines.Rows count
+              → JobTold (record { text = text; more = more }) starts₀ rows₀ starts rows (Job head count)
+          unfolding textJob
+          told-job {count = count} (all-lines e p s k) g =
+              let a : length (textJob text .rows) ≡ count = cc in
+              let is = x .is in
+              rw m (job-read (to-told h x l ∙ p) (ap (Job head) (sym a) ∙ ap (λ (h : JobHead). Job h (length (textJob text .rows))) (same-head head (sym (ap (λ q. q .n) is)) (sym (ap (λ q. q .mark) is)) (sym (ap (λ q. q .limit) is)))) s k)
+          told-job (bad-lines c q e p) g = absurd (let z : _≡_ {A = ℕ} 0 1 = cc in omega arith)

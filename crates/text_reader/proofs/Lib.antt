@@ -1,0 +1,5 @@
+pub mod Tests
+pub mod LinesRead
+pub mod Jobs
+pub mod Narrow
+pub mod Sizes

@@ -1,0 +1,185 @@
+-- The lines of rows read one by one: each line is the next one's beginning, its rows stand behind those before it, and the starts with them. No line so far
+-- has a fault, so the first that has one is the first of all.
+-- Assumes nothing.
+use Prim.Native.Nat.{ℕ, suc, _+_, _-_, _<_, _≤_}
+use mathlib.Core.Path.{_≡_, refl, sym, ap, _∙_}
+use mathlib.Core.Bool.{true, false}
+use mathlib.Core.List.{List, [], _∷_, _++_, map, map-append}
+use native.Mathlib.Omega.{arith}
+use native.Mathlib.Numerals.{add-one}
+use lib.ListN.{length, set, drop, length-append, length-map, length-drop}
+use lib.Seq.{sets, length-sets, set-set}
+use borrow.Author.Tests.{eq-eqb}
+use Rattle.papers.specs.Bounds.{programRows}
+use Rattle.papers.specs.Lists.{least, flat, startsFrom}
+use Rattle.papers.specs.Refusals.{answer}
+use Rattle.papers.specs.Text.{numbersAt, isRowLine, rowsOfLine, afterLines, textHead, textLists, lineFault}
+use Rattle.list_laws.proofs.Stores.{sets-append, sets-more, starts-more, length-starts}
+use Rattle.job_laws.proofs.Faults.{faulty, faults-next}
+use Rattle.text_laws.proofs.Lines.{after-next}
+use Rattle.text_laws.proofs.Numbers.{numbers-later}
+use Rattle.text_lines.specs.declared.Line.{Line}
+use Rattle.text_lines.specs.declared.Line.the-variants.{Rows, Bad}
+use Rattle.text_lines.specs.Lines.{narrowed, LineTo, LineTold, row-line, bad-line}
+use Rattle.text_reader.specs.declared.Lines.{Lines}
+use Rattle.text_reader.specs.declared.Lines.the-variants as lines
+use Rattle.text_reader.specs.Reading.{columnLists, LinesTold, all-lines, bad-lines}
+use Rattle.text_reader.proofs.Tests.{flat-more, lists-none, lists-more, length-lists, line-bad, line-over, line-fine, lines-refuse, end-refuses, end-passes}
+
+-- ---- a line, from its answer
+
+-- a line of rows, kept
+pub record RowLine (text : List ℕ) (k t : ℕ) (rows rows′ : List ℕ) (count next : ℕ) : Type 0 where
+  pub list : List ℕ
+  pub counted : count ≡ length list
+  pub numbers : numbersAt (drop k text) 1 ≡ length list ∷ list
+  pub ends : LineTo text k next
+  pub paced : k + count ≤ next
+  pub kept : rows′ ≡ sets rows t (map narrowed list)
+
+module _ {text : List ℕ} {k t : ℕ} {rows rows′ : List ℕ} {r : Line} where
+  pub told-rows : {count next : ℕ} → LineTold text k t rows rows′ r → r ≡ Rows count next → RowLine text k t rows rows′ count next
+  told-rows {count} {next} (row-line list m e f l p h) g =
+      let a : length list ≡ count = cc in
+      let b : m ≡ next = cc in
+      record { list = list; counted = sym a; numbers = f; ends = rw b at l; paced = omega arith; kept = h }
+  told-rows (bad-line e f) g = absurd (let z : _≡_ {A = ℕ} 0 1 = cc in omega arith)
+
+  pub told-bad : LineTold text k t rows rows′ r → r ≡ Bad → isRowLine (numbersAt (drop k text) 1) ≡ false
+  told-bad (row-line list m e f l p h) g = absurd (let z : _≡_ {A = ℕ} 0 1 = cc in omega arith)
+  told-bad (bad-line e f) g = f
+
+-- ---- lines read so far
+
+-- the lines of the first j columns, up to k, with `total` rows
+pub record LinesRead (text : List ℕ) (n : ℕ) (starts₀ rows₀ starts rows : List ℕ) (j total k : ℕ) : Type 0 where
+  pub fine : least (faulty (lineFault text)) j ≡ 0
+  pub rest : drop k text ≡ afterLines (suc j) text
+  pub inside : k ≤ length text
+  pub done : j ≤ n
+  pub counted : total ≡ length (flat (textLists text j))
+  pub few : total ≤ programRows
+  pub paced : total ≤ k
+  pub started : starts ≡ sets starts₀ 0 (startsFrom 0 (textLists text j))
+  pub kept : rows ≡ sets rows₀ 0 (map narrowed (flat (textLists text j)))
+
+-- none yet: the first start is stored
+pub lines-start : (text : List ℕ) (n : ℕ) (starts rows : List ℕ) {at : ℕ} → LineTo text 0 at → LinesRead text n (set starts 0 0) rows (set starts 0 0) rows 0 0 at
+unfolding least flat startsFrom
+lines-start text n starts rows l =
+    record {
+      fine = refl;
+      rest = l .rest;
+      inside = l .inside;
+      done = omega arith;
+      counted = rw (lists-none text);
+      few = omega arith;
+      paced = omega arith;
+      started = rw (lists-none text) (sym (set-set starts 0 0 0));
+      kept = rw (lists-none text);
+    }
+
+-- the first start is the same whether or not it is stored before
+first-start : (starts : List ℕ) (lists : List (List ℕ)) → sets (set starts 0 0) 0 (startsFrom 0 lists) ≡ sets starts 0 (startsFrom 0 lists)
+unfolding startsFrom
+first-start starts [] = set-set starts 0 0 0
+first-start starts (l ∷ lists) = ap (λ (s : List ℕ). sets s 1 (startsFrom (0 + length l) lists)) (set-set starts 0 0 0)
+
+pub told-first : {text starts₀ rows₀ starts rows : List ℕ} {r : Lines} → LinesTold text (set starts₀ 0 0) rows₀ starts rows r → LinesTold text starts₀ rows₀ starts rows r
+told-first {text} {starts₀} (all-lines e p s k) = all-lines e p (s ∙ first-start starts₀ (columnLists text)) k
+told-first (bad-lines number place e p) = bad-lines number place e p
+
+module _ {text : List ℕ} {n : ℕ} {starts₀ rows₀ starts rows : List ℕ} {j total k : ℕ} (x : LinesRead text n starts₀ rows₀ starts rows j total k) where
+  pub starts-long : length starts ≡ length starts₀
+  starts-long = ap length (x .started) ∙ length-sets starts₀ 0 (startsFrom 0 (textLists text j))
+
+  pub rows-long : length rows ≡ length rows₀
+  rows-long = ap length (x .kept) ∙ length-sets rows₀ 0 (map narrowed (flat (textLists text j)))
+
+  -- the numbers of the next column's line
+  numbers-here : numbersAt text (suc (suc j)) ≡ numbersAt (drop k text) 1
+  numbers-here = numbers-later text (suc j) ∙ ap (λ (t : List ℕ). numbersAt t 1) (sym (x .rest))
+
+  -- bad text in it
+  pub lines-bad : {starts′ rows′ : List ℕ} → n ≡ textHead text .n → j < n → isRowLine (numbersAt (drop k text) 1) ≡ false
+      → LinesTold text starts₀ rows₀ starts′ rows′ (lines.Refused 25 (j + 2))
+  lines-bad e l f =
+      bad-lines 25 (j + 2) refl (lines-refuse text j 25 (x .fine) (omega arith) (line-bad text (suc j) (ap isRowLine numbers-here ∙ f)) (omega arith))
+
+  -- a line of rows
+  module _ {count next : ℕ} {rows′ : List ℕ} (y : RowLine text k total rows rows′ count next) where
+    is-row-line : isRowLine (numbersAt text (suc (suc j))) ≡ true
+    unfolding isRowLine
+    is-row-line = rw (numbers-here ∙ y .numbers) (eq-eqb (length (y .list)) (length (y .list)) refl)
+
+    more-lists : textLists text (suc j) ≡ textLists text j ++ (y .list ∷ [])
+    unfolding rowsOfLine
+    more-lists = lists-more text j ∙ ap (λ (l : List ℕ). textLists text j ++ (rowsOfLine l ∷ [])) (numbers-here ∙ y .numbers)
+
+    more-rows : flat (textLists text (suc j)) ≡ flat (textLists text j) ++ y .list
+    more-rows = ap flat more-lists ∙ flat-more (textLists text j) (y .list)
+
+    more-counted : total + count ≡ length (flat (textLists text (suc j)))
+    more-counted =
+        let a = x .counted in
+        let b = y .counted in
+        omega (arith, ap length more-rows, length-append (flat (textLists text j)) (y .list))
+
+    more-starts : startsFrom 0 (textLists text (suc j)) ≡ startsFrom 0 (textLists text j) ++ ((total + count) ∷ [])
+    more-starts =
+        let a = x .counted in
+        let b = y .counted in
+        let v : 0 + length (flat (textLists text j)) + length (y .list) ≡ total + count = omega arith in
+        rw (more-lists, starts-more 0 (textLists text j) (y .list), v)
+
+    more-kept : rows′ ≡ sets rows₀ 0 (map narrowed (flat (textLists text (suc j))))
+    more-kept =
+        let front = map narrowed (flat (textLists text j)) in
+        let a = x .counted in
+        let v : 0 + length front ≡ total = omega (arith, length-map (flat (textLists text j)) narrowed) in
+        rw (more-rows, map-append narrowed (flat (textLists text j)) (y .list), sets-append front rows₀ 0 (map narrowed (y .list)), v, ← x .kept) (y .kept)
+
+    -- with too many
+    pub lines-over : {starts′ : List ℕ} → n ≡ textHead text .n → j < n → programRows < total + count → LinesTold text starts₀ rows₀ starts′ rows′ (lines.Refused 26 (j + 2))
+    lines-over e l h =
+        bad-lines 26 (j + 2) refl (lines-refuse text j 26 (x .fine) (omega arith) (line-over text (suc j) is-row-line (omega (arith, more-counted))) (omega arith))
+
+    -- with few enough
+    pub lines-turn : {starts′ : List ℕ} → j < n → total + count ≤ programRows → starts′ ≡ set starts (j + 1) (total + count)
+        → LinesRead text n starts₀ rows₀ starts′ rows′ (j + 1) (total + count) next
+    lines-turn l h e =
+        let o = y .ends .on in
+        let p = x .paced in
+        let q = y .paced in
+        let c = more-counted in
+        rw (add-one j) (record {
+          fine = faults-next (lineFault text) j (x .fine) (line-fine text (suc j) is-row-line (omega arith));
+          rest = y .ends .rest ∙ ap (afterLines 1) (x .rest) ∙ sym (after-next (suc j) text);
+          inside = y .ends .inside;
+          done = omega arith;
+          counted = c;
+          few = h;
+          paced = omega arith;
+          started = rw more-starts (sets-more (startsFrom 0 (textLists text j)) starts₀ 0 (total + count) (j + 1) (x .started) e (omega (arith, length-starts 0 (textLists text j), length-lists text j)));
+          kept = more-kept;
+        })
+
+  -- all lines
+  module _ (e : n ≡ textHead text .n) (l : n ≤ j) where
+    all-read : j ≡ textHead text .n
+    all-read = let d = x .done in omega arith
+
+    all-fine : least (faulty (lineFault text)) (textHead text .n) ≡ 0
+    all-fine = rw all-read at (x .fine)
+
+    left-long : length (afterLines (suc (textHead text .n)) text) ≡ length text - k
+    left-long = rw (← all-read, ← x .rest) (length-drop k text)
+
+    -- text behind them
+    pub lines-left : {starts′ rows′ : List ℕ} → k < length text → LinesTold text starts₀ rows₀ starts′ rows′ (lines.Refused 25 (n + 2))
+    lines-left h = bad-lines 25 (n + 2) refl (rw e (end-refuses text all-fine (omega (arith, left-long))))
+
+    -- none
+    pub lines-done : length text ≤ k → LinesTold text starts₀ rows₀ starts rows (lines.Rows total)
+    lines-done h =
+        all-lines (ap lines.Rows (rw all-read at (x .counted))) (end-passes text all-fine (omega (arith, left-long))) (rw all-read at (x .started)) (rw all-read at (x .kept))

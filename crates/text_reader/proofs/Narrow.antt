@@ -1,0 +1,182 @@
+-- A job with its rows narrowed is refused as the job is: a row that is narrowed is over n, and so is what stands for it, so both are 5 at the same column.
+-- A job that is not refused has no such row, so the two jobs are one.
+-- Assumes nothing.
+use Prim.Native.Nat.{ℕ, zero, suc, _+_, _<_, _≤_}
+use mathlib.Core.Path.{_≡_, refl, sym, ap, _∙_}
+use mathlib.Core.Logic.{_⊎_, inl, inr}
+use mathlib.Core.Bool.{Bool}
+use mathlib.Core.List.{List, [], _∷_, map, map-append, List·Memᴰ·head, List·Memᴰ·tail}
+use native.Mathlib.Omega.{arith}
+use lib.Dec.{ltb, eqb}
+use lib.ListN.{length, take, drop, length-map}
+use Rattle.papers.specs.declared.Answer.{Answer}
+use Rattle.papers.specs.Bounds.{maxColumns}
+use Rattle.papers.specs.Lists.{_∈_, least, flat}
+use Rattle.papers.specs.Job.{Job, start, columnOf}
+use Rattle.papers.specs.Refusals.{answer, Leaves, untouched, Verdict, passed, refused, answerOf, first, refusedAt, columnsTest, markTest, limitTest, falls, rowFault, rowsFault, columnFault, startsTest, rowsTest, jobTests, Lent}
+use Rattle.papers.specs.Analysis.{AnalysisCall, analysisTests, analysed}
+use Rattle.papers.specs.Key.{listsOf}
+use Rattle.papers.specs.Text.{jobPrinted}
+use Rattle.list_laws.proofs.Leasts.{least-zero-iff, least-found-iff}
+use Rattle.list_laws.proofs.Tests.{below-or, Test, passes, fails, test}
+use Rattle.job_laws.proofs.Firsts.{first-passes, first-refuses, over-refuses}
+use Rattle.job_laws.proofs.Laid.{lists-none, lists-more, rows-laid}
+use Rattle.job_laws.proofs.Outcomes.{outcome-untouched, job-refuses}
+use Rattle.job_laws.proofs.Untouched.{job-untouched}
+use Rattle.job_laws.proofs.Passed.{PassedLists, passes-iff}
+use Rattle.job_laws.proofs.Rows.{row-over, rows-fault, rows-next}
+use Rattle.text_lines.specs.Lines.{narrowed}
+use Rattle.text_reader.specs.Reading.{keptJob}
+use Rattle.text_reader.proofs.Tests.{flat-more}
+
+-- ---- the rows of a column
+
+module _ (n j : ℕ) (few : n ≤ maxColumns) (there : j ≤ n) where
+  column-same : (before : ℕ) (rs : List ℕ) → rowsFault n j before (map narrowed rs) ≡ rowsFault n j before rs
+  column-same before [] = refl
+  column-same before (r ∷ rs) = go (below-or maxColumns r) (rowFault n j before r) refl (column-same r rs)
+    where
+      go : (maxColumns < r) ⊎ (r ≤ maxColumns) → (f : ℕ) → rowFault n j before r ≡ f → rowsFault n j r (map narrowed rs) ≡ rowsFault n j r rs
+          → rowsFault n j before (map narrowed (r ∷ rs)) ≡ rowsFault n j before (r ∷ rs)
+      go (inl l) f e ih =
+          let a = row-over n j before (narrowed r) (omega arith) (omega arith) in
+          let b = row-over n j before r (omega arith) (omega arith) in
+          rows-fault n j before (narrowed r) (map narrowed rs) (omega arith) ∙ a ∙ sym b ∙ sym (rows-fault n j before r rs (omega arith))
+      go (inr l) zero e ih =
+          let k : narrowed r ≡ r = omega arith in
+          rw k (rows-next n j before r (map narrowed rs) e ∙ ih ∙ sym (rows-next n j before r rs e))
+      go (inr l) (suc f) e ih =
+          let k : narrowed r ≡ r = omega arith in
+          rw k (rows-fault n j before r (map narrowed rs) (omega arith) ∙ sym (rows-fault n j before r rs (omega arith)))
+
+take-map : (k : ℕ) (l : List ℕ) → take k (map narrowed l) ≡ map narrowed (take k l)
+take-map zero l = refl
+take-map (suc k) [] = refl
+take-map (suc k) (x ∷ l) = ap (λ (m : List ℕ). narrowed x ∷ m) (take-map k l)
+
+drop-map : (k : ℕ) (l : List ℕ) → drop k (map narrowed l) ≡ map narrowed (drop k l)
+drop-map zero l = refl
+drop-map (suc k) [] = refl
+drop-map (suc k) (x ∷ l) = drop-map k l
+
+column-kept : (starts rows : List ℕ) (j : ℕ) → columnOf starts (map narrowed rows) j ≡ map narrowed (columnOf starts rows j)
+unfolding columnOf
+column-kept starts rows j = rw (take-map (start starts (suc j)) rows) (drop-map (start starts j) (take (start starts (suc j)) rows))
+
+-- ---- the tests of a job
+
+least-same : (f g : ℕ → Bool) (n : ℕ) → ((k : ℕ) → 1 ≤ k → k ≤ n → f k ≡ g k) → least f n ≡ least g n
+least-same f g n h = go (least g n) refl
+  where
+    go : (m : ℕ) → least g n ≡ m → least f n ≡ least g n
+    go zero e = least-zero-iff f n .1 (λ k a b. h k a b ∙ least-zero-iff g n .0 e k a b) ∙ sym e
+    go (suc p) e =
+        let (l, t, u) = least-found-iff g n p .0 e in
+        least-found-iff f n p .1 (l, h (suc p) (omega arith) l ∙ t, λ k a b. h k a (omega arith) ∙ u k a b) ∙ sym e
+
+module _ (n : ℕ) (starts rows : List ℕ) (few : n ≤ maxColumns) where
+  fault-same : (j : ℕ) → j ≤ n → columnFault n starts (map narrowed rows) j ≡ columnFault n starts rows j
+  unfolding columnFault
+  fault-same j l = rw (column-kept starts rows j) (column-same n j few l j (columnOf starts rows j))
+
+  rows-same : rowsTest n starts (map narrowed rows) ≡ rowsTest n starts rows
+  unfolding rowsTest refusedAt
+  rows-same = rw (least-same _ (λ j. ltb 0 (columnFault n starts rows j)) n (λ k a b. ap (ltb 0) (fault-same k b))) (go (least (λ j. ltb 0 (columnFault n starts rows j)) n) refl)
+    where
+      go : (j : ℕ) → least (λ j. ltb 0 (columnFault n starts rows j)) n ≡ j → refusedAt (columnFault n starts (map narrowed rows) j) j 0 untouched ≡ refusedAt (columnFault n starts rows j) j 0 untouched
+      go zero e = refl
+      go (suc j) e = ap (λ (f : ℕ). refusedAt f (suc j) 0 untouched) (fault-same (suc j) (least-found-iff _ n j .0 e .0))
+
+-- the starts are tested against the count of the rows alone
+starts-same : (n : ℕ) (starts rows : List ℕ) → startsTest n starts (map narrowed rows) ≡ startsTest n starts rows
+unfolding startsTest
+starts-same n starts rows = go (test (eqb (length starts) (n + 1))) (test (eqb (start starts 1) 0)) (least (falls starts) n) refl
+  where
+    go : Test (eqb (length starts) (n + 1)) → Test (eqb (start starts 1) 0) → (j : ℕ) → least (falls starts) n ≡ j → startsTest n starts (map narrowed rows) ≡ startsTest n starts rows
+    go (fails e) f j z = rw (e, startsTest)
+    go (passes e) (fails f) j z = rw (e, f, startsTest)
+    go (passes e) (passes f) (suc j) z = rw (e, f, z, startsTest)
+    go (passes e) (passes f) zero z = rw (e, f, z, startsTest, length-map rows narrowed)
+
+-- a call is refused alike where each test finds the same
+abbrev SameEach : {C : Type 0} → List (C → Verdict) → C → C → Type 0
+SameEach [] c d = Unit {0}
+SameEach (t ∷ ts) c d = (t c ≡ t d) × SameEach ts c d
+
+first-same : {C : Type 0} (ts : List (C → Verdict)) (c d : C) → SameEach ts c d → first ts c ≡ first ts d
+unfolding first
+first-same [] c d h = refl
+first-same (t ∷ ts) c d h = go (t d) refl (first-same ts c d (h .1))
+  where
+    go : (v : Verdict) → t d ≡ v → first ts c ≡ first ts d → first (t ∷ ts) c ≡ first (t ∷ ts) d
+    go passed e ih = first-passes t ts c (h .0 ∙ e) ∙ ih ∙ sym (first-passes t ts d e)
+    go (refused a l) e ih = first-refuses t ts c (h .0 ∙ e) ∙ sym (first-refuses t ts d e)
+
+-- a job and what is kept of it are refused alike
+pub kept-tests : (job : Job) → first jobTests (keptJob job) ≡ first jobTests job
+unfolding jobTests columnsTest markTest limitTest
+kept-tests job = go (below-or maxColumns (job .n))
+  where
+    go : (maxColumns < job .n) ⊎ (job .n ≤ maxColumns) → first jobTests (keptJob job) ≡ first jobTests job
+    go (inl l) =
+        let e = over-refuses maxColumns (job .n) (answer 1 0 0) untouched l in
+        first-refuses _ _ (keptJob job) e ∙ sym (first-refuses _ _ job e)
+    go (inr l) = first-same jobTests (keptJob job) job (refl, (refl, (refl, (starts-same (job .n) (job .starts) (job .rows), (rows-same (job .n) (job .starts) (job .rows) l, tt)))))
+
+-- ---- a job that passes
+
+-- rows up to a bound that 32 bits hold are kept as they are
+small-kept : (bound : ℕ) (rs : List ℕ) → bound ≤ maxColumns → ((i : ℕ) → i ∈ rs → i ≤ bound) → map narrowed rs ≡ rs
+small-kept bound [] l h = refl
+small-kept bound (r ∷ rs) l h =
+    let low = h r (List·Memᴰ·head refl) in
+    let e : narrowed r ≡ r = omega arith in
+    let tail = small-kept bound rs l (λ i m. h i (List·Memᴰ·tail m)) in
+    cc
+
+module _ (n : ℕ) (starts rows : List ℕ) (few : n ≤ maxColumns) (p : PassedLists n starts rows) where
+  front-kept : (m : ℕ) → m ≤ n → map narrowed (flat (listsOf m (columnOf starts rows))) ≡ flat (listsOf m (columnOf starts rows))
+  unfolding flat
+  front-kept zero l = rw (lists-none (columnOf starts rows))
+  front-kept (suc m) l =
+      let column = columnOf starts rows (suc m) in
+      rw (lists-more (columnOf starts rows) m, flat-more (listsOf m (columnOf starts rows)) column, map-append narrowed (flat (listsOf m (columnOf starts rows))) column, front-kept m (omega arith), small-kept n column few (p .within (suc m) (omega arith) l))
+
+  rows-kept : map narrowed rows ≡ rows
+  rows-kept = rw (rows-laid (p .whole)) at (front-kept n (omega arith))
+
+-- a job that passes is kept as it is
+pub kept-passed : (job : Job) → first jobTests job ≡ passed → keptJob job ≡ job
+kept-passed job e =
+    let p = passes-iff job .0 e in
+    ap (λ (rows : List ℕ). record { n = job .n; starts = job .starts; rows = rows; mark = job .mark; limit = job .limit }) (rows-kept (job .n) (job .starts) (job .rows) (p .few) (p .lists))
+
+-- ---- the analysis of a job, and what is printed of it
+
+refused-analysed : (job : Job) (lent : Lent) {a : Answer} {l : Leaves} → first jobTests job ≡ refused a l → analysed job lent ≡ record { answer = a; lent = lent }
+unfolding analysed analysisTests answerOf
+refused-analysed job lent e =
+    let some = job-untouched job e .1 in
+    outcome-untouched _ _ _ _ lent (job-refuses (λ (call : AnalysisCall). call .job) _ (record { job = job; lent = lent }) (rw e) (λ z. omega arith))
+
+-- neither sees the difference
+pub kept-analysed : (job : Job) (lent : Lent) → analysed (keptJob job) lent ≡ analysed job lent
+kept-analysed job lent = go (first jobTests job) refl
+  where
+    go : (v : Verdict) → first jobTests job ≡ v → analysed (keptJob job) lent ≡ analysed job lent
+    go passed e = ap (λ (j : Job). analysed j lent) (kept-passed job e)
+    go (refused a l) e = refused-analysed (keptJob job) lent (kept-tests job ∙ e) ∙ sym (refused-analysed job lent e)
+
+pub kept-printed : (job : Job) (lent : Lent) → jobPrinted (keptJob job) (analysed (keptJob job) lent .answer) ≡ jobPrinted job (analysed job lent .answer)
+unfolding jobPrinted
+kept-printed job lent = rw (kept-analysed job lent) (go (first jobTests job) refl)
+  where
+    line : (a : Answer) (k : ℕ) → a .number ≡ k → 1 ≤ k → jobPrinted (keptJob job) a ≡ jobPrinted job a
+    line a zero e h = absurd (omega arith)
+    line a (suc k) e h = rw (e, jobPrinted)
+
+    go : (v : Verdict) → first jobTests job ≡ v → jobPrinted (keptJob job) (analysed job lent .answer) ≡ jobPrinted job (analysed job lent .answer)
+    go passed e = ap (λ (j : Job). jobPrinted j (analysed job lent .answer)) (kept-passed job e)
+    go (refused a l) e =
+        let some = job-untouched job e .1 in
+        rw (refused-analysed job lent e) (line a (a .number) refl some)

@@ -1,0 +1,76 @@
+-- The tests of a text in their order; the job is what line 1 and the lines of rows hold.
+-- Assumes nothing.
+use mathlib.Core.Path.{sym, ap}
+use borrow.Author.Needs.{needs}
+use Rattle.text_reader.proofs.Jobs.{told-head, told-no-head, told-more, told-long, told-bad-head, told-columns, told-bad-lines, told-job}
+use Rattle.text_reader.proofs.read_job.Statement.{statement}
+use Rattle.text_reader.proofs.read_job.Tie as tie
+
+returns : tie.Need-returns
+returns c = told-more (c .if1 .taken)
+
+returns-2 : tie.Need-returns-2
+returns-2 c = told-long (c .before .if1 .left) (c .if2 .taken)
+
+read-head-requires : tie.Need-read-head-requires
+read-head-requires c κs = search needs
+
+enum-told : tie.Need-enum-told
+enum-told c = search needs
+
+returns-3 : tie.Need-returns-3
+returns-3 c = told-bad-head (c .before .before .before .before .if1 .left) (c .before .before .before .if2 .left) (told-no-head (c .before .before .read-head .ensures) (c .enum-told .given .1))
+
+enum-known-head : tie.Need-enum-known-head
+enum-known-head c = search needs
+
+returns-4 : tie.Need-returns-4
+returns-4 c = told-columns (c .before .before .before .before .before .before .before .if1 .left) (c .before .before .before .before .before .before .if2 .left) (told-head (c .before .before .before .before .before .read-head .ensures) (c .before .before .before .head .given .1)) (c .if3 .taken)
+
+read-lines-requires : tie.Need-read-lines-requires
+read-lines-requires c κs = let x = told-head (c .before .before .before .before .before .before .before .read-head .ensures) (c .before .before .before .before .before .head .given .1) in (x .ends, sym (ap (λ q. q .n) (x .is)), c .before .before .if3 .left, c .before .before .before .before .before .before .before .before .before .before .before .before .before .pre)
+
+enum-known-number : tie.Need-enum-known-number
+enum-known-number c = search needs
+
+same-length : tie.Need-same-length
+same-length c = search needs
+
+same-length-2 : tie.Need-same-length-2
+same-length-2 c = search needs
+
+returns-5 : tie.Need-returns-5
+returns-5 c = told-bad-lines (c .before .before .before .before .before .before .before .before .before .before .before .before .before .before .before .before .before .if1 .left) (c .before .before .before .before .before .before .before .before .before .before .before .before .before .before .before .before .if2 .left) (told-head (c .before .before .before .before .before .before .before .before .before .before .before .before .before .before .before .read-head .ensures) (c .before .before .before .before .before .before .before .before .before .before .before .before .before .head .given .1)) (c .before .before .before .before .before .before .before .before .before .before .if3 .left) (c .before .before .before .before .before .before .before .read-lines .ensures) (c .before .number .given .1)
+
+enum-known-count : tie.Need-enum-known-count
+enum-known-count c = search needs
+
+same-length-3 : tie.Need-same-length-3
+same-length-3 c = search needs
+
+same-length-4 : tie.Need-same-length-4
+same-length-4 c = search needs
+
+returns-6 : tie.Need-returns-6
+returns-6 c = told-job (c .before .before .before .before .before .before .before .before .before .before .before .before .before .before .before .before .before .if1 .left) (c .before .before .before .before .before .before .before .before .before .before .before .before .before .before .before .before .if2 .left) (told-head (c .before .before .before .before .before .before .before .before .before .before .before .before .before .before .before .read-head .ensures) (c .before .before .before .before .before .before .before .before .before .before .before .before .before .head .given .1)) (c .before .before .before .before .before .before .before .before .before .before .if3 .left) (c .before .before .before .before .before .before .before .read-lines .ensures) (c .before .count .given .1)
+
+pub read-job-spec : {M : Type 1} → statement M
+read-job-spec =
+    tie.close
+    (tie.spec
+    returns
+    returns-2
+    read-head-requires
+    enum-told
+    returns-3
+    enum-known-head
+    returns-4
+    read-lines-requires
+    enum-known-number
+    same-length
+    same-length-2
+    returns-5
+    enum-known-count
+    same-length-3
+    same-length-4
+    returns-6)

@@ -1,0 +1,129 @@
+-- The loop's invariant: the lines of the first j columns are read and without fault, and the rest of the text begins with the next. The measure is the
+-- columns left.
+-- Assumes nothing.
+use Prim.Native.Nat.{_-_}
+use mathlib.Core.Path.{refl, _∙_}
+use native.Mathlib.Omega.{arith}
+use lib.ListN.{length-set}
+use denote.Ref.{now}
+use borrow.Author.Needs.{needs}
+use Rattle.text_reader.proofs.LinesRead.{told-rows, told-bad, LinesRead, lines-start, told-first, starts-long, rows-long, lines-bad, lines-over, lines-turn, lines-left, lines-done}
+use Rattle.text_reader.proofs.read_lines.Statement.{statement}
+use Rattle.text_reader.proofs.read_lines.Tie as tie
+
+abbrev Inv-loop : tie.InvT-loop
+Inv-loop text at n starts₀ rows₀ j₀ total₀ k₀ starts rows j total k = LinesRead text n starts₀ rows₀ starts rows j total k
+
+abbrev μ-loop : tie.MeasureT-loop
+μ-loop text at n starts₀ rows₀ j₀ total₀ k₀ starts rows j total k = n - j
+
+slice-write-starts : tie.Need-slice-write-starts Inv-loop μ-loop
+slice-write-starts c = search needs
+
+loop-holds : tie.Need-loop-holds Inv-loop μ-loop
+loop-holds c = lines-start _ _ (now (c .before .before .before .args .starts)) _ (c .before .before .before .pre .0)
+
+read-line-requires : tie.Need-read-line-requires Inv-loop μ-loop
+read-line-requires c κs = (c .before .before .loop .inv .inside, c .before .before .loop .inv .paced)
+
+enum-told : tie.Need-enum-told Inv-loop μ-loop
+enum-told c = search needs
+
+add-t16 : tie.Need-add-t16 Inv-loop μ-loop
+add-t16 c = search needs
+
+same-length : tie.Need-same-length Inv-loop μ-loop
+same-length c = starts-long (c .before .before .before .before .before .before .before .loop .inv) ∙ length-set (now (c .before .before .before .before .before .before .before .before .before .before .before .args .starts)) 0 0
+
+same-length-2 : tie.Need-same-length-2 Inv-loop μ-loop
+same-length-2 c = c .before .before .before .before .read-line .kept .1 .1 .0 ∙ rows-long (c .before .before .before .before .before .before .before .loop .inv)
+
+returns : tie.Need-returns Inv-loop μ-loop
+returns c = told-first (lines-bad (c .before .before .before .before .before .before .before .loop .inv) (c .before .before .before .before .before .before .before .before .before .before .before .pre .1) (c .before .before .before .before .before .before .loop-test .taken) (told-bad (c .before .before .before .before .read-line .ensures) (c .enum-told .given .1)))
+
+enum-known-count : tie.Need-enum-known-count Inv-loop μ-loop
+enum-known-count c = search needs
+
+add-total : tie.Need-add-total Inv-loop μ-loop
+add-total c = let y = told-rows (c .before .before .before .before .before .read-line .ensures) (c .before .count .given .1) in let p = y .paced in let i = y .ends .inside in let q = c .before .before .before .before .before .before .before .before .loop .inv .paced in search needs
+
+add-t18 : tie.Need-add-t18 Inv-loop μ-loop
+add-t18 c = search needs
+
+same-length-3 : tie.Need-same-length-3 Inv-loop μ-loop
+same-length-3 c = starts-long (c .before .before .before .before .before .before .before .before .before .loop .inv) ∙ length-set (now (c .before .before .before .before .before .before .before .before .before .before .before .before .before .args .starts)) 0 0
+
+same-length-4 : tie.Need-same-length-4 Inv-loop μ-loop
+same-length-4 c = c .before .before .before .before .before .before .read-line .kept .1 .1 .0 ∙ rows-long (c .before .before .before .before .before .before .before .before .before .loop .inv)
+
+returns-2 : tie.Need-returns-2 Inv-loop μ-loop
+returns-2 c = told-first (lines-over (c .before .before .before .before .before .before .before .before .before .loop .inv) (told-rows (c .before .before .before .before .before .before .read-line .ensures) (c .before .before .count .given .1)) (c .before .before .before .before .before .before .before .before .before .before .before .before .before .pre .1) (c .before .before .before .before .before .before .before .before .loop-test .taken) (c .if1 .taken))
+
+add-j : tie.Need-add-j Inv-loop μ-loop
+add-j c = search needs
+
+mul-starts : tie.Need-mul-starts Inv-loop μ-loop
+mul-starts c = search needs
+
+slice-write-starts-2 : tie.Need-slice-write-starts-2 Inv-loop μ-loop
+slice-write-starts-2 c = let e = starts-long (c .before .before .before .before .before .before .before .before .before .loop .inv) ∙ length-set (now (c .before .before .before .before .before .before .before .before .before .before .before .before .before .args .starts)) 0 0 in let t = c .before .before .before .before .before .before .before .before .loop-test .taken in let p = c .before .before .before .before .before .before .before .before .before .before .before .before .before .pre .2 in let q = c .before .before .before .before .before .before .before .before .before .before .before .before .before .pre .3 in omega arith
+
+loop-less : tie.Need-loop-less Inv-loop μ-loop
+loop-less c = search needs
+
+loop-again : tie.Need-loop-again Inv-loop μ-loop
+loop-again c = lines-turn (c .before .before .before .before .before .before .before .before .before .loop .inv) (told-rows (c .before .before .before .before .before .before .read-line .ensures) (c .before .before .count .given .1)) (c .before .before .before .before .before .before .before .before .loop-test .taken) (c .if1 .left) refl
+
+add-t25 : tie.Need-add-t25 Inv-loop μ-loop
+add-t25 c = search needs
+
+same-length-5 : tie.Need-same-length-5 Inv-loop μ-loop
+same-length-5 c = starts-long (c .before .before .loop .inv) ∙ length-set (now (c .before .before .before .before .before .before .args .starts)) 0 0
+
+same-length-6 : tie.Need-same-length-6 Inv-loop μ-loop
+same-length-6 c = rows-long (c .before .before .loop .inv)
+
+returns-3 : tie.Need-returns-3 Inv-loop μ-loop
+returns-3 c = told-first (lines-left (c .before .before .loop .inv) (c .before .before .before .before .before .before .pre .1) (c .before .loop-test .left) (c .if2 .taken))
+
+same-length-7 : tie.Need-same-length-7 Inv-loop μ-loop
+same-length-7 c = starts-long (c .before .before .loop .inv) ∙ length-set (now (c .before .before .before .before .before .before .args .starts)) 0 0
+
+same-length-8 : tie.Need-same-length-8 Inv-loop μ-loop
+same-length-8 c = rows-long (c .before .before .loop .inv)
+
+returns-4 : tie.Need-returns-4 Inv-loop μ-loop
+returns-4 c = told-first (lines-done (c .before .before .loop .inv) (c .before .before .before .before .before .before .pre .1) (c .before .loop-test .left) (c .if2 .left))
+
+pub read-lines-spec : {M : Type 1} → statement M
+read-lines-spec =
+    tie.close
+    (tie.spec
+    Inv-loop
+    μ-loop
+    slice-write-starts
+    loop-holds
+    read-line-requires
+    enum-told
+    add-t16
+    same-length
+    same-length-2
+    returns
+    enum-known-count
+    add-total
+    add-t18
+    same-length-3
+    same-length-4
+    returns-2
+    add-j
+    mul-starts
+    slice-write-starts-2
+    loop-less
+    loop-again
+    add-t25
+    same-length-5
+    same-length-6
+    returns-3
+    same-length-7
+    same-length-8
+    returns-4)

@@ -1,0 +1,44 @@
+-- What is read of a job text, and what is kept of it. Rows are kept narrowed, as text_lines does it; that the job's tests do not see the difference is a
+-- theorem. After a refusal nothing is said of the slices.
+-- Assumes nothing.
+use Prim.Native.Nat.{ℕ}
+use mathlib.Core.Path.{_≡_}
+use mathlib.Core.Bool.{false}
+use mathlib.Core.List.{List, [], _∷_, map}
+use lib.ListN.{length}
+use lib.Seq.{sets}
+use Rattle.papers.specs.Lists.{flat, startsFrom}
+use Rattle.papers.specs.Job.{Job}
+use Rattle.papers.specs.Refusals.{answer, untouched, passed, refused, first}
+use Rattle.papers.specs.Text.{Input, textHead, textLists, textJob, rowLinesTest, endTest, textTests}
+use Rattle.text_lines.specs.Lines.{narrowed}
+use Rattle.text_reader.specs.declared.Lines.{Lines}
+use Rattle.text_reader.specs.declared.Lines.the-variants as lines
+use Rattle.text_reader.specs.declared.JobRead.{JobRead}
+use Rattle.text_reader.specs.declared.JobRead.the-variants as job
+
+-- the lists of a text's columns
+abbrev pub columnLists : List ℕ → List (List ℕ)
+columnLists text = textLists text (textHead text .n)
+
+-- a text that is whole
+abbrev pub whole : List ℕ → Input
+whole text = record { text = text; more = false }
+
+-- the lines of rows and what follows them
+pub data LinesTold (text starts₀ rows₀ starts rows : List ℕ) (r : Lines) : Type 0 where
+  all-lines : r ≡ lines.Rows (length (flat (columnLists text))) → first (rowLinesTest ∷ endTest ∷ []) (whole text) ≡ passed
+      → starts ≡ sets starts₀ 0 (startsFrom 0 (columnLists text)) → rows ≡ sets rows₀ 0 (map narrowed (flat (columnLists text))) → LinesTold text starts₀ rows₀ starts rows r
+  bad-lines : (number place : ℕ) → r ≡ lines.Refused number place → first (rowLinesTest ∷ endTest ∷ []) (whole text) ≡ refused (answer number place 0) untouched
+      → LinesTold text starts₀ rows₀ starts rows r
+
+-- the whole text: its job, kept at the front of the slices; or its refusal
+pub data JobTold (input : Input) (starts₀ rows₀ starts rows : List ℕ) (r : JobRead) : Type 0 where
+  job-read : first textTests input ≡ passed
+      → r ≡ job.Job (record { n = textJob (input .text) .n; mark = textJob (input .text) .mark; limit = textJob (input .text) .limit }) (length (textJob (input .text) .rows))
+      → starts ≡ sets starts₀ 0 (textJob (input .text) .starts) → rows ≡ sets rows₀ 0 (map narrowed (textJob (input .text) .rows)) → JobTold input starts₀ rows₀ starts rows r
+  text-refused : (number place : ℕ) → first textTests input ≡ refused (answer number place 0) untouched → r ≡ job.Refused number place → JobTold input starts₀ rows₀ starts rows r
+
+-- a job with its rows as they are kept
+abbrev pub keptJob : Job → Job
+keptJob job = record { n = job .n; starts = job .starts; rows = map narrowed (job .rows); mark = job .mark; limit = job .limit }

@@ -1,0 +1,113 @@
+// A job text read into lent slices, line by line, with 25 and 26 by the first line at fault.
+ghost use mathlib.Core.Path.{_≡_};
+ghost use Prim.Native.Nat.{_≤_, _<_};
+ghost use lib.ListN.{length};
+ghost use Rattle.papers.specs.Bounds.{programColumns};
+ghost use Rattle.papers.specs.Text.{textHead};
+ghost use Rattle.text_lines.specs.Lines.{LineTo};
+ghost use Rattle.text_reader.specs.Reading.{LinesTold, JobTold};
+use papers::JobHead;
+use text_lines::Head;
+use text_lines::Line;
+
+// The program's sizes: input bytes, columns, pattern rows. The definitions have the same in Bounds.antt of papers.
+pub const INPUT_BYTES: usize = 8192;
+
+pub const COLUMNS: u64 = 256;
+
+pub const ROWS: usize = 2048;
+
+// What the lines of rows hold: how many rows in all; or a refusal's number and place.
+pub enum Lines {
+    Rows { count: usize },
+    Refused { number: u64, place: u64 },
+}
+
+// What a text holds: the numbers of a job, and how many rows it has; or a refusal's number and place.
+pub enum JobRead {
+    Job { head: JobHead, count: usize },
+    Refused { number: u64, place: u64 },
+}
+
+// The n lines of rows from `at` on, and the end of the text. The lines of the first j columns are read, up to k, with `total` rows.
+fn read_lines(text: &[u8], at: usize, n: u64, starts: &mut [u64], rows: &mut [u32]) -> Lines
+    requires { ⌜ (LineTo (now text) 0 at) × (n ≡ textHead (now text) .n) × (n ≤ programColumns) × (programColumns < length (now starts)) ⌝ }
+    ensures { λ r. ⌜ LinesTold (now (text .entry)) (now (starts .entry)) (now (rows .entry)) (now (starts .exit)) (now (rows .exit)) r ⌝ }
+{
+    let mut j = 0;
+    let mut total = 0;
+    let mut k = at;
+    starts[0] = 0;
+    while j < n {
+        match text_lines::read_line(text, k, rows, total) {
+            Line::Bad => {
+                return Lines::Refused {
+                    number: 25,
+                    place: j + 2,
+                };
+            }
+            Line::Rows { count, next } => {
+                total += count;
+                if ROWS < total {
+                    return Lines::Refused {
+                        number: 26,
+                        place: j + 2,
+                    };
+                }
+                k = next;
+                j += 1;
+                starts[j as usize] = total as u64;
+            }
+        }
+    }
+    if k < text.len() {
+        return Lines::Refused {
+            number: 25,
+            place: n + 2,
+        };
+    }
+    Lines::Rows { count: total }
+}
+
+// The job of a text, of which `more` says whether it goes on behind what is lent: its starts and rows at the front of the lent slices.
+pub fn read_job(text: &[u8], more: bool, starts: &mut [u64], rows: &mut [u32]) -> JobRead
+    requires { ⌜ programColumns < length (now starts) ⌝ }
+    ensures { λ r. ⌜ JobTold (record { text = now (text .entry); more = more }) (now (starts .entry)) (now (rows .entry)) (now (starts .exit)) (now (rows .exit)) r ⌝ }
+{
+    if more {
+        return JobRead::Refused {
+            number: 26,
+            place: 0,
+        };
+    }
+    if INPUT_BYTES < text.len() {
+        return JobRead::Refused {
+            number: 26,
+            place: 0,
+        };
+    }
+    match text_lines::read_head(text) {
+        Head::Bad => {
+            return JobRead::Refused {
+                number: 25,
+                place: 1,
+            };
+        }
+        Head::Numbers { head, next } => {
+            if COLUMNS < head.n {
+                return JobRead::Refused {
+                    number: 26,
+                    place: 1,
+                };
+            }
+            match read_lines(text, next, head.n, starts, rows) {
+                Lines::Refused { number, place } => {
+                    return JobRead::Refused { number, place };
+                }
+                Lines::Rows { count } => {
+                    return JobRead::Job { head, count };
+                }
+            }
+        }
+    }
+}
