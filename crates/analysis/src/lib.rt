@@ -1,13 +1,15 @@
 // The analysis of a job: its entry point.
+use papers::Answer;
+use papers::JobHead;
 ghost use mathlib.Core.Path.{_≡_};
-ghost use Rattle.papers.specs.Job.{columnOf};
-ghost use Rattle.column_laws.specs.Tested.{Tested};
-ghost use Rattle.lent.specs.Six.{six, LongEnough};
-ghost use Rattle.analysis.specs.Stages.{Listing, Orderable, Ordering};
+ghost use Rattle.papers.specs.Job.{jobOf};
+ghost use Rattle.papers.specs.Refusals.{Outcome, Lent};
+ghost use Rattle.papers.specs.Analysis.{analysed};
+ghost use Rattle.lent.specs.Six.{six};
 
-// The lists of the columns in cleared slices, as far as they fit; answers how many columns are done. Order and pops are the joiner's buffers here.
-pub fn list_columns(
-    n: usize,
+// The analysis of a job: 1 to 6, 7, 8, 9; done, the slices hold parents, order, pops, factor starts and rows, then zeros, and the count is the peak.
+pub fn analyse(
+    head: JobHead,
     starts: &[u64],
     rows: &[u32],
     parents: &mut [u32],
@@ -16,47 +18,37 @@ pub fn list_columns(
     fstarts: &mut [u64],
     frows: &mut [u32],
     work: &mut [u64],
-) -> usize
-    requires tested { ⌜ Tested n (now starts) (now rows) ⌝ }
-    requires long { ⌜ LongEnough n (six (now parents) (now order) (now pops) (now fstarts) (now frows) (now work)) ⌝ }
-    ensures { λ r. ⌜ Listing n r (columnOf (now (starts .entry)) (now (rows .entry))) (six (now (parents .entry)) (now (order .entry)) (now (pops .entry)) (now (fstarts .entry)) (now (frows .entry)) (now (work .entry))) (six (now (parents .exit)) (now (order .exit)) (now (pops .exit)) (now (fstarts .exit)) (now (frows .exit)) (now (work .exit))) ⌝ }
+) -> Answer
+    ensures { λ r. ⌜ _≡_ {A = Outcome Lent} (record { answer = r; lent = six (now (parents .exit)) (now (order .exit)) (now (pops .exit)) (now (fstarts .exit)) (now (frows .exit)) (now (work .exit)) }) (analysed (jobOf head (now (starts .entry)) (now (rows .entry))) (six (now (parents .entry)) (now (order .entry)) (now (pops .entry)) (now (fstarts .entry)) (now (frows .entry)) (now (work .entry)))) ⌝ }
 {
-    lent::clear_all(parents, order, pops, fstarts, frows, work);
-    structure::column_lists(
+    let fault = job::first_fault(head, starts, rows);
+    if fault.number != 0 {
+        return fault;
+    }
+    let n = head.n as usize;
+    if lent::too_short(
         n,
+        parents.len(),
+        order.len(),
+        pops.len(),
+        fstarts.len(),
+        work.len(),
+    ) {
+        return Answer {
+            number: 7,
+            place: 0,
+            count: 0,
+        };
+    }
+    lent_plan::planned(
+        head,
         starts,
         rows,
         parents,
+        order,
+        pops,
         fstarts,
         frows,
-        &mut order[..n],
-        &mut pops[..n],
         work,
     )
-}
-
-// The order of the columns by the mark and the pops of its steps, in the front of their slices, from the parents and factor starts there; answers
-// the peak, and leaves work zero.
-pub fn order_columns(
-    mark: u64,
-    n: usize,
-    parents: &[u32],
-    order: &mut [u32],
-    pops: &mut [u32],
-    fstarts: &[u64],
-    work: &mut [u64],
-) -> u64
-    requires { ⌜ Orderable mark n (now parents) (now order) (now pops) (now fstarts) (now work) ⌝ }
-    ensures { λ r. ⌜ Ordering mark n (now (parents .entry)) (now (order .entry)) (now (pops .entry)) (now (fstarts .entry)) (now (work .entry)) (now (order .exit)) (now (pops .exit)) (now (work .exit)) r ⌝ }
-{
-    let peak = order::order_of(
-        mark,
-        &parents[..n],
-        &fstarts[..n + 1],
-        &mut order[..n],
-        &mut pops[..n],
-        work,
-    );
-    slices::clear64(work);
-    peak
 }

@@ -1,62 +1,48 @@
-use Rattle.analysis.proofs.Listings.{part-long}
-use Rattle.analysis.proofs.Orderings.{order-given, ordering-made}
+-- The order works in the front of order and pops; work is cleared after it.
+-- Assumes nothing.
+use mathlib.Core.Path.{sym}
+use lib.Seq.{length-take-le}
+use Rattle.lent_order.proofs.Orderings.{order-given, ordering-made}
 use borrow.Author.Needs.{needs}
-use Rattle.analysis.proofs.order_columns.Statement.{statement}
-use Rattle.analysis.proofs.order_columns.Tie as tie
-use Rattle.analysis.proofs.order_columns.Reads as reads
-use Rattle.analysis.proofs.order_columns.Lts as lts
-use Rattle.order.proofs.order_of.Reads as order-of-reads
-use Rattle.slices.proofs.clear64.Reads as clear64-reads
+use Rattle.lent_order.proofs.order_columns.Statement.{statement}
+use Rattle.lent_order.proofs.order_columns.Tie as tie
 
--- src/lib.rt:54:9
 slice-aggregate-order-of : tie.Need-slice-aggregate-order-of
 slice-aggregate-order-of c = search needs
 
--- src/lib.rt:55:20
 add-order-of : tie.Need-add-order-of
 add-order-of c = search needs
 
--- src/lib.rt:55:9
 slice-aggregate-order-of-2 : tie.Need-slice-aggregate-order-of-2
 slice-aggregate-order-of-2 c = search needs
 
--- src/lib.rt:56:9
 slice-relend-prefix-order-of : tie.Need-slice-relend-prefix-order-of
 slice-relend-prefix-order-of c = search needs
 
--- src/lib.rt:56:9
 slice-aggregate-order-of-3 : tie.Need-slice-aggregate-order-of-3
-slice-aggregate-order-of-3 c = part-long _ _ (c .before .before .before .before .before .before .before .before .pre .order-long)
+slice-aggregate-order-of-3 c = sym (length-take-le _ _ (c .before .before .before .before .before .before .before .before .pre .order-long))
 
--- src/lib.rt:57:9
 slice-relend-prefix-order-of-2 : tie.Need-slice-relend-prefix-order-of-2
 slice-relend-prefix-order-of-2 c = search needs
 
--- src/lib.rt:57:9
 slice-aggregate-order-of-4 : tie.Need-slice-aggregate-order-of-4
-slice-aggregate-order-of-4 c = part-long _ _ (c .before .before .before .before .before .before .before .before .before .pre .pops-long)
+slice-aggregate-order-of-4 c = sym (length-take-le _ _ (c .before .before .before .before .before .before .before .before .before .pre .pops-long))
 
--- src/lib.rt:52:9
 order-of-requires : tie.Need-order-of-requires
 order-of-requires c κs = order-given (c .before .before .before .before .before .before .before .before .before .before .pre)
 
--- src/lib.rt:60:5
 clear64-requires : tie.Need-clear64-requires
 clear64-requires c κs = search needs
 
--- src/lib.rt:40:1
 same-length : tie.Need-same-length
 same-length c = search needs
 
--- src/lib.rt:40:1
 same-length-2 : tie.Need-same-length-2
 same-length-2 c = search needs
 
--- src/lib.rt:40:1
 same-length-3 : tie.Need-same-length-3
 same-length-3 c = search needs
 
--- src/lib.rt:40:1
 returns : tie.Need-returns
 returns c = ordering-made (c .before .before .before .before .before .before .before .before .before .before .before .before .before .before .before .before .before .before .before .before .before .pre) (c .before .before .before .before .before .before .before .before .before .before .order-of .last .1 .1 .1 .1 .1 .0) (c .before .before .before .before .before .before .before .before .before .before .order-of .ensures .0) (c .before .before .before .before .before .before .before .before .before .before .order-of .ensures .1 .0) (c .before .before .before .before .before .before .before .before .before .before .order-of .ensures .1 .1) (c .before .before .before .before .before .before .before .before .before .before .order-of .kept .1 .1 .1 .1 .1 .0) (c .before .before .clear64 .ensures)
 

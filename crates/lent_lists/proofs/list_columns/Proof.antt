@@ -1,61 +1,46 @@
-use Rattle.analysis.proofs.Listings.{part-long, order-long, pops-long, listing-lengths, listing-made}
+-- Cleared slices are long enough for the column lists, and what these do not write is still zero.
+-- Assumes nothing.
+use Rattle.lent_lists.proofs.Listings.{part-long, order-long, pops-long, listing-lengths, listing-made}
 use borrow.Author.Needs.{needs}
-use Rattle.analysis.proofs.list_columns.Statement.{statement}
-use Rattle.analysis.proofs.list_columns.Tie as tie
-use Rattle.analysis.proofs.list_columns.Reads as reads
-use Rattle.analysis.proofs.list_columns.Lts as lts
-use Rattle.lent.proofs.clear_all.Reads as clear-all-reads
-use Rattle.structure.proofs.column_lists.Reads as column-lists-reads
+use Rattle.lent_lists.proofs.list_columns.Statement.{statement}
+use Rattle.lent_lists.proofs.list_columns.Tie as tie
 
--- src/lib.rt:24:5
 clear-all-requires : tie.Need-clear-all-requires
 clear-all-requires c κs = search needs
 
--- src/lib.rt:32:9
 slice-relend-prefix-column-lists : tie.Need-slice-relend-prefix-column-lists
 slice-relend-prefix-column-lists c = search needs
 
--- src/lib.rt:32:9
 slice-aggregate-column-lists : tie.Need-slice-aggregate-column-lists
 slice-aggregate-column-lists c = part-long _ _ (order-long _ _ _ (c .before .before .before .before .before .before .before .before .before .before .before .before .before .before .before .before .before .before .before .before .before .before .before .before .before .before .before .before .before .before .before .pre .1) (c .before .before .before .before .before .before .before .before .before .before .before .before .before .before .before .before .clear-all .ensures))
 
--- src/lib.rt:33:9
 slice-relend-prefix-column-lists-2 : tie.Need-slice-relend-prefix-column-lists-2
 slice-relend-prefix-column-lists-2 c = search needs
 
--- src/lib.rt:33:9
 slice-aggregate-column-lists-2 : tie.Need-slice-aggregate-column-lists-2
 slice-aggregate-column-lists-2 c = part-long _ _ (pops-long _ _ _ (c .before .before .before .before .before .before .before .before .before .before .before .before .before .before .before .before .before .before .before .before .before .before .before .before .before .before .before .before .before .before .before .before .pre .1) (c .before .before .before .before .before .before .before .before .before .before .before .before .before .before .before .before .before .clear-all .ensures))
 
--- src/lib.rt:25:5
 column-lists-requires : tie.Need-column-lists-requires
 column-lists-requires c κs = (c .before .before .before .before .before .before .before .before .before .before .before .before .before .before .before .before .before .before .before .before .before .before .before .before .before .before .before .before .before .before .before .before .before .pre .0, listing-lengths _ _ _ (c .before .before .before .before .before .before .before .before .before .before .before .before .before .before .before .before .before .before .before .before .before .before .before .before .before .before .before .before .before .before .before .before .before .pre .1) (c .before .before .before .before .before .before .before .before .before .before .before .before .before .before .before .before .before .before .clear-all .ensures))
 
--- src/lib.rt:9:1
 same-length : tie.Need-same-length
 same-length c = search needs
 
--- src/lib.rt:9:1
 same-length-2 : tie.Need-same-length-2
 same-length-2 c = search needs
 
--- src/lib.rt:9:1
 same-length-3 : tie.Need-same-length-3
 same-length-3 c = search needs
 
--- src/lib.rt:9:1
 same-length-4 : tie.Need-same-length-4
 same-length-4 c = search needs
 
--- src/lib.rt:9:1
 same-length-5 : tie.Need-same-length-5
 same-length-5 c = search needs
 
--- src/lib.rt:9:1
 same-length-6 : tie.Need-same-length-6
 same-length-6 c = search needs
 
--- src/lib.rt:9:1
 returns : tie.Need-returns
 returns c = let k = c .before .before .before .before .before .before .before .before .before .before .before .before .column-lists .kept in let l = c .before .before .before .before .before .before .before .before .before .before .before .before .column-lists .last in listing-made _ _ _ (c .before .before .before .before .before .before .before .before .before .before .before .before .before .before .before .before .before .before .before .before .before .before .before .before .before .before .before .before .before .before .before .before .before .before .before .before .before .before .before .before .before .before .before .before .before .before .pre .1) (c .before .before .before .before .before .before .before .before .before .before .before .before .before .before .before .before .before .before .before .before .before .before .before .before .before .before .before .before .before .before .before .clear-all .ensures) _ _ _ _ _ (l .1 .1 .1 .1 .1 .1 .0) (l .1 .1 .1 .1 .1 .1 .1 .0) _ (k .1 .1 .1 .1 .1 .1 .0) (k .1 .1 .1 .1 .1 .1 .1 .0) (c .before .before .before .before .before .before .before .before .before .before .before .before .column-lists .ensures)
 

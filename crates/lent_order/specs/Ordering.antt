@@ -1,23 +1,13 @@
--- What the lent slices hold between the stages of an analysis.
+-- What the lent slices hold before and after the order of the columns is made in them.
 -- Assumes nothing.
 use Prim.Native.Nat.{ℕ, _+_, _≤_}
 use mathlib.Core.Path.{_≡_}
 use mathlib.Core.List.{List, _++_, map}
 use lib.ListN.{length, take, drop}
 use Rattle.papers.specs.Lists.{zeros}
-use Rattle.papers.specs.Job.{Pattern}
-use Rattle.papers.specs.Refusals.{Lent}
 use Rattle.papers.specs.Room.{peakOf}
-use Rattle.structure.specs.Stored.{Listed}
 use Rattle.room.specs.Rows.{rowsIn}
 use Rattle.order.specs.Given.{Given, popsIn, orderIn}
-
--- the lists of the first `done` columns, as many as there is room for, with their starts and parents; behind them, and behind the first n places of order
--- and pops, zeros
-pub record Listing (n done : ℕ) (A : Pattern) (before lent : Lent) : Type 0 where
-  pub listed : Listed n done A (zeros (before .parents)) (zeros (before .factorStarts)) (zeros (before .factorRows)) (lent .parents) (lent .factorStarts) (lent .factorRows)
-  pub order : drop n (lent .order) ≡ drop n (zeros (before .order))
-  pub pops : drop n (lent .pops) ≡ drop n (zeros (before .pops))
 
 -- the parents and the factor starts of n columns in the front of their slices, and places for the order and the pops
 pub record Orderable (mark n : ℕ) (parents order pops starts work : List ℕ) : Type 0 where

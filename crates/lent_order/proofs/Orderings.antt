@@ -8,13 +8,13 @@ use Rattle.papers.specs.Lists.{zeros}
 use Rattle.papers.specs.Room.{peakOf}
 use Rattle.room.specs.Rows.{rowsIn}
 use Rattle.order.specs.Given.{Given, popsIn, orderIn}
-use Rattle.analysis.specs.Stages.{Orderable, Ordering}
-use Rattle.analysis.proofs.Listings.{part-long}
+use Rattle.lent_order.specs.Ordering.{Orderable, Ordering}
+use lib.Seq.{length-take-le}
 
 module _ {mark n : ℕ} {parents order pops starts work : List ℕ} (h : Orderable mark n parents order pops starts work) where
   -- the parts that are lent are as long as the order asks
   pub order-given : Given mark (take n parents) (take (n + 1) starts) (length (take n order)) (length (take n pops)) (length work)
-  order-given = rw (← part-long n order (h .order-long), ← part-long n pops (h .pops-long)) (h .given)
+  order-given = rw (length-take-le n order (h .order-long), length-take-le n pops (h .pops-long)) (h .given)
 
   pub ordering-made : (w₁ : List ℕ) {x y w : List ℕ} {peak : ℕ} → x ≡ orderIn mark (take n parents) (take (n + 1) starts) → y ≡ map (popsIn (take n parents)) (orderIn mark (take n parents) (take (n + 1) starts))
       → peak ≡ peakOf (rowsIn (take (n + 1) starts)) (popsIn (take n parents)) (orderIn mark (take n parents) (take (n + 1) starts))

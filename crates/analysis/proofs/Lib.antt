@@ -1,3 +1,0 @@
-pub mod Listings
-pub mod Orderings
-pub mod Ties

@@ -1,0 +1,4 @@
+pub mod Longs
+pub mod Ways
+pub mod Ties
+pub mod Plans

@@ -1,0 +1,171 @@
+-- The lists and the order that were made in the lent slices are those of the job's plan. A list stored at the front of a cleared slice is the result, then
+-- zeros; the tree and the rows that the order was made from are the pattern's (Ties).
+-- Assumes nothing.
+use Prim.Native.Nat.{ℕ, suc, _+_, _*_, _<_, _≤_}
+use mathlib.Core.Path.{_≡_, refl, sym, ap, _∙_}
+use mathlib.Core.List.{List, _++_, map, map-map, map-id}
+use native.Mathlib.Omega.{arith}
+use lib.ListN.{length, take, drop, length-map}
+use lib.Seq.{sets, sets-eq}
+use Rattle.papers.specs.Bounds.{workLength}
+use Rattle.papers.specs.Lists.{flat, startsFrom, zeros, thenZeros}
+use Rattle.papers.specs.Job.{Job, pattern, Below}
+use Rattle.papers.specs.Fill.{R}
+use Rattle.papers.specs.Order.{popsOf, orderOf}
+use Rattle.papers.specs.Key.{listsOf}
+use Rattle.papers.specs.Plan.{planOf}
+use Rattle.papers.specs.Refusals.{answer, passed, first, Outcome, jobTests, Lent, allZero, holding}
+use Rattle.papers.specs.Analysis.{holdingPlan, analysed}
+use Rattle.list_laws.proofs.Stores.{sets-zeros, length-then-zeros, take-then-zeros, length-starts}
+use Rattle.job_laws.proofs.Passed.{Passed, passes-iff, passed-below, lists-iff}
+use Rattle.job_laws.proofs.Laid.{length-lists}
+use Rattle.column_laws.specs.Tested.{Tested}
+use Rattle.column_laws.proofs.Families.{length-grows}
+use Rattle.order_laws.proofs.Patterns.{order-length}
+use Rattle.order.specs.Given.{Given}
+use Rattle.structure.specs.Stored.{Listed}
+use Rattle.lent.specs.Six.{six, LongEnough}
+use Rattle.lent.proofs.Sixes.{sixes}
+use Rattle.lent_lists.specs.Listing.{Listing}
+use Rattle.lent_lists.proofs.Listings.{zero-long, Alike, zeros-alike}
+use Rattle.lent_order.specs.Ordering.{Orderable, Ordering}
+use Rattle.lent_plan.proofs.Ties.{parentsOf, startsOf, length-parents, same-order, same-pops, same-peak, rowed}
+use Rattle.lent_plan.proofs.Ways.{needed, peakIn, way-rows, way-peak, way-done}
+
+-- in front of what lies behind it in a cleared slice, a result is followed by zeros
+zeros-behind : (n : ℕ) (xs l : List ℕ) → length xs ≡ n → n ≤ length l → xs ++ drop n (zeros l) ≡ thenZeros xs l
+zeros-behind n xs l e h =
+    let f : length xs ≤ length l = omega arith in
+    let g : 0 + length xs ≤ length (zeros l) = omega (arith, zero-long l refl) in
+    let z : 0 + length xs ≡ n = omega arith in
+    sym (rw z at (sets-eq xs (zeros l) 0 g)) ∙ sets-zeros xs l f
+
+module _ (job : Job) (p : first jobTests job ≡ passed) where
+  abbrev passes : Passed job
+  passes = passes-iff job .0 p
+
+  below : Below (job .n) (pattern job)
+  below = passed-below job passes
+
+  pub tested : Tested (job .n) (job .starts) (job .rows)
+  tested = let lists = lists-iff (job .n) (job .starts) (job .rows) .1 (passes .lists) in record { few = passes .few; starts-pass = lists .0; rows-pass = lists .1 }
+
+  module _ {done : ℕ} {before mid : Lent} (long : LongEnough (job .n) before) (listing : Listing (job .n) done (pattern job) before mid) (alike : Alike before mid) where
+    -- 8: where not all columns are done, the rows needed exceed the slice
+    pub planned-rows : {count : ℕ} {after : Lent} → done < job .n → count ≡ needed job → after ≡ allZero mid
+        → _≡_ {A = Outcome Lent} (record { answer = answer 8 0 count; lent = after }) (analysed job before)
+    planned-rows h e z = way-rows job before p long exceeds (ap (answer 8 0) e) (zeros-alike before mid alike z)
+      where
+        exceeds : length (before .factorRows) < needed job
+        exceeds = omega (arith, listing .listed .lacks h, zero-long (before .factorRows) refl, length-grows (R (pattern job)) (suc done) (job .n) (omega arith))
+
+    -- ---- all columns are done
+
+    module _ (all : job .n ≤ done) where
+      abbrev n : ℕ
+      n = job .n
+
+      abbrev parents : List ℕ
+      parents = parentsOf n (pattern job)
+
+      abbrev starts : List ℕ
+      starts = startsOf n (pattern job)
+
+      abbrev order : List ℕ
+      order = orderOf (job .mark) n (pattern job)
+
+      listed : Listed n n (pattern job) (zeros (before .parents)) (zeros (before .factorStarts)) (zeros (before .factorRows)) (mid .parents) (mid .factorStarts) (mid .factorRows)
+      listed = let e : done ≡ n = omega (arith, listing .listed .most) in rw e at (listing .listed)
+
+      fits : needed job ≤ length (before .factorRows)
+      fits = omega (arith, listed .fits, zero-long (before .factorRows) refl)
+
+      length-starts-of : length starts ≡ n + 1
+      length-starts-of = length-starts 0 (listsOf n (R (pattern job))) ∙ ap (λ k. k + 1) (length-lists (R (pattern job)) n)
+
+      -- the slices of the lists
+
+      parents-hold : mid .parents ≡ thenZeros parents (before .parents)
+      parents-hold = listed .parents-are ∙ sets-zeros parents (before .parents) (omega (arith, length-parents below, long .parents))
+
+      starts-hold : mid .factorStarts ≡ thenZeros starts (before .factorStarts)
+      starts-hold = listed .starts-are ∙ sets-zeros starts (before .factorStarts) (omega (arith, length-starts-of, long .starts))
+
+      rows-hold : mid .factorRows ≡ thenZeros (flat (listsOf n (R (pattern job)))) (before .factorRows)
+      rows-hold = listed .rows-are ∙ sets-zeros (flat (listsOf n (R (pattern job)))) (before .factorRows) fits
+
+      -- their fronts
+
+      parents-front : take n (mid .parents) ≡ parents
+      parents-front = rw parents-hold (ap (λ k. take k (thenZeros parents (before .parents))) (sym (length-parents below)) ∙ take-then-zeros parents (before .parents))
+
+      starts-front : take (n + 1) (mid .factorStarts) ≡ starts
+      starts-front = rw starts-hold (ap (λ k. take k (thenZeros starts (before .factorStarts))) (sym length-starts-of) ∙ take-then-zeros starts (before .factorStarts))
+
+      pub orderable : Orderable (job .mark) n (mid .parents) (mid .order) (mid .pops) (mid .factorStarts) (mid .work)
+      orderable =
+          record {
+            given = rw (parents-front, starts-front) given;
+            parents-long = rw (alike .parents) (long .parents);
+            order-long = rw (alike .order) (long .order);
+            pops-long = rw (alike .pops) (long .pops);
+            starts-long = rw (alike .starts) (long .starts);
+          }
+        where
+          given : Given (job .mark) parents starts n n (length (mid .work))
+          given =
+              record {
+                rowed = rowed below (passes .few);
+                columns = omega (arith, length-parents below, passes .few);
+                marked = passes .marked;
+                order-length = sym (length-parents below);
+                pops-length = sym (length-parents below);
+                work-length = omega (arith, length-parents below, alike .work, long .work);
+              }
+
+      -- ---- the order is made
+
+      module _ {steps counts work : List ℕ} {most : ℕ} (ordering : Ordering (job .mark) n (mid .parents) (mid .order) (mid .pops) (mid .factorStarts) (mid .work) steps counts work most) where
+        peak-is : most ≡ peakIn job
+        peak-is = (rw (parents-front, starts-front) at (ordering .greatest)) ∙ same-peak below (job .mark)
+
+        order-holds : steps ≡ thenZeros order (before .order)
+        order-holds =
+            (rw (parents-front, starts-front, listing .order, same-order below (job .mark)) at (ordering .steps))
+            ∙ zeros-behind n order (before .order) (order-length below (job .mark)) (long .order)
+
+        pops-hold : counts ≡ thenZeros (map (popsOf n (pattern job)) order) (before .pops)
+        pops-hold =
+            (rw (parents-front, starts-front, listing .pops, same-pops below, same-order below (job .mark)) at (ordering .counts))
+            ∙ zeros-behind n (map (popsOf n (pattern job)) order) (before .pops) (length-map order (popsOf n (pattern job)) ∙ order-length below (job .mark)) (long .pops)
+
+        work-cleared : work ≡ zeros (before .work)
+        work-cleared = ordering .cleared ∙ rw (alike .work)
+
+        holds : six (mid .parents) steps counts (mid .factorStarts) (mid .factorRows) work ≡ holdingPlan job (planOf job) before
+        unfolding holdingPlan holding planOf
+        holds =
+            sixes parents-hold (order-holds ∙ ap (λ l. thenZeros l (before .order)) (sym (map-map _ _ order ∙ map-id order)))
+            (pops-hold ∙ ap (λ l. thenZeros l (before .pops)) (sym (map-map _ _ order))) starts-hold rows-hold work-cleared
+
+        -- the slices are as long as they were
+        alike-after : Alike before (six (mid .parents) steps counts (mid .factorStarts) (mid .factorRows) work)
+        alike-after =
+            record {
+              parents = alike .parents;
+              order = ap length order-holds ∙ length-then-zeros order (before .order) (omega (arith, order-length below (job .mark), long .order));
+              pops = ap length pops-hold ∙ length-then-zeros (map (popsOf n (pattern job)) order) (before .pops) (omega (arith, length-map order (popsOf n (pattern job)), order-length below (job .mark), long .pops));
+              starts = alike .starts;
+              rows = alike .rows;
+              work = zero-long (before .work) work-cleared;
+            }
+
+        -- 9
+        pub planned-peak : {after : Lent} → job .limit < most → after ≡ allZero (six (mid .parents) steps counts (mid .factorStarts) (mid .factorRows) work)
+            → _≡_ {A = Outcome Lent} (record { answer = answer 9 0 most; lent = after }) (analysed job before)
+        planned-peak h z = way-peak job before p long fits (omega (arith, peak-is)) (ap (answer 9 0) peak-is) (zeros-alike before _ alike-after z)
+
+        -- done
+        pub planned-done : most ≤ job .limit
+            → _≡_ {A = Outcome Lent} (record { answer = answer 0 0 most; lent = six (mid .parents) steps counts (mid .factorStarts) (mid .factorRows) work }) (analysed job before)
+        planned-done h = way-done job before p long fits (omega (arith, peak-is)) (ap (answer 0 0) peak-is) holds
