@@ -1,0 +1,134 @@
+-- The outcome of writing a plan by the outcome of the analysis: what that refuses is refused here, with the same answer; where it is done, the room for
+-- the bytes decides.
+-- Assumes nothing.
+use Prim.Native.Nat.{ℕ, _<_, _≤_}
+use mathlib.Core.Path.{_≡_, refl, sym, ap, _∙_}
+use mathlib.Core.Logic.{_≢_, _⊎_, inl, inr}
+use mathlib.Core.List.{List}
+use native.Mathlib.Omega.{arith}
+use lib.ListN.{length}
+use Rattle.papers.specs.declared.Answer.{Answer}
+use Rattle.papers.specs.Lists.{zeros, thenZeros}
+use Rattle.papers.specs.Job.{Job}
+use Rattle.papers.specs.Plan.{planOf, planBytes}
+use Rattle.papers.specs.Refusals.{answer, untouched, zeroed, Leaves, Verdict, passed, refused, first, Outcome, Lent, allZero, bytesTest}
+use Rattle.papers.specs.Analysis.{AnalysisCall, holdingPlan, analysisTests, analysisDone, analysed, PlanLent, PlanCall, planTests, planDone, planZero, planWritten}
+use Rattle.list_laws.proofs.Tests.{below-or}
+use Rattle.job_laws.proofs.Firsts.{first-append-passed, first-append-refused, first-map, first-last, over-refuses, over-passes-iff}
+use Rattle.job_laws.proofs.Outcomes.{outcome-untouched, outcome-zeroed, outcome-done}
+use Rattle.refusal_laws.proofs.Exactly.{Leaving}
+use Rattle.refusal_laws.proofs.Analysis.{analysis-leaving}
+use Rattle.plan_bytes.specs.Stored.{stored}
+use Rattle.plan_bytes.proofs.Stores.{short-is, whole-is}
+
+-- the parts of two outcomes that are one
+answers : {S : Type 0} {a b : Answer} {x y : S} → _≡_ {A = Outcome S} (record { answer = a; lent = x }) (record { answer = b; lent = y }) → a ≡ b
+answers {S} e = ap (λ (o : Outcome S). o .answer) e
+
+lents : {S : Type 0} {a b : Answer} {x y : S} → _≡_ {A = Outcome S} (record { answer = a; lent = x }) (record { answer = b; lent = y }) → x ≡ y
+lents {S} e = ap (λ (o : Outcome S). o .lent) e
+
+numbers : {a b : Answer} → a ≡ b → a .number ≡ b .number
+numbers e = ap (λ (a : Answer). a .number) e
+
+-- ---- an analysis that answers 0
+
+module _ (job : Job) (lent : Lent) where
+  abbrev own : AnalysisCall
+  own = record { job = job; lent = lent }
+
+  -- it has passed its tests, counts the peak, and its slices hold the plan
+  pub analysis-done : {r : Answer} {after : Lent} → _≡_ {A = Outcome Lent} (record { answer = r; lent = after }) (analysed job lent) → r .number ≡ 0
+      → (first analysisTests (record { job = job; lent = lent }) ≡ passed) × (r .count ≡ planOf job .peak) × (after ≡ holdingPlan job (planOf job) lent)
+  unfolding analysed analysisDone
+  analysis-done {r} {after} e z = go (first analysisTests own) refl
+    where
+      -- a refusal has a number
+      numbered : (l : Leaves) {a : Answer} → first analysisTests own ≡ refused a l → r ≡ a → ⊥
+      numbered untouched {a} q f = let h : Leaving (refused a untouched) = rw q at (analysis-leaving own) in omega (arith, numbers f)
+      numbered zeroed {a} q f = let h : Leaving (refused a zeroed) = rw q at (analysis-leaving own) in omega (arith, numbers f)
+
+      go : (v : Verdict) → first analysisTests own ≡ v → (first analysisTests own ≡ passed) × (r .count ≡ planOf job .peak) × (after ≡ holdingPlan job (planOf job) lent)
+      go passed q =
+          let f = e ∙ outcome-done analysisTests analysisDone allZero own lent q in
+          (q, ap (λ (a : Answer). a .count) (answers f), lents f)
+      go (refused a untouched) q = absurd (numbered untouched q (answers (e ∙ outcome-untouched analysisTests analysisDone allZero own lent q)))
+      go (refused a zeroed) q = absurd (numbered zeroed q (answers (e ∙ outcome-zeroed analysisTests analysisDone allZero own lent q)))
+
+-- ---- the outcome
+
+abbrev analysisOf : PlanCall → AnalysisCall
+analysisOf call = record { job = call .job; lent = call .slices .analysis }
+
+module _ (job : Job) (slices : PlanLent) where
+  abbrev call : PlanCall
+  call = record { job = job; slices = slices }
+
+  abbrev written : List ℕ
+  written = planBytes job (planOf job)
+
+  -- ---- the analysis refuses
+
+  refused-on : {a : Answer} {l : Leaves} → first analysisTests (record { job = job; lent = slices .analysis }) ≡ refused a l → first planTests (record { job = job; slices = slices }) ≡ refused a l
+  unfolding planTests
+  refused-on e = first-append-refused _ _ call (first-map analysisOf analysisTests call ∙ e)
+
+  -- 1 to 7 leave the bytes as they were, 8 and 9 leave zeros
+  pub way-refused : {r : Answer} {after : Lent} {bytes : List ℕ} → _≡_ {A = Outcome Lent} (record { answer = r; lent = after }) (analysed job (slices .analysis)) → r .number ≢ 0
+      → (r .number ≤ 7 → bytes ≡ slices .bytes) → (7 < r .number → bytes ≡ zeros (slices .bytes))
+      → _≡_ {A = Outcome PlanLent} (record { answer = r; lent = record { analysis = after; bytes = bytes } }) (planWritten job slices)
+  unfolding analysed analysisDone planWritten planZero
+  way-refused {r} {after} {bytes} e z early late = go (first analysisTests (analysisOf call)) refl
+    where
+      go : (v : Verdict) → first analysisTests (analysisOf call) ≡ v
+          → _≡_ {A = Outcome PlanLent} (record { answer = r; lent = record { analysis = after; bytes = bytes } }) (planWritten job slices)
+      go passed q = absurd (z (numbers (answers (e ∙ outcome-done analysisTests analysisDone allZero (analysisOf call) (slices .analysis) q))))
+      go (refused a untouched) q =
+          let f = e ∙ outcome-untouched analysisTests analysisDone allZero (analysisOf call) (slices .analysis) q in
+          let h : Leaving (refused a untouched) = rw q at (analysis-leaving (analysisOf call)) in
+          rw (answers f, lents f, early (rw (answers f) (h .1))) (sym (outcome-untouched planTests planDone planZero call slices (refused-on q)))
+      go (refused a zeroed) q =
+          let f = e ∙ outcome-zeroed analysisTests analysisDone allZero (analysisOf call) (slices .analysis) q in
+          let h : Leaving (refused a zeroed) = rw q at (analysis-leaving (analysisOf call)) in
+          rw (answers f, lents f, late (rw (answers f) h)) (sym (outcome-zeroed planTests planDone planZero call slices (refused-on q)))
+
+  -- ---- the analysis is done
+
+  module _ (p : first analysisTests (record { job = job; lent = slices .analysis }) ≡ passed) where
+    last-test : first planTests (record { job = job; slices = slices }) ≡ bytesTest (planBytes job (planOf job)) (slices .bytes)
+    unfolding planTests
+    last-test = first-append-passed _ _ call (first-map analysisOf analysisTests call ∙ p) ∙ first-last _ call
+
+    short-way : length (slices .bytes) < length (planBytes job (planOf job))
+        → planWritten job slices ≡ record { answer = answer 10 0 (length (planBytes job (planOf job))); lent = record { analysis = allZero (slices .analysis); bytes = zeros (slices .bytes) } }
+    unfolding planWritten planZero bytesTest
+    short-way h = outcome-zeroed planTests planDone planZero call slices (last-test ∙ over-refuses (length (slices .bytes)) (length written) _ zeroed h)
+
+    whole-way : length (planBytes job (planOf job)) ≤ length (slices .bytes)
+        → planWritten job slices ≡ record {
+          answer = answer 0 0 (length (planBytes job (planOf job)));
+          lent = record { analysis = holdingPlan job (planOf job) (slices .analysis); bytes = thenZeros (planBytes job (planOf job)) (slices .bytes) };
+        }
+    unfolding planWritten planDone bytesTest
+    whole-way h = outcome-done planTests planDone planZero call slices (last-test ∙ over-passes-iff (length (slices .bytes)) (length written) _ zeroed .1 h)
+
+    module _ {r : Answer} {bytes : List ℕ} (e : _≡_ {A = Outcome (List ℕ)} (record { answer = r; lent = bytes }) (stored (planBytes job (planOf job)) (slices .bytes))) {after : Lent} where
+      -- 10: all zero
+      pub way-short : r .number ≢ 0 → after ≡ allZero (slices .analysis)
+          → _≡_ {A = Outcome PlanLent} (record { answer = r; lent = record { analysis = after; bytes = bytes } }) (planWritten job slices)
+      way-short z a = go (below-or (length (slices .bytes)) (length written))
+        where
+          go : (length (slices .bytes) < length written) ⊎ (length written ≤ length (slices .bytes))
+              → _≡_ {A = Outcome PlanLent} (record { answer = r; lent = record { analysis = after; bytes = bytes } }) (planWritten job slices)
+          go (inl h) = let f = e ∙ short-is written (slices .bytes) h in rw (a, answers f, lents f) (sym (short-way h))
+          go (inr h) = absurd (z (numbers (answers (e ∙ whole-is written (slices .bytes) h))))
+
+      -- done: the slices hold the analysis and the plan
+      pub way-done : r .number ≡ 0 → after ≡ holdingPlan job (planOf job) (slices .analysis)
+          → _≡_ {A = Outcome PlanLent} (record { answer = r; lent = record { analysis = after; bytes = bytes } }) (planWritten job slices)
+      way-done z a = go (below-or (length (slices .bytes)) (length written))
+        where
+          go : (length (slices .bytes) < length written) ⊎ (length written ≤ length (slices .bytes))
+              → _≡_ {A = Outcome PlanLent} (record { answer = r; lent = record { analysis = after; bytes = bytes } }) (planWritten job slices)
+          go (inl h) = absurd (omega (arith, numbers (answers (e ∙ short-is written (slices .bytes) h))))
+          go (inr h) = let f = e ∙ whole-is written (slices .bytes) h in rw (a, answers f, lents f) (sym (whole-way h))

@@ -1,0 +1,79 @@
+-- The invariant: storing the steps from i on at next leaves what storing all of them leaves. The measure is the steps left.
+-- Assumes nothing.
+use Prim.Native.Nat.{_-_}
+use native.Mathlib.Omega.{arith}
+use lib.ListN.{length}
+use borrow.Author.Needs.{needs}
+use Rattle.bytes_laws.proofs.Writing.{writes-all}
+use Rattle.plan_writer.proofs.Steps.{WritesSteps, column-room, pops-room, write-turn, write-stop}
+use Rattle.plan_writer.proofs.write_steps.Statement.{statement}
+use Rattle.plan_writer.proofs.write_steps.Tie as tie
+
+abbrev Inv-loop : tie.InvT-loop
+Inv-loop order pops bytes₀ at next₀ i₀ bytes next i = WritesSteps order pops bytes₀ next₀ bytes next i
+
+abbrev μ-loop : tie.MeasureT-loop
+μ-loop order pops bytes₀ at next₀ i₀ bytes next i = length order - i
+
+loop-holds : tie.Need-loop-holds Inv-loop μ-loop
+loop-holds c = record { paired = c .before .before .before .pre .0; written = writes-all; room = c .before .before .before .pre .1 }
+
+mul-put : tie.Need-mul-put Inv-loop μ-loop
+mul-put c = search needs
+
+shared-slice-read-put : tie.Need-shared-slice-read-put Inv-loop μ-loop
+shared-slice-read-put c = search needs
+
+cast-put : tie.Need-cast-put Inv-loop μ-loop
+cast-put c = omega (arith, c .shared-slice-known3 .given (c .before .before .before .loop .i))
+
+put-requires : tie.Need-put-requires Inv-loop μ-loop
+put-requires c κs = (omega (arith, c .shared-slice-known3 .given (c .before .before .before .loop .i)), column-room (c .before .before .before .loop .inv) (c .before .before .loop-test .taken))
+
+mul-put-2 : tie.Need-mul-put-2 Inv-loop μ-loop
+mul-put-2 c = search needs
+
+shared-slice-read-put-2 : tie.Need-shared-slice-read-put-2 Inv-loop μ-loop
+shared-slice-read-put-2 c = search needs
+
+cast-put-2 : tie.Need-cast-put-2 Inv-loop μ-loop
+cast-put-2 c = omega (arith, c .shared-slice-known4 .given (c .before .before .before .before .before .before .before .before .loop .i))
+
+put-requires-2 : tie.Need-put-requires-2 Inv-loop μ-loop
+put-requires-2 c κs = (omega (arith, c .shared-slice-known4 .given (c .before .before .before .before .before .before .before .before .loop .i)), pops-room (c .before .before .before .before .before .before .before .before .loop .inv) (c .before .before .before .before .before .before .before .loop-test .taken) (c .before .before .before .before .put .ensures .0) (c .before .before .before .before .put .ensures .1))
+
+add-i : tie.Need-add-i Inv-loop μ-loop
+add-i c = search needs
+
+loop-less : tie.Need-loop-less Inv-loop μ-loop
+loop-less c = search needs
+
+loop-again : tie.Need-loop-again Inv-loop μ-loop
+loop-again c = write-turn (c .before .before .before .before .before .before .before .before .before .before .before .loop .inv) (c .before .before .before .before .before .before .before .before .before .before .loop-test .taken) (c .before .before .before .before .before .before .before .put .ensures .0) (c .before .before .before .before .before .before .before .put .ensures .1) (c .before .before .put2 .ensures .0) (c .before .before .put2 .ensures .1)
+
+same-length : tie.Need-same-length Inv-loop μ-loop
+same-length c = search needs
+
+returns : tie.Need-returns Inv-loop μ-loop
+returns c = write-stop (c .before .loop .inv) (c .loop-test .left)
+
+pub write-steps-spec : {M : Type 1} → statement M
+write-steps-spec =
+    tie.close
+    (tie.spec
+    Inv-loop
+    μ-loop
+    loop-holds
+    mul-put
+    shared-slice-read-put
+    cast-put
+    put-requires
+    mul-put-2
+    shared-slice-read-put-2
+    cast-put-2
+    put-requires-2
+    add-i
+    loop-less
+    loop-again
+    same-length
+    returns)

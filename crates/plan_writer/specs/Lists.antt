@@ -1,0 +1,30 @@
+-- The plan that lies in lists: what its writer is handed, and what it asks of it.
+-- Assumes nothing.
+use Prim.Native.Nat.{ℕ, _≤_}
+use mathlib.Core.Path.{_≡_}
+use mathlib.Core.List.{List, [], _∷_}
+use lib.ListN.{length}
+use Rattle.papers.specs.Bounds.{maxPeak}
+use Rattle.papers.specs.Job.{Job, columnOf}
+use Rattle.papers.specs.Key.{listsOf}
+use Rattle.papers.specs.Plan.{Plan}
+use Rattle.papers.specs.Refusals.{passed, first, startsTest, rowsTest, jobTests}
+
+-- the steps whose columns and pops stand in two lists
+unfoldable pub stepsIn : List ℕ → List ℕ → List (ℕ × ℕ)
+stepsIn [] pops = []
+stepsIn (j ∷ order) [] = []
+stepsIn (j ∷ order) (p ∷ pops) = (j, p) ∷ stepsIn order pops
+
+-- the plan of n columns with these steps, the lists between these starts, and this peak
+abbrev pub planIn : ℕ → List ℕ → List ℕ → List ℕ → List ℕ → ℕ → Plan
+planIn n order pops starts rows peak = record { steps = stepsIn order pops; lists = listsOf n (columnOf starts rows); peak = peak }
+
+-- what can be written as a plan of a job: a step for each column, lists that pass 4 to 6, and a peak that a plan may declare
+pub record Writable (job : Job) (order pops starts rows : List ℕ) (peak : ℕ) : Type 0 where
+  pub passes : first jobTests job ≡ passed
+  pub all-steps : length order ≡ job .n
+  pub all-pops : length pops ≡ job .n
+  pub starts-pass : startsTest (job .n) starts rows ≡ passed
+  pub rows-pass : rowsTest (job .n) starts rows ≡ passed
+  pub declared : peak ≤ maxPeak
