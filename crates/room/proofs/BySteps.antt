@@ -25,14 +25,14 @@ module _ (size pops : ℕ → ℕ) (order : List ℕ) where
   abbrev popsAt : ℕ → ℕ
   popsAt s = columnAt (map pops order) s
 
-  pops-here : (k : ℕ) → k < length order → popsAt (suc k) ≡ pops (getD order k 0)
+  pub pops-here : (k : ℕ) → k < length order → popsAt (suc k) ≡ pops (getD order k 0)
   pops-here k h = column-at (map pops order) k ∙ getD-map pops order k h
 
   size-here : (k : ℕ) → sizeAt (suc k) ≡ size (getD order k 0)
   size-here k = ap size (column-at order k)
 
   -- the updates held after k steps
-  held-by-steps : (k : ℕ) → k ≤ length order → heldAfterAll sizeAt popsAt [] (upTo k) ≡ heldAfterAll size pops [] (take k order)
+  pub held-by-steps : (k : ℕ) → k ≤ length order → heldAfterAll sizeAt popsAt [] (upTo k) ≡ heldAfterAll size pops [] (take k order)
   unfolding upTo heldAfterAll
   held-by-steps zero h = refl
   held-by-steps (suc k) h =

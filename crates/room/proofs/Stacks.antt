@@ -19,8 +19,8 @@ use Rattle.order_laws.proofs.Greatest.{greatest-append}
 use Rattle.order_laws.proofs.Rooms.{room-none, room-over, held-root, held-update, rooms-nil, rooms-cons, rooms-append, held-append}
 use Rattle.order_laws.proofs.Steps.{column-at}
 use Rattle.tree.proofs.Sums.{sum-nil, sum-cons}
-use Rattle.room.specs.Rows.{rowsIn, Column, mostEntries}
-use Rattle.room.specs.Steps.{rowsAt, popsAt, heldAt, Stepped}
+use Rattle.room.specs.Rows.{rowsIn, mostEntries}
+use Rattle.room.specs.Steps.{rowsAt, popsAt, heldAt, Over, Stepped}
 use Rattle.room.proofs.Entries.{entries-fit}
 
 sum-drop : (n : ℕ) (l : List ℕ) → sum (drop n l) ≤ sum l
@@ -110,69 +110,92 @@ module _ (factor order pops : List ℕ) where
   unfolding upTo greatest
   next-room k = ap greatest (rooms-append (rowsAt factor order) (popsAt pops) [] (upTo k) (suc k ∷ [])) ∙ rw (greatest-append, rooms-cons, rooms-nil) (omega arith)
 
-pub record Stacked (factor order pops below₀ below : List ℕ) (depth most k : ℕ) : Type 0 where
+-- the updates held after k steps have their sums in below
+pub record Stacked (factor order pops below₀ below : List ℕ) (depth k : ℕ) : Type 0 where
   pub deep : length (heldAt factor order pops k) ≡ depth
   pub few : depth ≤ k
   pub light : sum (heldAt factor order pops k) ≤ k * mostEntries
   pub sums : (i : ℕ) → i ≤ depth → getD below i 0 ≡ sum (drop (depth - i) (heldAt factor order pops k))
-  pub so-far : most ≡ greatest (rooms (rowsAt factor order) (popsAt pops) [] (upTo k))
   pub seen : k ≤ length order
   pub wide : length order < length below
   pub long : length below ≡ length below₀
 
 module _ (factor order pops : List ℕ) where
-  pub stacked-start : (entry : List ℕ) → length order < length entry → Stacked factor order pops (set entry 0 0) (set entry 0 0) 0 0 0
-  unfolding upTo heldAfterAll greatest
+  pub stacked-start : (entry : List ℕ) → length order < length entry → Stacked factor order pops (set entry 0 0) (set entry 0 0) 0 0
+  unfolding upTo heldAfterAll
   stacked-start entry wide = record {
     deep = refl;
     few = omega arith;
     light = omega (arith, sum-nil);
     sums = λ i h. let z : i ≡ 0 = omega arith in rw z (getD-set-same entry 0 0 0 (omega arith) ∙ sym sum-nil);
-    so-far = rw rooms-nil refl;
     seen = omega arith;
     wide = omega (arith, length-set entry 0 0);
     long = refl;
   }
 
-  module _ {below₀ below : List ℕ} {depth most k : ℕ} (inv : Stacked factor order pops below₀ below depth most k) where
-    pub stacked-stop : length order ≤ k → most ≡ peakOf (rowsAt factor order) (popsAt pops) (upTo (length order))
-    unfolding peakOf
-    stacked-stop h = let e : k ≡ length order = omega (arith, inv .seen) in rw (← e) (inv .so-far)
+  module _ {below₀ below : List ℕ} {depth k : ℕ} (inv : Stacked factor order pops below₀ below depth k) (pre : Stepped factor order pops) (more : k < length order) {r : ℕ}
+      (rows : (r ≡ rowsIn factor (getD order k 0)) × (r ≤ maxColumns))
+    where
+      enough : getD pops k 0 ≤ depth
+      enough = omega (arith, pre .enough k more, inv .deep, column-at pops k)
 
-    module _ (pre : Stepped factor order pops) (more : k < length order) where
-      pub stacked-column : Column factor (getD order k 0)
-      stacked-column = pre .column k more
+      inside : depth + 1 < length below
+      inside = omega (arith, inv .few, inv .wide)
 
-      pub stacked-pops : getD pops k 0 ≤ depth
-      stacked-pops = omega (arith, pre .enough k more, inv .deep, column-at pops k)
-
-      pub stacked-inside : depth + 1 < length below
-      stacked-inside = omega (arith, inv .few, inv .wide)
+      rows-here : rowsAt factor order (suc k) ≡ r
+      rows-here = ap (rowsIn factor) (column-at order k) ∙ sym (rows .0)
 
       -- no sum is more than so many fronts
-      pub stacked-light : (i : ℕ) → i ≤ depth → getD below i 0 ≤ maxColumns * mostEntries
-      stacked-light i h = omega (arith, inv .sums i h, inv .light, sum-drop (depth - i) (heldAt factor order pops k), pre .few)
+      pub stacked-over : Over below depth (getD pops k 0) r
+      stacked-over = record {
+        enough = enough;
+        inside = inside;
+        light = λ i h. omega (arith, inv .sums i h, inv .light, sum-drop (depth - i) (heldAt factor order pops k), pre .few);
+        few = rows .1;
+      }
 
-      module _ {r x u m v y : ℕ} (er : (r ≡ rowsIn factor (getD order k 0)) × (r ≤ maxColumns)) (ex : x ≡ min (getD pops k 0) 1) (eu : u ≡ t (r + 1))
-          (em : m ≡ max most (getD below (depth - x) 0 + u)) (ev : v ≡ t r) (ey : y ≡ min r 1)
-        where
-          pub stacked-turn : Stacked factor order pops below₀ (set below (depth - getD pops k 0 + 1) (getD below (depth - getD pops k 0) 0 + v)) (depth - getD pops k 0 + y) m (k + 1)
-          stacked-turn =
-              let p = getD pops k 0 in
-              let held = heldAt factor order pops k in
-              let rows : rowsAt factor order (suc k) ≡ r = ap (rowsIn factor) (column-at order k) ∙ sym (er .0) in
-              let next : heldAt factor order pops (k + 1) ≡ heldAfter p r held = rw (add-one, ← rows, ← (column-at pops k)) (next-held factor order pops k) in
-              let all : greatest (rooms (rowsAt factor order) (popsAt pops) [] (upTo (k + 1))) ≡ max (greatest (rooms (rowsAt factor order) (popsAt pops) [] (upTo k))) (roomAt p r held) =
-              rw (add-one, ← rows, ← (column-at pops k)) (next-room factor order pops k) in
-              let a = after below held depth p r (inv .deep) stacked-pops (inv .sums) stacked-inside (getD below (depth - p) 0 + v) (rw ev refl) in
-              let room : getD below (depth - x) 0 + u ≡ roomAt p r held = rw (ex, eu) (room-here below held depth p r (inv .deep) stacked-pops (inv .sums) stacked-inside) in
-              record {
-                deep = rw (next, ey) (a .length-after);
-                few = omega (arith, inv .few, stacked-pops);
-                light = rw next (omega (arith, a .sum-after, entries-fit r (omega (arith, er .1)), inv .light));
-                sums = rw (next, ey) (a .sums-after);
-                so-far = omega (arith, all, room, inv .so-far);
-                seen = omega arith;
-                wide = omega (arith, inv .wide, length-set below (depth - p + 1) (getD below (depth - p) 0 + v));
-                long = length-set below (depth - p + 1) (getD below (depth - p) 0 + v) ∙ inv .long;
-              }
+      -- the room of the next step
+      pub stacked-room : {u : ℕ} → u ≡ getD below (depth - min (getD pops k 0) 1) 0 + t (r + 1) → u ≡ roomAt (popsAt pops (suc k)) (rowsAt factor order (suc k)) (heldAt factor order pops k)
+      stacked-room e = rw (rows-here, column-at pops k) (e ∙ room-here below (heldAt factor order pops k) depth (getD pops k 0) r (inv .deep) enough (inv .sums) inside)
+
+      pub stacked-turn : {d : ℕ} {b : List ℕ} → d ≡ depth - getD pops k 0 + min r 1 → b ≡ set below (depth - getD pops k 0 + 1) (getD below (depth - getD pops k 0) 0 + t r)
+          → Stacked factor order pops below₀ b d (k + 1)
+      stacked-turn e f =
+          let p = getD pops k 0 in
+          let held = heldAt factor order pops k in
+          let next : heldAt factor order pops (k + 1) ≡ heldAfter p r held = rw (add-one, ← rows-here, ← (column-at pops k)) (next-held factor order pops k) in
+          let a = after below held depth p r (inv .deep) enough (inv .sums) inside (getD below (depth - p) 0 + t r) refl in
+          rw (e, f) (record {
+            deep = rw next (a .length-after);
+            few = omega (arith, inv .few, enough);
+            light = rw next (omega (arith, a .sum-after, entries-fit r (omega (arith, rows .1)), inv .light));
+            sums = rw next (a .sums-after);
+            seen = omega arith;
+            wide = omega (arith, inv .wide, length-set below (depth - p + 1) (getD below (depth - p) 0 + t r));
+            long = length-set below (depth - p + 1) (getD below (depth - p) 0 + t r) ∙ inv .long;
+          })
+
+-- ---- the greatest room so far
+
+pub record Peaked (factor order pops below₀ below : List ℕ) (depth most k : ℕ) : Type 0 where
+  pub stacked : Stacked factor order pops below₀ below depth k
+  pub so-far : most ≡ greatest (rooms (rowsAt factor order) (popsAt pops) [] (upTo k))
+
+module _ (factor order pops : List ℕ) where
+  pub peaked-start : (entry : List ℕ) → length order < length entry → Peaked factor order pops (set entry 0 0) (set entry 0 0) 0 0 0
+  unfolding upTo greatest
+  peaked-start entry wide = record { stacked = stacked-start factor order pops entry wide; so-far = rw rooms-nil refl }
+
+  module _ {below₀ below : List ℕ} {depth most k : ℕ} (inv : Peaked factor order pops below₀ below depth most k) where
+    pub peaked-stop : length order ≤ k → most ≡ peakOf (rowsAt factor order) (popsAt pops) (upTo (length order))
+    unfolding peakOf
+    peaked-stop h = let e : k ≡ length order = omega (arith, inv .stacked .seen) in rw (← e) (inv .so-far)
+
+    pub peaked-turn : (pre : Stepped factor order pops) (more : k < length order) {r u m d : ℕ} {b : List ℕ} → (r ≡ rowsIn factor (getD order k 0)) × (r ≤ maxColumns)
+        → u ≡ getD below (depth - min (getD pops k 0) 1) 0 + t (r + 1) → m ≡ max most u → d ≡ depth - getD pops k 0 + min r 1
+        → b ≡ set below (depth - getD pops k 0 + 1) (getD below (depth - getD pops k 0) 0 + t r)
+        → Peaked factor order pops below₀ b d m (k + 1)
+    peaked-turn pre more rows eu em ed eb = record {
+      stacked = stacked-turn factor order pops (inv .stacked) pre more rows ed eb;
+      so-far = rw add-one (omega (arith, next-room factor order pops k, stacked-room factor order pops (inv .stacked) pre more rows eu, inv .so-far));
+    }

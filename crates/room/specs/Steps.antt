@@ -1,7 +1,7 @@
 -- The steps of an order with their pops in two slices: what the pass for the peak is given.
 -- Assumes nothing.
 -- the rows of the column of step s, the steps counted from 1
-use Prim.Native.Nat.{ℕ, suc, _+_, _^_, _<_, _≤_}
+use Prim.Native.Nat.{ℕ, suc, _+_, _*_, _^_, _<_, _≤_}
 use mathlib.Core.Path.{_≡_}
 use mathlib.Core.List.{List, []}
 use lib.ListN.{length, getD}
@@ -9,7 +9,7 @@ use Rattle.papers.specs.Bounds.{maxColumns}
 use Rattle.papers.specs.Lists.{upTo}
 use Rattle.papers.specs.Order.{columnAt}
 use Rattle.order_laws.specs.Held.{heldAfterAll}
-use Rattle.room.specs.Rows.{rowsIn, Column}
+use Rattle.room.specs.Rows.{rowsIn, Column, mostEntries}
 
 abbrev pub rowsAt : List ℕ → List ℕ → ℕ → ℕ
 rowsAt factor order s = rowsIn factor (columnAt order s)
@@ -21,6 +21,13 @@ popsAt pops s = columnAt pops s
 -- the entries of each update held after the first s steps, the top one first
 abbrev pub heldAt : List ℕ → List ℕ → List ℕ → ℕ → List ℕ
 heldAt factor order pops s = heldAfterAll (rowsAt factor order) (popsAt pops) [] (upTo s)
+
+-- a step over the updates held: below has, from the lowest on, their sums and a place for one more
+pub record Over (below : List ℕ) (depth pops rows : ℕ) : Type 0 where
+  pub enough : pops ≤ depth
+  pub inside : depth + 1 < length below
+  pub light : (i : ℕ) → i ≤ depth → getD below i 0 ≤ maxColumns * mostEntries
+  pub few : rows ≤ maxColumns
 
 -- steps of known columns, none of which takes off more updates than are held
 pub record Stepped (factor order pops : List ℕ) : Type 0 where

@@ -1,14 +1,14 @@
 // Pops, room in use and the peak of an order.
 ghost use mathlib.Core.Path.{_≡_};
 ghost use mathlib.Core.List.{map};
-ghost use Prim.Native.Nat.{ℕ, _+_, _<_, _≤_, _^_, min, max};
-ghost use lib.ListN.{length, getD};
+ghost use Prim.Native.Nat.{ℕ, _+_, _-_, _<_, _≤_, _^_, min, max};
+ghost use lib.ListN.{length, getD, set};
 ghost use Rattle.papers.specs.Bounds.{maxColumns};
 ghost use Rattle.papers.specs.Lists.{upTo};
 ghost use Rattle.papers.specs.Tree.{t};
 ghost use Rattle.papers.specs.Room.{peakOf};
 ghost use Rattle.room.specs.Rows.{countAt, rowsIn, Column, mostEntries};
-ghost use Rattle.room.specs.Steps.{rowsAt, popsAt, Stepped, Counted};
+ghost use Rattle.room.specs.Steps.{rowsAt, popsAt, Over, Stepped, Counted};
 
 // t(rows): the entries of a lower triangle.
 pub fn triangle(rows: u64) -> u64
@@ -61,8 +61,27 @@ pub fn count_pops(starts: &[u64], order: &[u32], pops: &mut [u32])
     }
 }
 
-// The peak: the greatest room in use of the steps, each of its column's rows and its pops. below[d] has the entries of the lowest d updates
-// held, so a front that lies over the top update begins at below[depth - 1], and pops and pushes are one store.
+// The room in use at a step of so many pops and rows. below[d] has the entries of the lowest d of the depth updates held, so a front that lies over
+// the top one begins at below[depth - 1].
+pub fn in_use(below: &[u64], depth: usize, pops: usize, rows: u64) -> u64
+    requires { ⌜ Over (now below) depth pops rows ⌝ }
+    ensures { λ r. ⌜ r ≡ getD (now (below .entry)) (depth - min pops 1) 0 + t (rows + 1) ⌝ }
+{
+    below[depth - at_most_one(pops as u64)] + triangle(rows + 1)
+}
+
+// The step done: its pops are off and its update is on, in one store; a root leaves none. Answers how many updates are then held.
+pub fn hold(below: &mut [u64], depth: usize, pops: usize, rows: u64) -> usize
+    requires { ⌜ Over (now below) depth pops rows ⌝ }
+    ensures count { λ r. ⌜ r ≡ depth - pops + min rows 1 ⌝ }
+    ensures sums { λ r. ⌜ now (below .exit) ≡ set (now (below .entry)) (depth - pops + 1) (getD (now (below .entry)) (depth - pops) 0 + t rows) ⌝ }
+{
+    let left = depth - pops;
+    below[left + 1] = below[left] + triangle(rows);
+    left + at_most_one(rows)
+}
+
+// The peak: the greatest room in use of the steps, each of its column's rows and its pops. The first k steps are done, and depth updates are held.
 pub fn peak(factor: &[u64], order: &[u32], pops: &[u32], below: &mut [u64]) -> u64
     requires { ⌜ Stepped (now factor) (now order) (now pops) ⌝ }
     requires room { ⌜ length (now order) < length (now below) ⌝ }
@@ -75,13 +94,8 @@ pub fn peak(factor: &[u64], order: &[u32], pops: &[u32], below: &mut [u64]) -> u
     while k < order.len() {
         let p = pops[k] as usize;
         let rows = rows_of(factor, order[k] as usize);
-        most = greater(
-            most,
-            below[depth - at_most_one(p as u64)] + triangle(rows + 1),
-        );
-        depth -= p;
-        below[depth + 1] = below[depth] + triangle(rows);
-        depth += at_most_one(rows);
+        most = greater(most, in_use(&below[..], depth, p, rows));
+        depth = hold(below, depth, p, rows);
         k += 1;
     }
     most

@@ -1,0 +1,38 @@
+-- The line of a refusal is the word `refused` and its three numbers.
+-- Assumes nothing.
+use Prim.Native.Nat.{ℕ, _≤_}
+use mathlib.Core.Path.{_≡_}
+use mathlib.Core.List.{List, [], _∷_}
+use lib.ListN.{length}
+use lib.Seq.{sets}
+use borrow.Author.Needs.{needs}
+use Rattle.papers.specs.declared.Answer.{Answer}
+use Rattle.papers.specs.Text.{printed, wordRefused, refusalLine}
+use Rattle.printer.proofs.write_refusal.Statement.{statement}
+use Rattle.printer.proofs.write_refusal.Tie as tie
+
+module _ (a : Answer) where
+  line-fits : {n : ℕ} → length (refusalLine a) ≤ n → length (printed wordRefused (a .number ∷ a .place ∷ a .count ∷ [])) ≤ n
+  unfolding refusalLine
+  line-fits h = h
+
+  line-written : (d₀ : List ℕ) {d : List ℕ} {k : ℕ} → (k ≡ length (printed wordRefused (a .number ∷ a .place ∷ a .count ∷ []))) × (d ≡ sets d₀ 0 (printed wordRefused (a .number ∷ a .place ∷ a .count ∷ [])))
+      → (k ≡ length (refusalLine a)) × (d ≡ sets d₀ 0 (refusalLine a))
+  unfolding refusalLine
+  line-written d₀ p = p
+
+slice-aggregate-write-line : tie.Need-slice-aggregate-write-line
+slice-aggregate-write-line c = search needs
+
+write-line-requires : tie.Need-write-line-requires
+write-line-requires c κs = line-fits (c .before .before .before .args .answer) (c .before .before .before .pre)
+
+same-length : tie.Need-same-length
+same-length c = search needs
+
+returns : tie.Need-returns
+returns c = let e = c .before .before .before .before .before .before in line-written (e .args .answer) (e .args .bytes .now) (c .before .before .write-line .ensures)
+
+pub write-refusal-spec : {M : Type 1} → statement M
+write-refusal-spec =
+    tie.close (tie.spec slice-aggregate-write-line write-line-requires same-length returns)

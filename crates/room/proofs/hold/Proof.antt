@@ -1,0 +1,64 @@
+-- The sums are small enough for an update more.
+-- Assumes nothing.
+use Prim.Native.Nat.{ℕ, _+_, _-_}
+use mathlib.Core.Path.{ap}
+use native.Mathlib.Omega.{arith}
+use lib.ListN.{getD, set}
+use borrow.Author.Needs.{needs}
+use Rattle.room.proofs.hold.Statement.{statement}
+use Rattle.room.proofs.hold.Tie as tie
+
+sub-left : tie.Need-sub-left
+sub-left c = search needs
+
+mul-below : tie.Need-mul-below
+mul-below c = search needs
+
+slice-read-below : tie.Need-slice-read-below
+slice-read-below c = search needs
+
+triangle-requires : tie.Need-triangle-requires
+triangle-requires c κs = search needs
+
+add-below : tie.Need-add-below
+add-below c = let h = c .before .before .before .pre .light (c .before .before .before .args .depth - c .before .before .before .args .pops) (omega arith) in omega (arith, c .triangle .ensures)
+
+add-below-2 : tie.Need-add-below-2
+add-below-2 c = search needs
+
+mul-below-2 : tie.Need-mul-below-2
+mul-below-2 c = search needs
+
+slice-write-below : tie.Need-slice-write-below
+slice-write-below c = search needs
+
+at-most-one-requires : tie.Need-at-most-one-requires
+at-most-one-requires c κs = search needs
+
+add-result : tie.Need-add-result
+add-result c = search needs
+
+same-length : tie.Need-same-length
+same-length c = search needs
+
+returns : tie.Need-returns
+returns c = let e = c .before .before .before .before .args in
+    let left = e .depth - e .pops in
+    (omega (arith, c .at-most-one .ensures), ap (λ (v : ℕ). set (e .below .now) (left + 1) (getD (e .below .now) left 0 + v)) (c .before .triangle .ensures .0))
+
+pub hold-spec : {M : Type 1} → statement M
+hold-spec =
+    tie.close
+    (tie.spec
+    sub-left
+    mul-below
+    slice-read-below
+    triangle-requires
+    add-below
+    add-below-2
+    mul-below-2
+    slice-write-below
+    at-most-one-requires
+    add-result
+    same-length
+    returns)

@@ -1,0 +1,51 @@
+-- The sums are small enough for a front more.
+-- Assumes nothing.
+use Prim.Native.Nat.{ℕ, _+_, _-_, min}
+use mathlib.Core.Path.{_≡_}
+use mathlib.Core.List.{List}
+use native.Mathlib.Omega.{arith}
+use lib.ListN.{getD}
+use borrow.Author.Needs.{needs}
+use Rattle.papers.specs.Tree.{t}
+use Rattle.room.proofs.in_use.Statement.{statement}
+use Rattle.room.proofs.in_use.Tie as tie
+
+room-is : (below : List ℕ) (depth pops rows : ℕ) {x u : ℕ} → x ≡ min pops 1 → u ≡ t (rows + 1) → getD below (depth - x) 0 + u ≡ getD below (depth - min pops 1) 0 + t (rows + 1)
+room-is below depth pops rows e f = rw (e, f)
+
+at-most-one-requires : tie.Need-at-most-one-requires
+at-most-one-requires c κs = search needs
+
+sub-result : tie.Need-sub-result
+sub-result c = search needs
+
+mul-result : tie.Need-mul-result
+mul-result c = search needs
+
+shared-slice-read-result : tie.Need-shared-slice-read-result
+shared-slice-read-result c = search needs
+
+add-triangle : tie.Need-add-triangle
+add-triangle c = search needs
+
+triangle-requires : tie.Need-triangle-requires
+triangle-requires c κs = search needs
+
+add-result : tie.Need-add-result
+add-result c = let h = c .before .before .before .before .pre .light (c .before .before .before .before .args .depth - c .before .before .at-most-one .result) (omega arith) in omega (arith, c .triangle .ensures)
+
+returns : tie.Need-returns
+returns c = let e = c .before .before .before .before .args in room-is (e .below .now) (e .depth) (e .pops) (e .rows) (c .before .before .at-most-one .ensures) (c .triangle .ensures .0)
+
+pub in-use-spec : {M : Type 1} → statement M
+in-use-spec =
+    tie.close
+    (tie.spec
+    at-most-one-requires
+    sub-result
+    mul-result
+    shared-slice-read-result
+    add-triangle
+    triangle-requires
+    add-result
+    returns)
