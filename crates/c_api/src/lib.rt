@@ -4,7 +4,7 @@ ghost use mathlib.Core.Path.{_≡_};
 ghost use mathlib.Core.List.{List};
 ghost use Prim.Native.Nat.{ℕ};
 ghost use Rattle.papers.specs.Refusals.{answer, Outcome, Lent};
-ghost use Rattle.papers.specs.Analysis.{keyWritten, analysed};
+ghost use Rattle.papers.specs.Analysis.{keyWritten, analysed, PlanLent, planWritten};
 ghost use Rattle.papers.specs.Run.{ran};
 ghost use Rattle.lent.specs.Six.{six};
 use papers::JobHead;
@@ -58,6 +58,43 @@ pub extern "C" fn ls_analyse(
         fstarts,
         frows,
         work,
+    );
+    *place = answered.place;
+    *count = answered.count;
+    answered.number
+}
+
+// The analysis of a job and its plan in bytes: plan_bytes::write_plan.
+#[no_mangle]
+pub extern "C" fn ls_write_plan(
+    n: u64,
+    starts: &[u64],
+    rows: &[u32],
+    mark: u64,
+    limit: u64,
+    parents: &mut [u32],
+    order: &mut [u32],
+    pops: &mut [u32],
+    fstarts: &mut [u64],
+    frows: &mut [u32],
+    work: &mut [u64],
+    bytes: &mut [u8],
+    place: &mut u64,
+    count: &mut u64,
+) -> u64
+    ensures { λ r. ⌜ _≡_ {A = Outcome PlanLent} (record { answer = answer r (now (place .exit)) (now (count .exit)); lent = record { analysis = six (now (parents .exit)) (now (order .exit)) (now (pops .exit)) (now (fstarts .exit)) (now (frows .exit)) (now (work .exit)); bytes = now (bytes .exit) } }) (planWritten (record { n = n; starts = now (starts .entry); rows = now (rows .entry); mark = mark; limit = limit }) (record { analysis = six (now (parents .entry)) (now (order .entry)) (now (pops .entry)) (now (fstarts .entry)) (now (frows .entry)) (now (work .entry)); bytes = now (bytes .entry) })) ⌝ }
+{
+    let answered = plan_bytes::write_plan(
+        JobHead { n, mark, limit },
+        starts,
+        rows,
+        parents,
+        order,
+        pops,
+        fstarts,
+        frows,
+        work,
+        bytes,
     );
     *place = answered.place;
     *count = answered.count;
