@@ -1,0 +1,82 @@
+-- The part of the rows that is handed on is the column's list.
+-- Assumes nothing.
+use Prim.Native.Nat.{ℕ, _+_, _-_, _<_, _≤_}
+use mathlib.Core.Path.{_≡_, refl}
+use mathlib.Core.List.{List, _∷_}
+use native.Mathlib.Omega.{arith}
+use lib.ListN.{length, getD, take, drop}
+use lib.Seq.{sets}
+use borrow.Author.Needs.{needs}
+use Rattle.papers.specs.Job.{columnOf}
+use Rattle.papers.specs.Text.{decimalOf, printed}
+use Rattle.column_laws.proofs.Columns.{column-part}
+use Rattle.step_lines.proofs.write_column.Statement.{statement}
+use Rattle.step_lines.proofs.write_column.Tie as tie
+
+module _ (starts rows : List ℕ) (j : ℕ) (some : 0 < j) where
+  list-is : take (getD starts j 0 - getD starts (j - 1) 0) (drop (getD starts (j - 1) 0) rows) ≡ columnOf starts rows j
+  list-is = let e : j - 1 + 1 ≡ j = omega arith in rw e at (column-part starts rows (j - 1))
+
+  module _ (pops room at : ℕ) where
+    abbrev line : List ℕ → List ℕ
+    line l = printed (decimalOf j) (pops ∷ room ∷ l)
+
+    line-fits : {n : ℕ} → at + length (line (columnOf starts rows j)) ≤ n → at + length (line (take (getD starts j 0 - getD starts (j - 1) 0) (drop (getD starts (j - 1) 0) rows))) ≤ n
+    line-fits h = rw list-is h
+
+    line-written : (d₀ : List ℕ) {d : List ℕ} {k : ℕ} (l : List ℕ) → l ≡ take (getD starts j 0 - getD starts (j - 1) 0) (drop (getD starts (j - 1) 0) rows)
+        → (k ≡ at + length (line l)) × (d ≡ sets d₀ at (line l)) → (k ≡ at + length (line (columnOf starts rows j))) × (d ≡ sets d₀ at (line (columnOf starts rows j)))
+    line-written d₀ l e p = rw (← list-is, ← e) p
+
+sub-from : tie.Need-sub-from
+sub-from c = search needs
+
+mul-from : tie.Need-mul-from
+mul-from c = search needs
+
+shared-slice-read-from : tie.Need-shared-slice-read-from
+shared-slice-read-from c = search needs
+
+mul-to : tie.Need-mul-to
+mul-to c = search needs
+
+shared-slice-read-to : tie.Need-shared-slice-read-to
+shared-slice-read-to c = search needs
+
+mul-write-step : tie.Need-mul-write-step
+mul-write-step c = search needs
+
+sub-write-step : tie.Need-sub-write-step
+sub-write-step c = search needs
+
+part-write-step-start : tie.Need-part-write-step-start
+part-write-step-start c = search needs
+
+part-write-step-end : tie.Need-part-write-step-end
+part-write-step-end c = search needs
+
+write-step-requires : tie.Need-write-step-requires
+write-step-requires c κs = let e = c .before .before .before .before .before .before .before in line-fits (e .args .fstarts .now) (e .args .frows .now) (e .args .j) (e .pre .0 .0 .some) (e .args .pops) (e .args .room) (e .args .at) (e .pre .1)
+
+same-length : tie.Need-same-length
+same-length c = search needs
+
+returns : tie.Need-returns
+returns c = let e = c .before .before .before .before .before .before .before .before .before .before in line-written (e .args .fstarts .now) (e .args .frows .now) (e .args .j) (e .pre .0 .0 .some) (e .args .pops) (e .args .room) (e .args .at) (e .args .bytes .now) _ refl (c .before .before .write-step .ensures)
+
+pub write-column-spec : {M : Type 1} → statement M
+write-column-spec =
+    tie.close
+    (tie.spec
+    sub-from
+    mul-from
+    shared-slice-read-from
+    mul-to
+    shared-slice-read-to
+    mul-write-step
+    sub-write-step
+    part-write-step-start
+    part-write-step-end
+    write-step-requires
+    same-length
+    returns)

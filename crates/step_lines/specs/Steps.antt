@@ -1,0 +1,28 @@
+-- The lines of the steps of an order, as the slices of an analysis hold it.
+-- Assumes nothing.
+use Prim.Native.Nat.{ℕ, zero, suc, _<_, _≤_}
+use mathlib.Core.List.{List, [], _∷_, _++_}
+use lib.ListN.{length, getD}
+use Rattle.papers.specs.Job.{columnOf}
+use Rattle.papers.specs.Room.{roomAt}
+use Rattle.papers.specs.Text.{decimalOf, printed}
+use Rattle.room.specs.Steps.{rowsAt, popsAt, heldAt, Stepped}
+
+module _ (order pops starts rows : List ℕ) where
+  -- the room in use at the step behind the first k
+  abbrev pub roomBehind : ℕ → ℕ
+  roomBehind k = roomAt (popsAt pops (suc k)) (rowsAt starts order (suc k)) (heldAt starts order pops k)
+
+  -- its line
+  unfoldable pub lineBehind : ℕ → List ℕ
+  lineBehind k = printed (decimalOf (getD order k 0)) (getD pops k 0 ∷ roomBehind k ∷ columnOf starts rows (getD order k 0))
+
+  -- the lines of the first k steps
+  unfoldable pub linesTo : ℕ → List ℕ
+  linesTo zero = []
+  linesTo (suc k) = linesTo k ++ lineBehind k
+
+-- steps that can be done, of columns whose rows are there
+pub record Printable (order pops starts rows : List ℕ) : Type 0 where
+  pub stepped : Stepped starts order pops
+  pub inside : (k : ℕ) → k < length order → getD starts (getD order k 0) 0 ≤ length rows
