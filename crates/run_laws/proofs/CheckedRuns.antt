@@ -1,20 +1,23 @@
 -- What passes the check runs: its bytes are those of a sound plan, the checked slices hold that plan, and the parts handed on are its own lists.
 -- Assumes nothing.
 use Prim.Native.Nat.{ℕ, _<_, _≤_}
-use mathlib.Core.Path.{_≡_, ap}
+use mathlib.Core.Path.{_≡_, sym, ap, subst, _∙_}
 use mathlib.Core.List.{List}
 use native.Mathlib.Omega.{arith}
 use lib.ListN.{length, getD}
-use Rattle.papers.specs.Job.{Job}
+use Rattle.papers.specs.Lists.{zeros}
+use Rattle.papers.specs.Job.{Job, pattern}
 use Rattle.papers.specs.Plan.{Plan, planOf}
-use Rattle.papers.specs.Refusals.{passed, first, jobTests, Outcome, Lent}
+use Rattle.papers.specs.Refusals.{answer, passed, first, jobTests, Outcome, Lent}
 use Rattle.papers.specs.Analysis.{holdingPlan, PlanLent, planWritten}
 use Rattle.papers.specs.Check.{checked}
-use Rattle.papers.specs.Sound.{Sound}
+use Rattle.papers.specs.Run.{ran}
+use Rattle.papers.specs.Sound.{Sound, handedOn}
+use Rattle.papers.specs.declared.Answer.{Answer}
 use Rattle.plan_laws.proofs.Sounds.{sound-fits, planned-sound}
 use Rattle.plan_laws.proofs.Checked.{check-holds, check-passes-iff}
 use Rattle.plan_laws.proofs.Written.{written-valid, written-within, written-holds}
-use Rattle.run_laws.specs.Runs.{RunsInPeak, CheckedRun}
+use Rattle.run_laws.specs.Runs.{Runs, RunsInPeak, CheckedRun}
 use Rattle.run_laws.proofs.SoundRuns.{sound-plan-runs, less-room-refused}
 use Rattle.run_laws.proofs.HandedOn.{handed-on}
 
@@ -39,6 +42,20 @@ module _ (job : Job) (stack : List ℕ) (long : job .n ≤ length stack) where
         counted = ap (λ (o : Outcome Lent). o .answer) holds;
         in-peak = rw holds (held-plan-runs plan lent (p .valid) (p .sound));
       }
+
+  -- the same of what the code answers: o any outcome that the contract of the check allows, r any that the contract of the run allows on the parts
+  -- handed on, with the count answered as room
+  pub answers-run : (bytes : List ℕ) → ((i : ℕ) → getD bytes i 0 < 256) → (lent : Lent) (o : Outcome Lent) (r : Outcome (List ℕ))
+      → o ≡ checked job bytes lent → o .answer .number ≡ 0 → r ≡ ran (handedOn (job .n) (o .lent) (o .answer .count) stack)
+      → (r ≡ record { answer = answer 0 0 (o .answer .count); lent = zeros stack }) × Runs (pattern job) (o .answer .count) (handedOn (job .n) (o .lent) (o .answer .count) stack)
+  unfolding handedOn
+  answers-run bytes are-bytes lent o r e done f =
+      let runs = subst (λ (x : Outcome Lent). x .answer .number ≡ 0 → Runs (pattern job) (x .answer .count) (handedOn (job .n) (x .lent) (x .answer .count) stack)) (sym e) counted done in
+      (f ∙ runs .completes, runs)
+    where
+      counted : checked job bytes lent .answer .number ≡ 0
+          → Runs (pattern job) (checked job bytes lent .answer .count) (handedOn (job .n) (checked job bytes lent .lent) (checked job bytes lent .answer .count) stack)
+      counted z = let c = checked-plan-runs bytes are-bytes lent z in let k = ap (λ (a : Answer). a .count) (c .counted) in rw k (c .in-peak .runs)
 
   -- the lists of a plan that was written run as well
   pub written-plan-runs : (slices : PlanLent) → planWritten job slices .answer .number ≡ 0 → RunsInPeak job (planWritten job slices .lent .analysis) (planOf job .peak) stack
