@@ -13,7 +13,7 @@ ghost use Rattle.papers.specs.Refusals.{answer, passed, first, jobTests};
 ghost use Rattle.plan_judge.specs.Judged.{HoldPlan, SomeOnTree, TreeJudged, Judged};
 
 // An answer, of its three numbers.
-fn answered(number: u64, place: u64, count: u64) -> Answer
+pub fn answered(number: u64, place: u64, count: u64) -> Answer
     ensures { λ r. ⌜ r ≡ answer number place count ⌝ }
 {
     Answer {
