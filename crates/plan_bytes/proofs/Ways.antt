@@ -18,8 +18,8 @@ use Rattle.job_laws.proofs.Firsts.{first-append-passed, first-append-refused, f
 use Rattle.job_laws.proofs.Outcomes.{outcome-untouched, outcome-zeroed, outcome-done}
 use Rattle.refusal_laws.proofs.Exactly.{Leaving}
 use Rattle.refusal_laws.proofs.Analysis.{analysis-leaving}
-use Rattle.plan_bytes.specs.Stored.{stored}
-use Rattle.plan_bytes.proofs.Stores.{short-is, whole-is}
+use Rattle.plan_writer.specs.Stored.{stored}
+use Rattle.plan_writer.proofs.Stores.{short-is, whole-is}
 
 -- the parts of two outcomes that are one
 answers : {S : Type 0} {a b : Answer} {x y : S} → _≡_ {A = Outcome S} (record { answer = a; lent = x }) (record { answer = b; lent = y }) → a ≡ b
