@@ -27,7 +27,7 @@ use Rattle.plan_laws.specs.Passing.{Long}
 use Rattle.plan_laws.proofs.Slices.{long-iff}
 use Rattle.plan_laws.proofs.Sounds.{sound-fits, planned-sound}
 use Rattle.plan_writer.proofs.Steps.{steps-again}
-use Rattle.plan_bytes.specs.InFront.{InFront}
+use Rattle.plan_store.specs.InFront.{InFront}
 use Rattle.plan_bytes.proofs.Ways.{analysis-done}
 
 -- the front of a slice that holds a result of so many numbers
