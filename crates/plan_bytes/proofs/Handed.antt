@@ -7,18 +7,17 @@ use mathlib.Core.List.{List}
 use native.Mathlib.Omega.{arith}
 use lib.ListN.{length, getD, take, length-map, List·getD-append}
 use Rattle.papers.specs.declared.Answer.{Answer}
-use Rattle.papers.specs.Bounds.{maxColumns}
 use Rattle.papers.specs.Lists.{flat, startsFrom, thenZeros}
 use Rattle.papers.specs.Job.{Job, columnOf}
 use Rattle.papers.specs.Key.{listsOf}
-use Rattle.papers.specs.Plan.{columnsIn, popsIn, planOf, planBytes}
+use Rattle.papers.specs.Plan.{columnsIn, popsIn, planOf}
 use Rattle.papers.specs.Refusals.{passed, first, Outcome, jobTests, Lent, holding, peakTest}
 use Rattle.papers.specs.Analysis.{holdingPlan, analysisTests, analysed}
 use Rattle.list_laws.proofs.Stores.{length-then-zeros, take-then-zeros, length-starts}
 use Rattle.bytes_laws.proofs.Plans.{Fit}
 use Rattle.job_laws.proofs.Firsts.{first-passed-iff, over-passes-iff}
 use Rattle.job_laws.proofs.Starts.{start-at}
-use Rattle.job_laws.proofs.Passed.{PassedLists, lists-iff, passes-iff}
+use Rattle.job_laws.proofs.Passed.{PassedLists, lists-iff}
 use Rattle.job_laws.proofs.Laid.{laid-lists}
 use Rattle.job_laws.proofs.Readable.{laid-pass}
 use Rattle.refusal_laws.proofs.Agreements.{agree-passed-iff}
@@ -27,21 +26,13 @@ use Rattle.refusal_laws.proofs.Exactly.{_&_}
 use Rattle.plan_laws.specs.Passing.{Long}
 use Rattle.plan_laws.proofs.Slices.{long-iff}
 use Rattle.plan_laws.proofs.Sounds.{sound-fits, planned-sound}
-use Rattle.plan_writer.specs.Lists.{planIn, Writable}
 use Rattle.plan_writer.proofs.Steps.{steps-again}
-use Rattle.plan_bytes.specs.Stored.{stored}
+use Rattle.plan_store.specs.InFront.{InFront}
 use Rattle.plan_bytes.proofs.Ways.{analysis-done}
 
 -- the front of a slice that holds a result of so many numbers
 front : (xs l : List ℕ) (k : ℕ) → length xs ≡ k → take k (thenZeros xs l) ≡ xs
 front xs l k e = rw (← e) (take-then-zeros xs l)
-
--- the slices are long enough for the fronts that a plan of n columns takes
-pub record FrontsFit (n : ℕ) (lent : Lent) : Type 0 where
-  pub order : n ≤ length (lent .order)
-  pub pops : n ≤ length (lent .pops)
-  pub starts : n + 1 ≤ length (lent .factorStarts)
-  pub rows : getD (lent .factorStarts) n 0 ≤ length (lent .factorRows)
 
 module _ (job : Job) (lent : Lent) (p : first analysisTests (record { job = job; lent = lent }) ≡ passed) where
   -- ---- what its tests say
@@ -125,28 +116,20 @@ module _ (job : Job) (lent : Lent) (p : first analysisTests (record { job = job;
     rows-front : take (getD (after .factorStarts) (job .n) 0) (after .factorRows) ≡ flat (planOf job .lists)
     rows-front = rw (last-is, rows-hold) (front _ _ _ refl)
 
-    -- the slices are long enough for them
-    pub fronts-fit : FrontsFit (job .n) after
-    fronts-fit =
-        record {
-          order = omega (arith, ap length order-holds, length-then-zeros (columnsIn (planOf job .steps)) (lent .order) (omega (arith, length-columns, long .order)), long .order);
-          pops = omega (arith, ap length pops-hold, length-then-zeros (popsIn (planOf job .steps)) (lent .pops) (omega (arith, length-pops, long .pops)), long .pops);
-          starts = omega (arith, ap length starts-hold, length-then-zeros (startsFrom 0 (planOf job .lists)) (lent .factorStarts) (omega (arith, length-begins, long .starts)), long .starts);
-          rows = omega (arith, last-is, ap length rows-hold, length-then-zeros (flat (planOf job .lists)) (lent .factorRows) (long .rows), long .rows);
-        }
-
-    -- so they can be written
-    pub handed : Writable job (take (job .n) (after .order)) (take (job .n) (after .pops)) (take (job .n + 1) (after .factorStarts))
-        (take (getD (after .factorStarts) (job .n) 0) (after .factorRows)) (planOf job .peak)
-    handed =
+    -- so the plan of the job lies in front of the slices
+    pub in-front : InFront job (after .order) (after .pops) (after .factorStarts) (after .factorRows) (planOf job .peak)
+    in-front =
         let tests = lists-iff (job .n) (startsFrom 0 (planOf job .lists)) (flat (planOf job .lists)) .1 factor in
-        rw (order-front, pops-front, starts-front, rows-front)
-        (record { passes = valid; all-steps = length-columns; all-pops = length-pops; starts-pass = tests .0; rows-pass = tests .1; declared = fit .peak })
-
-    -- and are the plan of the job
-    pub planned : planIn (job .n) (take (job .n) (after .order)) (take (job .n) (after .pops)) (take (job .n + 1) (after .factorStarts))
-        (take (getD (after .factorStarts) (job .n) 0) (after .factorRows)) (planOf job .peak) ≡ planOf job
-    planned = rw (order-front, pops-front, starts-front, rows-front, steps-again (planOf job .steps), lists-again)
+        record {
+          order-long = omega (arith, ap length order-holds, length-then-zeros (columnsIn (planOf job .steps)) (lent .order) (omega (arith, length-columns, long .order)), long .order);
+          pops-long = omega (arith, ap length pops-hold, length-then-zeros (popsIn (planOf job .steps)) (lent .pops) (omega (arith, length-pops, long .pops)), long .pops);
+          starts-long = omega (arith, ap length starts-hold, length-then-zeros (startsFrom 0 (planOf job .lists)) (lent .factorStarts) (omega (arith, length-begins, long .starts)), long .starts);
+          rows-long = omega (arith, last-is, ap length rows-hold, length-then-zeros (flat (planOf job .lists)) (lent .factorRows) (long .rows), long .rows);
+          writable =
+              rw (order-front, pops-front, starts-front, rows-front)
+              (record { passes = valid; all-steps = length-columns; all-pops = length-pops; starts-pass = tests .0; rows-pass = tests .1; declared = fit .peak });
+          planned = rw (order-front, pops-front, starts-front, rows-front, steps-again (planOf job .steps), lists-again);
+        }
 
 -- ---- an analysis that answers 0, in the words of its contract
 
@@ -157,19 +140,5 @@ module _ (job : Job) (lent : Lent) {r : Answer} {after : Lent} (e : _≡_ {A = O
   pub done-holds : after ≡ holdingPlan job (planOf job) lent
   done-holds = analysis-done job lent e z .2
 
-  pub few-columns : job .n ≤ maxColumns
-  few-columns = passes-iff job .0 (valid job lent done-passes) .few
-
-  pub done-fronts : FrontsFit (job .n) after
-  done-fronts = fronts-fit job lent done-passes done-holds
-
-  pub done-writable : Writable job (take (job .n) (after .order)) (take (job .n) (after .pops)) (take (job .n + 1) (after .factorStarts))
-      (take (getD (after .factorStarts) (job .n) 0) (after .factorRows)) (r .count)
-  done-writable = rw (analysis-done job lent e z .1) (handed job lent done-passes done-holds)
-
-  -- what is stored of it is the plan of the job
-  pub done-stored : (bytes₀ : List ℕ) {s : Answer} {bytes : List ℕ}
-      → _≡_ {A = Outcome (List ℕ)} (record { answer = s; lent = bytes })
-      (stored (planBytes job (planIn (job .n) (take (job .n) (after .order)) (take (job .n) (after .pops)) (take (job .n + 1) (after .factorStarts)) (take (getD (after .factorStarts) (job .n) 0) (after .factorRows)) (r .count))) bytes₀)
-      → _≡_ {A = Outcome (List ℕ)} (record { answer = s; lent = bytes }) (stored (planBytes job (planOf job)) bytes₀)
-  done-stored bytes₀ f = rw (analysis-done job lent e z .1, planned job lent done-passes done-holds) at f
+  pub done-in-front : InFront job (after .order) (after .pops) (after .factorStarts) (after .factorRows) (r .count)
+  done-in-front = rw (analysis-done job lent e z .1) (in-front job lent done-passes done-holds)

@@ -18,8 +18,8 @@ use Rattle.job_laws.proofs.Firsts.{first-append-passed, first-append-refused, f
 use Rattle.job_laws.proofs.Outcomes.{outcome-untouched, outcome-zeroed, outcome-done}
 use Rattle.refusal_laws.proofs.Exactly.{Leaving}
 use Rattle.refusal_laws.proofs.Analysis.{analysis-leaving}
-use Rattle.plan_bytes.specs.Stored.{stored}
-use Rattle.plan_bytes.proofs.Stores.{short-is, whole-is}
+use Rattle.plan_store.specs.Beside.{storedBeside}
+use Rattle.plan_store.proofs.Besides.{beside-short, beside-whole}
 
 -- the parts of two outcomes that are one
 answers : {S : Type 0} {a b : Answer} {x y : S} → _≡_ {A = Outcome S} (record { answer = a; lent = x }) (record { answer = b; lent = y }) → a ≡ b
@@ -112,23 +112,14 @@ module _ (job : Job) (slices : PlanLent) where
     unfolding planWritten planDone bytesTest
     whole-way h = outcome-done planTests planDone planZero call slices (last-test ∙ over-passes-iff (length (slices .bytes)) (length written) _ zeroed .1 h)
 
-    module _ {r : Answer} {bytes : List ℕ} (e : _≡_ {A = Outcome (List ℕ)} (record { answer = r; lent = bytes }) (stored (planBytes job (planOf job)) (slices .bytes))) {after : Lent} where
-      -- 10: all zero
-      pub way-short : r .number ≢ 0 → after ≡ allZero (slices .analysis)
-          → _≡_ {A = Outcome PlanLent} (record { answer = r; lent = record { analysis = after; bytes = bytes } }) (planWritten job slices)
-      way-short z a = go (below-or (length (slices .bytes)) (length written))
-        where
-          go : (length (slices .bytes) < length written) ⊎ (length written ≤ length (slices .bytes))
-              → _≡_ {A = Outcome PlanLent} (record { answer = r; lent = record { analysis = after; bytes = bytes } }) (planWritten job slices)
-          go (inl h) = let f = e ∙ short-is written (slices .bytes) h in rw (a, answers f, lents f) (sym (short-way h))
-          go (inr h) = absurd (z (numbers (answers (e ∙ whole-is written (slices .bytes) h))))
+    -- what is stored beside the analysis is the outcome
+    pub way-stored : {after : Lent} {found : Outcome PlanLent} → after ≡ holdingPlan job (planOf job) (slices .analysis) → allZero after ≡ allZero (slices .analysis)
+        → found ≡ storedBeside (planBytes job (planOf job)) (record { analysis = after; bytes = slices .bytes }) → found ≡ planWritten job slices
+    way-stored {after} {found} h z e = go (below-or (length (slices .bytes)) (length written))
+      where
+        beside : PlanLent
+        beside = record { analysis = after; bytes = slices .bytes }
 
-      -- done: the slices hold the analysis and the plan
-      pub way-done : r .number ≡ 0 → after ≡ holdingPlan job (planOf job) (slices .analysis)
-          → _≡_ {A = Outcome PlanLent} (record { answer = r; lent = record { analysis = after; bytes = bytes } }) (planWritten job slices)
-      way-done z a = go (below-or (length (slices .bytes)) (length written))
-        where
-          go : (length (slices .bytes) < length written) ⊎ (length written ≤ length (slices .bytes))
-              → _≡_ {A = Outcome PlanLent} (record { answer = r; lent = record { analysis = after; bytes = bytes } }) (planWritten job slices)
-          go (inl h) = absurd (omega (arith, numbers (answers (e ∙ short-is written (slices .bytes) h))))
-          go (inr h) = let f = e ∙ whole-is written (slices .bytes) h in rw (a, answers f, lents f) (sym (whole-way h))
+        go : (length (slices .bytes) < length written) ⊎ (length written ≤ length (slices .bytes)) → found ≡ planWritten job slices
+        go (inl l) = e ∙ beside-short written beside l ∙ rw z (sym (short-way l))
+        go (inr l) = e ∙ beside-whole written beside l ∙ rw h (sym (whole-way l))

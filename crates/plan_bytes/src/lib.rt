@@ -1,58 +1,11 @@
 // The plan of a job written into a lent slice: its entry point.
 ghost use mathlib.Core.Path.{_≡_};
-ghost use mathlib.Core.List.{List};
-ghost use Prim.Native.Nat.{ℕ};
 ghost use Rattle.papers.specs.Job.{jobOf};
-ghost use Rattle.papers.specs.Plan.{planBytes};
 ghost use Rattle.papers.specs.Refusals.{Outcome};
 ghost use Rattle.papers.specs.Analysis.{PlanLent, planWritten};
 ghost use Rattle.lent.specs.Six.{six};
-ghost use Rattle.plan_writer.specs.Lists.{planIn, Writable};
-ghost use Rattle.plan_bytes.specs.Stored.{stored};
 use papers::Answer;
 use papers::JobHead;
-
-// The plan of a job, whose steps, lists and peak are these, in a lent slice, then zeros; 10 with the bytes needed where it does not fit.
-pub fn store_plan(
-    head: JobHead,
-    starts: &[u64],
-    rows: &[u32],
-    order: &[u32],
-    pops: &[u32],
-    fstarts: &[u64],
-    frows: &[u32],
-    peak: u64,
-    bytes: &mut [u8],
-) -> Answer
-    requires { ⌜ Writable (jobOf head (now starts) (now rows)) (now order) (now pops) (now fstarts) (now frows) peak ⌝ }
-    ensures { λ r. ⌜ _≡_ {A = Outcome (List ℕ)} (record { answer = r; lent = now (bytes .exit) }) (stored (planBytes (jobOf head (now (starts .entry)) (now (rows .entry))) (planIn (head .n) (now (order .entry)) (now (pops .entry)) (now (fstarts .entry)) (now (frows .entry)) peak)) (now (bytes .entry))) ⌝ }
-{
-    let needed = plan_writer::plan_length(head, starts, rows, order, pops, fstarts, frows, peak);
-    slices::clear8(bytes);
-    if bytes.len() < needed {
-        return Answer {
-            number: 10,
-            place: 0,
-            count: needed as u64,
-        };
-    }
-    let written = plan_writer::put_plan(
-        head,
-        starts,
-        rows,
-        order,
-        pops,
-        fstarts,
-        frows,
-        peak,
-        bytes,
-    );
-    Answer {
-        number: 0,
-        place: 0,
-        count: written as u64,
-    }
-}
 
 // The analysis of a job, and its plan in a lent slice: 1 to 9 as the analysis has them, then 10 with the bytes needed. Done, the slices hold the analysis
 // and the plan, then zeros, and the count is the plan's bytes.
@@ -88,22 +41,17 @@ pub fn write_plan(
         slices::clear8(bytes);
         return analysed;
     }
-    let n = head.n as usize;
-    let last = fstarts[n] as usize;
-    let stored = store_plan(
+    plan_store::store_beside(
         head,
         starts,
         rows,
-        &order[..n],
-        &pops[..n],
-        &fstarts[..n + 1],
-        &frows[..last],
+        parents,
+        order,
+        pops,
+        fstarts,
+        frows,
+        work,
         analysed.count,
         bytes,
-    );
-    if stored.number != 0 {
-        lent::clear_all(parents, order, pops, fstarts, frows, work);
-        return stored;
-    }
-    stored
+    )
 }

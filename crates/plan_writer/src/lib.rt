@@ -1,13 +1,17 @@
 // The bytes of a plan: its key, its steps, its lists and its peak, counted, and written into a lent slice.
 ghost use mathlib.Core.Path.{_≡_};
-ghost use Prim.Native.Nat.{_+_, _≤_};
+ghost use mathlib.Core.List.{List};
+ghost use Prim.Native.Nat.{ℕ, _+_, _≤_};
 ghost use lib.ListN.{length};
 ghost use lib.Seq.{sets};
 ghost use Rattle.papers.specs.Bounds.{maxColumns};
 ghost use Rattle.papers.specs.Numbers.{encode};
 ghost use Rattle.papers.specs.Job.{jobOf};
 ghost use Rattle.papers.specs.Plan.{stepNumbers, planBytes};
+ghost use Rattle.papers.specs.Refusals.{Outcome};
 ghost use Rattle.plan_writer.specs.Lists.{stepsIn, planIn, Writable};
+ghost use Rattle.plan_writer.specs.Stored.{stored};
+use papers::Answer;
 use papers::JobHead;
 
 // How many bytes the steps have, each a column and its pops. The first i are counted.
@@ -82,4 +86,36 @@ pub fn put_plan(
     let steps = write_steps(order, pops, bytes, key);
     let lists = key::write_lists(head.n, fstarts, frows, bytes, steps);
     groups::put(bytes, lists, peak)
+}
+
+// The plan of a job, whose steps, lists and peak are these, in a lent slice, then zeros; 10 with the bytes needed where it does not fit.
+pub fn store_plan(
+    head: JobHead,
+    starts: &[u64],
+    rows: &[u32],
+    order: &[u32],
+    pops: &[u32],
+    fstarts: &[u64],
+    frows: &[u32],
+    peak: u64,
+    bytes: &mut [u8],
+) -> Answer
+    requires { ⌜ Writable (jobOf head (now starts) (now rows)) (now order) (now pops) (now fstarts) (now frows) peak ⌝ }
+    ensures { λ r. ⌜ _≡_ {A = Outcome (List ℕ)} (record { answer = r; lent = now (bytes .exit) }) (stored (planBytes (jobOf head (now (starts .entry)) (now (rows .entry))) (planIn (head .n) (now (order .entry)) (now (pops .entry)) (now (fstarts .entry)) (now (frows .entry)) peak)) (now (bytes .entry))) ⌝ }
+{
+    let needed = plan_length(head, starts, rows, order, pops, fstarts, frows, peak);
+    slices::clear8(bytes);
+    if bytes.len() < needed {
+        return Answer {
+            number: 10,
+            place: 0,
+            count: needed as u64,
+        };
+    }
+    let written = put_plan(head, starts, rows, order, pops, fstarts, frows, peak, bytes);
+    Answer {
+        number: 0,
+        place: 0,
+        count: written as u64,
+    }
 }

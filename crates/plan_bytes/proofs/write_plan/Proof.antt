@@ -1,12 +1,10 @@
--- A law for each way out: a refusal of the analysis before and after 7, a slice too short for the bytes, and the plan written. Where the analysis is
--- done, the fronts of its slices are the plan.
+-- A law for each way out: a refusal of the analysis up to 7 and after it, and the plan stored beside the analysis or refused there.
 -- Assumes nothing.
-use mathlib.Core.Path.{refl, sym, _∙_}
+use mathlib.Core.Path.{refl, _∙_}
 use native.Mathlib.Omega.{arith}
-use lib.Seq.{length-take-le}
 use Rattle.lent_lists.proofs.Listings.{zeros-alike}
-use Rattle.plan_bytes.proofs.Ways.{way-refused, way-short, way-done}
-use Rattle.plan_bytes.proofs.Handed.{done-passes, done-holds, few-columns, done-fronts, done-writable, done-stored}
+use Rattle.plan_bytes.proofs.Ways.{way-refused, way-stored}
+use Rattle.plan_bytes.proofs.Handed.{done-passes, done-holds, done-in-front}
 use Rattle.plan_bytes.proofs.write_plan.Statement.{statement}
 use Rattle.plan_bytes.proofs.write_plan.Tie as tie
 
@@ -61,98 +59,35 @@ same-length-13 c = c .before .before .clear8 .kept .0
 returns-2 : tie.Need-returns-2
 returns-2 c = way-refused _ _ (c .before .before .before .before .before .before .before .before .before .before .before .before .before .before .before .before .before .before .before .before .analyse .ensures) (c .before .before .before .before .before .before .if1 .taken) (λ h. absurd (omega (arith, c .before .before .before .before .if2 .left))) (λ h. c .before .before .clear8 .ensures)
 
-mul-last : tie.Need-mul-last
-mul-last c = omega (arith, few-columns _ _ (c .before .before .before .before .before .before .before .before .before .before .before .before .before .before .analyse .ensures) (c .if1 .left))
-
-slice-read-last : tie.Need-slice-read-last
-slice-read-last c = let f = done-fronts _ _ (c .before .before .before .before .before .before .before .before .before .before .before .before .before .before .before .analyse .ensures) (c .before .if1 .left) .starts in omega arith
-
-slice-reshare-prefix-store-plan : tie.Need-slice-reshare-prefix-store-plan
-slice-reshare-prefix-store-plan c = done-fronts _ _ (c .before .before .before .before .before .before .before .before .before .before .before .before .before .before .before .analyse .ensures) (c .before .if1 .left) .order
-
-slice-aggregate-store-plan : tie.Need-slice-aggregate-store-plan
-slice-aggregate-store-plan c = sym (length-take-le _ _ (done-fronts _ _ (c .before .before .before .before .before .before .before .before .before .before .before .before .before .before .before .before .analyse .ensures) (c .before .before .if1 .left) .order))
-
-slice-reshare-prefix-store-plan-2 : tie.Need-slice-reshare-prefix-store-plan-2
-slice-reshare-prefix-store-plan-2 c = done-fronts _ _ (c .before .before .before .before .before .before .before .before .before .before .before .before .before .before .before .before .analyse .ensures) (c .before .before .if1 .left) .pops
-
-slice-aggregate-store-plan-2 : tie.Need-slice-aggregate-store-plan-2
-slice-aggregate-store-plan-2 c = sym (length-take-le _ _ (done-fronts _ _ (c .before .before .before .before .before .before .before .before .before .before .before .before .before .before .before .before .before .analyse .ensures) (c .before .before .before .if1 .left) .pops))
-
-add-store-plan : tie.Need-add-store-plan
-add-store-plan c = omega (arith, few-columns _ _ (c .before .before .before .before .before .before .before .before .before .before .before .before .before .before .before .before .before .analyse .ensures) (c .before .before .before .if1 .left))
-
-slice-reshare-prefix-store-plan-3 : tie.Need-slice-reshare-prefix-store-plan-3
-slice-reshare-prefix-store-plan-3 c = done-fronts _ _ (c .before .before .before .before .before .before .before .before .before .before .before .before .before .before .before .before .before .analyse .ensures) (c .before .before .before .if1 .left) .starts
-
-slice-aggregate-store-plan-3 : tie.Need-slice-aggregate-store-plan-3
-slice-aggregate-store-plan-3 c = sym (length-take-le _ _ (done-fronts _ _ (c .before .before .before .before .before .before .before .before .before .before .before .before .before .before .before .before .before .before .analyse .ensures) (c .before .before .before .before .if1 .left) .starts))
-
-slice-reshare-prefix-store-plan-4 : tie.Need-slice-reshare-prefix-store-plan-4
-slice-reshare-prefix-store-plan-4 c = done-fronts _ _ (c .before .before .before .before .before .before .before .before .before .before .before .before .before .before .before .before .before .before .analyse .ensures) (c .before .before .before .before .if1 .left) .rows
-
-slice-aggregate-store-plan-4 : tie.Need-slice-aggregate-store-plan-4
-slice-aggregate-store-plan-4 c = sym (length-take-le _ _ (done-fronts _ _ (c .before .before .before .before .before .before .before .before .before .before .before .before .before .before .before .before .before .before .before .analyse .ensures) (c .before .before .before .before .before .if1 .left) .rows))
-
-store-plan-requires : tie.Need-store-plan-requires
-store-plan-requires c κs = done-writable _ _ (c .before .before .before .before .before .before .before .before .before .before .before .before .before .before .before .before .before .before .before .before .analyse .ensures) (c .before .before .before .before .before .before .if1 .left)
-
-clear-all-requires : tie.Need-clear-all-requires
-clear-all-requires c κs = tt
+store-beside-requires : tie.Need-store-beside-requires
+store-beside-requires c κs = done-in-front _ _ (c .before .before .before .before .before .before .before .before .before .before .before .before .before .before .before .before .before .before .before .before .before .analyse .ensures) (c .before .before .before .before .before .before .before .if1 .left)
 
 same-length-14 : tie.Need-same-length-14
-same-length-14 c = c .before .before .before .before .before .before .before .before .before .before .before .before .clear-all .kept .0 ∙ c .before .before .before .before .before .before .before .before .before .before .before .before .before .before .before .before .before .before .before .before .before .before .before .before .before .before .before .before .before .before .before .before .before .before .before .before .before .before .before .before .before .before .before .before .analyse .kept .1 .1 .1 .0
+same-length-14 c = c .before .before .before .before .before .before .before .before .before .before .before .before .before .before .store-beside .kept .1 .1 .1 .0 ∙ c .before .before .before .before .before .before .before .before .before .before .before .before .before .before .before .before .before .before .before .before .before .before .before .before .before .before .before .before .before .before .before .before .before .before .before .before .analyse .kept .1 .1 .1 .0
 
 same-length-15 : tie.Need-same-length-15
-same-length-15 c = c .before .before .before .before .before .before .before .before .before .before .before .before .clear-all .kept .1 .0 ∙ c .before .before .before .before .before .before .before .before .before .before .before .before .before .before .before .before .before .before .before .before .before .before .before .before .before .before .before .before .before .before .before .before .before .before .before .before .before .before .before .before .before .before .before .before .analyse .kept .1 .1 .1 .1 .0
+same-length-15 c = c .before .before .before .before .before .before .before .before .before .before .before .before .before .before .store-beside .kept .1 .1 .1 .1 .0 ∙ c .before .before .before .before .before .before .before .before .before .before .before .before .before .before .before .before .before .before .before .before .before .before .before .before .before .before .before .before .before .before .before .before .before .before .before .before .analyse .kept .1 .1 .1 .1 .0
 
 same-length-16 : tie.Need-same-length-16
-same-length-16 c = c .before .before .before .before .before .before .before .before .before .before .before .before .clear-all .kept .1 .1 .0 ∙ c .before .before .before .before .before .before .before .before .before .before .before .before .before .before .before .before .before .before .before .before .before .before .before .before .before .before .before .before .before .before .before .before .before .before .before .before .before .before .before .before .before .before .before .before .analyse .kept .1 .1 .1 .1 .1 .0
+same-length-16 c = c .before .before .before .before .before .before .before .before .before .before .before .before .before .before .store-beside .kept .1 .1 .1 .1 .1 .0 ∙ c .before .before .before .before .before .before .before .before .before .before .before .before .before .before .before .before .before .before .before .before .before .before .before .before .before .before .before .before .before .before .before .before .before .before .before .before .analyse .kept .1 .1 .1 .1 .1 .0
 
 same-length-17 : tie.Need-same-length-17
-same-length-17 c = c .before .before .before .before .before .before .before .before .before .before .before .before .clear-all .kept .1 .1 .1 .0 ∙ c .before .before .before .before .before .before .before .before .before .before .before .before .before .before .before .before .before .before .before .before .before .before .before .before .before .before .before .before .before .before .before .before .before .before .before .before .before .before .before .before .before .before .before .before .analyse .kept .1 .1 .1 .1 .1 .1 .0
+same-length-17 c = c .before .before .before .before .before .before .before .before .before .before .before .before .before .before .store-beside .kept .1 .1 .1 .1 .1 .1 .0 ∙ c .before .before .before .before .before .before .before .before .before .before .before .before .before .before .before .before .before .before .before .before .before .before .before .before .before .before .before .before .before .before .before .before .before .before .before .before .analyse .kept .1 .1 .1 .1 .1 .1 .0
 
 same-length-18 : tie.Need-same-length-18
-same-length-18 c = c .before .before .before .before .before .before .before .before .before .before .before .before .clear-all .kept .1 .1 .1 .1 .0 ∙ c .before .before .before .before .before .before .before .before .before .before .before .before .before .before .before .before .before .before .before .before .before .before .before .before .before .before .before .before .before .before .before .before .before .before .before .before .before .before .before .before .before .before .before .before .analyse .kept .1 .1 .1 .1 .1 .1 .1 .0
+same-length-18 c = c .before .before .before .before .before .before .before .before .before .before .before .before .before .before .store-beside .kept .1 .1 .1 .1 .1 .1 .1 .0 ∙ c .before .before .before .before .before .before .before .before .before .before .before .before .before .before .before .before .before .before .before .before .before .before .before .before .before .before .before .before .before .before .before .before .before .before .before .before .analyse .kept .1 .1 .1 .1 .1 .1 .1 .0
 
 same-length-19 : tie.Need-same-length-19
-same-length-19 c = c .before .before .before .before .before .before .before .before .before .before .before .before .clear-all .kept .1 .1 .1 .1 .1 .0 ∙ c .before .before .before .before .before .before .before .before .before .before .before .before .before .before .before .before .before .before .before .before .before .before .before .before .before .before .before .before .before .before .before .before .before .before .before .before .before .before .before .before .before .before .before .before .analyse .kept .1 .1 .1 .1 .1 .1 .1 .1 .0
+same-length-19 c = c .before .before .before .before .before .before .before .before .before .before .before .before .before .before .store-beside .kept .1 .1 .1 .1 .1 .1 .1 .1 .0 ∙ c .before .before .before .before .before .before .before .before .before .before .before .before .before .before .before .before .before .before .before .before .before .before .before .before .before .before .before .before .before .before .before .before .before .before .before .before .analyse .kept .1 .1 .1 .1 .1 .1 .1 .1 .0
 
 same-length-20 : tie.Need-same-length-20
-same-length-20 c = c .before .before .before .before .before .before .before .before .before .before .before .before .before .before .before .before .before .before .before .before .before .before .before .store-plan .kept .1 .1 .1 .1 .1 .1 .1 .1 .0
+same-length-20 c = c .before .before .before .before .before .before .before .before .before .before .before .before .before .before .store-beside .kept .1 .1 .1 .1 .1 .1 .1 .1 .1 .1 .0
 
 returns-3 : tie.Need-returns-3
 returns-3 c =
-    let e = c .before .before .before .before .before .before .before .before .before .before .before .before .before .before .before .before .before .before .before .before .before .before .before .before .before .before .before .before .before .before .before .before .before .before .before .before .before .before .before .before .before .before .before .before .analyse .ensures in
-    let z = c .before .before .before .before .before .before .before .before .before .before .before .before .before .before .before .before .before .before .before .before .before .before .before .before .before .before .before .before .before .before .if1 .left in
-    way-short _ _ (done-passes _ _ e z) (done-stored _ _ e z _ (c .before .before .before .before .before .before .before .before .before .before .before .before .before .before .before .before .before .before .before .before .before .before .before .store-plan .ensures)) (c .before .before .before .before .before .before .before .before .before .before .before .before .before .before .before .before .before .before .before .if3 .taken) (zeros-alike _ _ (record { parents = c .before .before .before .before .before .before .before .before .before .before .before .before .before .before .before .before .before .before .before .before .before .before .before .before .before .before .before .before .before .before .before .before .before .before .before .before .before .before .before .before .before .before .before .before .analyse .kept .1 .1 .1 .0; order = c .before .before .before .before .before .before .before .before .before .before .before .before .before .before .before .before .before .before .before .before .before .before .before .before .before .before .before .before .before .before .before .before .before .before .before .before .before .before .before .before .before .before .before .before .analyse .kept .1 .1 .1 .1 .0; pops = c .before .before .before .before .before .before .before .before .before .before .before .before .before .before .before .before .before .before .before .before .before .before .before .before .before .before .before .before .before .before .before .before .before .before .before .before .before .before .before .before .before .before .before .before .analyse .kept .1 .1 .1 .1 .1 .0; starts = c .before .before .before .before .before .before .before .before .before .before .before .before .before .before .before .before .before .before .before .before .before .before .before .before .before .before .before .before .before .before .before .before .before .before .before .before .before .before .before .before .before .before .before .before .analyse .kept .1 .1 .1 .1 .1 .1 .0; rows = c .before .before .before .before .before .before .before .before .before .before .before .before .before .before .before .before .before .before .before .before .before .before .before .before .before .before .before .before .before .before .before .before .before .before .before .before .before .before .before .before .before .before .before .before .analyse .kept .1 .1 .1 .1 .1 .1 .1 .0; work = c .before .before .before .before .before .before .before .before .before .before .before .before .before .before .before .before .before .before .before .before .before .before .before .before .before .before .before .before .before .before .before .before .before .before .before .before .before .before .before .before .before .before .before .before .analyse .kept .1 .1 .1 .1 .1 .1 .1 .1 .0 }) (c .before .before .before .before .before .before .before .before .before .before .before .before .clear-all .ensures))
-
-same-length-21 : tie.Need-same-length-21
-same-length-21 c = c .before .before .before .before .before .before .before .before .before .before .before .before .before .before .before .before .before .before .before .before .before .before .before .before .before .analyse .kept .1 .1 .1 .0
-
-same-length-22 : tie.Need-same-length-22
-same-length-22 c = c .before .before .before .before .before .before .before .before .before .before .before .before .before .before .before .before .before .before .before .before .before .before .before .before .before .analyse .kept .1 .1 .1 .1 .0
-
-same-length-23 : tie.Need-same-length-23
-same-length-23 c = c .before .before .before .before .before .before .before .before .before .before .before .before .before .before .before .before .before .before .before .before .before .before .before .before .before .analyse .kept .1 .1 .1 .1 .1 .0
-
-same-length-24 : tie.Need-same-length-24
-same-length-24 c = c .before .before .before .before .before .before .before .before .before .before .before .before .before .before .before .before .before .before .before .before .before .before .before .before .before .analyse .kept .1 .1 .1 .1 .1 .1 .0
-
-same-length-25 : tie.Need-same-length-25
-same-length-25 c = c .before .before .before .before .before .before .before .before .before .before .before .before .before .before .before .before .before .before .before .before .before .before .before .before .before .analyse .kept .1 .1 .1 .1 .1 .1 .1 .0
-
-same-length-26 : tie.Need-same-length-26
-same-length-26 c = c .before .before .before .before .before .before .before .before .before .before .before .before .before .before .before .before .before .before .before .before .before .before .before .before .before .analyse .kept .1 .1 .1 .1 .1 .1 .1 .1 .0
-
-same-length-27 : tie.Need-same-length-27
-same-length-27 c = c .before .before .before .before .store-plan .kept .1 .1 .1 .1 .1 .1 .1 .1 .0
-
-returns-4 : tie.Need-returns-4
-returns-4 c =
-    let e = c .before .before .before .before .before .before .before .before .before .before .before .before .before .before .before .before .before .before .before .before .before .before .before .before .before .analyse .ensures in
-    let z = c .before .before .before .before .before .before .before .before .before .before .before .if1 .left in
-    way-done _ _ (done-passes _ _ e z) (done-stored _ _ e z _ (c .before .before .before .before .store-plan .ensures)) (c .if3 .left) (done-holds _ _ e z)
+    let e = c .before .before .before .before .before .before .before .before .before .before .before .before .before .before .before .before .before .before .before .before .before .before .before .before .before .before .before .before .before .before .before .before .before .before .before .before .analyse .ensures in
+    let z = c .before .before .before .before .before .before .before .before .before .before .before .before .before .before .before .before .before .before .before .before .before .before .if1 .left in
+    way-stored _ _ (done-passes _ _ e z) (done-holds _ _ e z) (zeros-alike _ _ (record { parents = c .before .before .before .before .before .before .before .before .before .before .before .before .before .before .before .before .before .before .before .before .before .before .before .before .before .before .before .before .before .before .before .before .before .before .before .before .analyse .kept .1 .1 .1 .0; order = c .before .before .before .before .before .before .before .before .before .before .before .before .before .before .before .before .before .before .before .before .before .before .before .before .before .before .before .before .before .before .before .before .before .before .before .before .analyse .kept .1 .1 .1 .1 .0; pops = c .before .before .before .before .before .before .before .before .before .before .before .before .before .before .before .before .before .before .before .before .before .before .before .before .before .before .before .before .before .before .before .before .before .before .before .before .analyse .kept .1 .1 .1 .1 .1 .0; starts = c .before .before .before .before .before .before .before .before .before .before .before .before .before .before .before .before .before .before .before .before .before .before .before .before .before .before .before .before .before .before .before .before .before .before .before .before .analyse .kept .1 .1 .1 .1 .1 .1 .0; rows = c .before .before .before .before .before .before .before .before .before .before .before .before .before .before .before .before .before .before .before .before .before .before .before .before .before .before .before .before .before .before .before .before .before .before .before .before .analyse .kept .1 .1 .1 .1 .1 .1 .1 .0; work = c .before .before .before .before .before .before .before .before .before .before .before .before .before .before .before .before .before .before .before .before .before .before .before .before .before .before .before .before .before .before .before .before .before .before .before .before .analyse .kept .1 .1 .1 .1 .1 .1 .1 .1 .0 }) refl) (c .before .before .before .before .before .before .before .before .before .before .before .before .before .before .store-beside .ensures)
 
 pub write-plan-spec : {M : Type 1} → statement M
 write-plan-spec =
@@ -175,19 +110,7 @@ write-plan-spec =
     same-length-12
     same-length-13
     returns-2
-    mul-last
-    slice-read-last
-    slice-reshare-prefix-store-plan
-    slice-aggregate-store-plan
-    slice-reshare-prefix-store-plan-2
-    slice-aggregate-store-plan-2
-    add-store-plan
-    slice-reshare-prefix-store-plan-3
-    slice-aggregate-store-plan-3
-    slice-reshare-prefix-store-plan-4
-    slice-aggregate-store-plan-4
-    store-plan-requires
-    clear-all-requires
+    store-beside-requires
     same-length-14
     same-length-15
     same-length-16
@@ -195,12 +118,4 @@ write-plan-spec =
     same-length-18
     same-length-19
     same-length-20
-    returns-3
-    same-length-21
-    same-length-22
-    same-length-23
-    same-length-24
-    same-length-25
-    same-length-26
-    same-length-27
-    returns-4)
+    returns-3)

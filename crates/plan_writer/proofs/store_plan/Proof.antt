@@ -4,9 +4,9 @@ use mathlib.Core.Path.{ap}
 use native.Mathlib.Omega.{arith}
 use borrow.Author.Needs.{needs}
 use Rattle.papers.specs.Refusals.{answer}
-use Rattle.plan_bytes.proofs.Stores.{stored-short, stored-whole}
-use Rattle.plan_bytes.proofs.store_plan.Statement.{statement}
-use Rattle.plan_bytes.proofs.store_plan.Tie as tie
+use Rattle.plan_writer.proofs.Stores.{stored-short, stored-whole}
+use Rattle.plan_writer.proofs.store_plan.Statement.{statement}
+use Rattle.plan_writer.proofs.store_plan.Tie as tie
 
 plan-length-requires : tie.Need-plan-length-requires
 plan-length-requires c κs = search needs

@@ -11,7 +11,7 @@ use Rattle.papers.specs.Refusals.{answer, zeroed, Outcome, bytesTest}
 use Rattle.list_laws.proofs.Stores.{sets-zeros}
 use Rattle.job_laws.proofs.Firsts.{first-last, over-refuses, over-passes-iff}
 use Rattle.job_laws.proofs.Outcomes.{outcome-zeroed, outcome-done}
-use Rattle.plan_bytes.specs.Stored.{stored}
+use Rattle.plan_writer.specs.Stored.{stored}
 
 module _ (written bytes : List ℕ) where
   pub short-is : length bytes < length written → stored written bytes ≡ record { answer = answer 10 0 (length written); lent = zeros bytes }

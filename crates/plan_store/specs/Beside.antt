@@ -1,0 +1,14 @@
+-- What storing bytes beside the slices of an analysis comes to.
+-- Assumes nothing.
+use Prim.Native.Nat.{ℕ}
+use mathlib.Core.List.{List, [], _∷_}
+use lib.ListN.{length}
+use Rattle.papers.specs.Lists.{thenZeros}
+use Rattle.papers.specs.Refusals.{answer, Outcome, outcome, bytesTest}
+use Rattle.papers.specs.Analysis.{PlanLent, planZero}
+
+-- 10 where they do not fit, and all slices zero; else they stand in theirs, then zeros, and the others are as they were
+unfoldable pub storedBeside : List ℕ → PlanLent → Outcome PlanLent
+storedBeside written slices =
+    outcome ((λ lent. bytesTest written (lent .bytes)) ∷ [])
+    (λ lent. record { answer = answer 0 0 (length written); lent = record { analysis = lent .analysis; bytes = thenZeros written (lent .bytes) } }) planZero slices slices
