@@ -1,0 +1,3 @@
+pub mod Parts
+pub mod Lengths
+pub mod Fits
