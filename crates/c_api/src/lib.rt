@@ -5,6 +5,7 @@ ghost use mathlib.Core.List.{List};
 ghost use Prim.Native.Nat.{ℕ};
 ghost use Rattle.papers.specs.Refusals.{answer, Outcome, Lent};
 ghost use Rattle.papers.specs.Analysis.{keyWritten, analysed, PlanLent, planWritten};
+ghost use Rattle.papers.specs.Check.{checked};
 ghost use Rattle.papers.specs.Run.{ran};
 ghost use Rattle.lent.specs.Six.{six};
 use papers::JobHead;
@@ -95,6 +96,43 @@ pub extern "C" fn ls_write_plan(
         frows,
         work,
         bytes,
+    );
+    *place = answered.place;
+    *count = answered.count;
+    answered.number
+}
+
+// The check of a plan for a job: checker::check_plan.
+#[no_mangle]
+pub extern "C" fn ls_check_plan(
+    n: u64,
+    starts: &[u64],
+    rows: &[u32],
+    mark: u64,
+    limit: u64,
+    plan: &[u8],
+    parents: &mut [u32],
+    order: &mut [u32],
+    pops: &mut [u32],
+    fstarts: &mut [u64],
+    frows: &mut [u32],
+    work: &mut [u64],
+    place: &mut u64,
+    count: &mut u64,
+) -> u64
+    ensures { λ r. ⌜ _≡_ {A = Outcome Lent} (record { answer = answer r (now (place .exit)) (now (count .exit)); lent = six (now (parents .exit)) (now (order .exit)) (now (pops .exit)) (now (fstarts .exit)) (now (frows .exit)) (now (work .exit)) }) (checked (record { n = n; starts = now (starts .entry); rows = now (rows .entry); mark = mark; limit = limit }) (now (plan .entry)) (six (now (parents .entry)) (now (order .entry)) (now (pops .entry)) (now (fstarts .entry)) (now (frows .entry)) (now (work .entry)))) ⌝ }
+{
+    let answered = checker::check_plan(
+        JobHead { n, mark, limit },
+        starts,
+        rows,
+        plan,
+        parents,
+        order,
+        pops,
+        fstarts,
+        frows,
+        work,
     );
     *place = answered.place;
     *count = answered.count;
