@@ -1,0 +1,3 @@
+pub mod Analysed
+pub mod Parts
+pub mod Steps

@@ -1,0 +1,137 @@
+-- A refusal prints its line; an analysis that is done has the plan of the job in the fronts of its slices, and what is printed of them is its listing.
+-- Assumes nothing.
+use mathlib.Core.Path.{sym, ap}
+use native.Mathlib.Omega.{arith}
+use lib.ListN.{length}
+use lib.Seq.{length-take-le}
+use borrow.Author.Needs.{needs}
+use Rattle.plan_bytes.proofs.Handed.{few-columns, done-fronts, done-writable}
+use Rattle.listing_plan.proofs.Parts.{written-as}
+use Rattle.listing_plan.proofs.Analysed.{refused-printed, done-printable, done-printed}
+use Rattle.listing_plan.proofs.print_analysis.Statement.{statement}
+use Rattle.listing_plan.proofs.print_analysis.Tie as tie
+
+analyse-requires : tie.Need-analyse-requires
+analyse-requires c κs = search needs
+
+write-refusal-requires : tie.Need-write-refusal-requires
+write-refusal-requires c κs = omega (arith, ap length (refused-printed _ _ (c .before .before .before .before .before .before .before .before .before .before .before .before .before .before .before .analyse .ensures) (c .before .if1 .taken)), c .before .before .before .before .before .before .before .before .before .before .before .before .before .before .before .before .before .before .before .before .before .before .before .before .before .before .before .before .before .before .before .pre .1)
+
+same-length : tie.Need-same-length
+same-length c = search needs
+
+same-length-2 : tie.Need-same-length-2
+same-length-2 c = search needs
+
+same-length-3 : tie.Need-same-length-3
+same-length-3 c = search needs
+
+same-length-4 : tie.Need-same-length-4
+same-length-4 c = search needs
+
+same-length-5 : tie.Need-same-length-5
+same-length-5 c = search needs
+
+same-length-6 : tie.Need-same-length-6
+same-length-6 c = search needs
+
+same-length-7 : tie.Need-same-length-7
+same-length-7 c = search needs
+
+returns : tie.Need-returns
+returns c = written-as (refused-printed _ _ (c .before .before .before .before .before .before .before .before .before .before .before .before .before .before .before .before .before .before .analyse .ensures) (c .before .before .before .before .if1 .taken)) (c .before .before .before .before .before .before .before .before .before .before .before .before .before .before .before .before .before .before .before .before .before .before .before .before .before .before .before .before .before .before .before .before .before .before .args .bytes .now) (c .before .before .write-refusal .ensures)
+
+mul-last : tie.Need-mul-last
+mul-last c = omega (arith, few-columns _ _ (c .before .before .before .before .before .before .before .before .before .before .before .before .before .before .analyse .ensures) (c .if1 .left))
+
+slice-read-last : tie.Need-slice-read-last
+slice-read-last c = let f = done-fronts _ _ (c .before .before .before .before .before .before .before .before .before .before .before .before .before .before .before .analyse .ensures) (c .before .if1 .left) .starts in omega arith
+
+slice-reshare-prefix-print-plan : tie.Need-slice-reshare-prefix-print-plan
+slice-reshare-prefix-print-plan c = done-fronts _ _ (c .before .before .before .before .before .before .before .before .before .before .before .before .before .before .before .analyse .ensures) (c .before .if1 .left) .order
+
+slice-aggregate-print-plan : tie.Need-slice-aggregate-print-plan
+slice-aggregate-print-plan c = sym (length-take-le _ _ (done-fronts _ _ (c .before .before .before .before .before .before .before .before .before .before .before .before .before .before .before .before .analyse .ensures) (c .before .before .if1 .left) .order))
+
+slice-reshare-prefix-print-plan-2 : tie.Need-slice-reshare-prefix-print-plan-2
+slice-reshare-prefix-print-plan-2 c = done-fronts _ _ (c .before .before .before .before .before .before .before .before .before .before .before .before .before .before .before .before .analyse .ensures) (c .before .before .if1 .left) .pops
+
+slice-aggregate-print-plan-2 : tie.Need-slice-aggregate-print-plan-2
+slice-aggregate-print-plan-2 c = sym (length-take-le _ _ (done-fronts _ _ (c .before .before .before .before .before .before .before .before .before .before .before .before .before .before .before .before .before .analyse .ensures) (c .before .before .before .if1 .left) .pops))
+
+add-print-plan : tie.Need-add-print-plan
+add-print-plan c = omega (arith, few-columns _ _ (c .before .before .before .before .before .before .before .before .before .before .before .before .before .before .before .before .before .analyse .ensures) (c .before .before .before .if1 .left))
+
+slice-reshare-prefix-print-plan-3 : tie.Need-slice-reshare-prefix-print-plan-3
+slice-reshare-prefix-print-plan-3 c = done-fronts _ _ (c .before .before .before .before .before .before .before .before .before .before .before .before .before .before .before .before .before .analyse .ensures) (c .before .before .before .if1 .left) .starts
+
+slice-aggregate-print-plan-3 : tie.Need-slice-aggregate-print-plan-3
+slice-aggregate-print-plan-3 c = sym (length-take-le _ _ (done-fronts _ _ (c .before .before .before .before .before .before .before .before .before .before .before .before .before .before .before .before .before .before .analyse .ensures) (c .before .before .before .before .if1 .left) .starts))
+
+slice-reshare-prefix-print-plan-4 : tie.Need-slice-reshare-prefix-print-plan-4
+slice-reshare-prefix-print-plan-4 c = done-fronts _ _ (c .before .before .before .before .before .before .before .before .before .before .before .before .before .before .before .before .before .before .analyse .ensures) (c .before .before .before .before .if1 .left) .rows
+
+slice-aggregate-print-plan-4 : tie.Need-slice-aggregate-print-plan-4
+slice-aggregate-print-plan-4 c = sym (length-take-le _ _ (done-fronts _ _ (c .before .before .before .before .before .before .before .before .before .before .before .before .before .before .before .before .before .before .before .analyse .ensures) (c .before .before .before .before .before .if1 .left) .rows))
+
+print-plan-requires : tie.Need-print-plan-requires
+print-plan-requires c κs = (done-printable _ _ (c .before .before .before .before .before .before .before .before .before .before .before .before .before .before .before .before .before .before .before .before .before .analyse .ensures) (c .before .before .before .before .before .before .before .if1 .left), (let w = done-writable _ _ (c .before .before .before .before .before .before .before .before .before .before .before .before .before .before .before .before .before .before .before .before .before .analyse .ensures) (c .before .before .before .before .before .before .before .if1 .left) .all-steps in omega (arith, c .before .before .before .before .before .before .before .before .before .before .before .before .before .before .before .before .before .before .before .before .before .before .before .before .before .before .before .before .before .before .before .before .before .before .before .before .before .pre .0, c .before .before .before .before .before .before .before .before .before .before .before .before .before .before .before .before .before .before .before .before .before .analyse .kept .1 .1 .1 .1 .1 .1 .1 .1 .0), omega (arith, ap length (done-printed _ _ (c .before .before .before .before .before .before .before .before .before .before .before .before .before .before .before .before .before .before .before .before .before .analyse .ensures) (c .before .before .before .before .before .before .before .if1 .left)), c .before .before .before .before .before .before .before .before .before .before .before .before .before .before .before .before .before .before .before .before .before .before .before .before .before .before .before .before .before .before .before .before .before .before .before .before .before .pre .1)))
+
+same-length-8 : tie.Need-same-length-8
+same-length-8 c = search needs
+
+same-length-9 : tie.Need-same-length-9
+same-length-9 c = search needs
+
+same-length-10 : tie.Need-same-length-10
+same-length-10 c = search needs
+
+same-length-11 : tie.Need-same-length-11
+same-length-11 c = search needs
+
+same-length-12 : tie.Need-same-length-12
+same-length-12 c = search needs
+
+same-length-13 : tie.Need-same-length-13
+same-length-13 c = search needs
+
+same-length-14 : tie.Need-same-length-14
+same-length-14 c = search needs
+
+returns-2 : tie.Need-returns-2
+returns-2 c = written-as (done-printed _ _ (c .before .before .before .before .before .before .before .before .before .before .before .before .before .before .before .before .before .before .before .before .before .before .before .before .before .before .analyse .ensures) (c .before .before .before .before .before .before .before .before .before .before .before .before .if1 .left)) (c .before .before .before .before .before .before .before .before .before .before .before .before .before .before .before .before .before .before .before .before .before .before .before .before .before .before .before .before .before .before .before .before .before .before .before .before .before .before .before .before .before .before .args .bytes .now) (c .before .before .before .before .print-plan .ensures)
+
+pub print-analysis-spec : {M : Type 1} → statement M
+print-analysis-spec =
+    tie.close
+    (tie.spec
+    analyse-requires
+    write-refusal-requires
+    same-length
+    same-length-2
+    same-length-3
+    same-length-4
+    same-length-5
+    same-length-6
+    same-length-7
+    returns
+    mul-last
+    slice-read-last
+    slice-reshare-prefix-print-plan
+    slice-aggregate-print-plan
+    slice-reshare-prefix-print-plan-2
+    slice-aggregate-print-plan-2
+    add-print-plan
+    slice-reshare-prefix-print-plan-3
+    slice-aggregate-print-plan-3
+    slice-reshare-prefix-print-plan-4
+    slice-aggregate-print-plan-4
+    print-plan-requires
+    same-length-8
+    same-length-9
+    same-length-10
+    same-length-11
+    same-length-12
+    same-length-13
+    same-length-14
+    returns-2)

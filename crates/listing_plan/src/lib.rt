@@ -1,0 +1,79 @@
+// What is printed of a job: its analysis in lent slices, then its listing from them, or the line of its refusal.
+ghost use mathlib.Core.Path.{_≡_};
+ghost use Prim.Native.Nat.{_<_, _≤_};
+ghost use lib.ListN.{length};
+ghost use lib.Seq.{sets};
+ghost use Rattle.papers.specs.Job.{jobOf};
+ghost use Rattle.papers.specs.Analysis.{analysed};
+ghost use Rattle.papers.specs.Text.{jobPrinted};
+ghost use Rattle.lent.specs.Six.{six};
+ghost use Rattle.step_lines.specs.Steps.{Printable};
+ghost use Rattle.listing_plan.specs.PlanLines.{planLines};
+use papers::JobHead;
+
+// Writes the listing of a plan that lies in slices to the front of another, and answers its length.
+fn print_plan(
+    head: JobHead,
+    peak: u64,
+    order: &[u32],
+    pops: &[u32],
+    fstarts: &[u64],
+    frows: &[u32],
+    below: &mut [u64],
+    bytes: &mut [u8],
+) -> usize
+    requires steps { ⌜ Printable (now order) (now pops) (now fstarts) (now frows) ⌝ }
+    requires room { ⌜ length (now order) < length (now below) ⌝ }
+    requires fits { ⌜ length (planLines (head .n) (head .mark) peak (now order) (now pops) (now fstarts) (now frows)) ≤ length (now bytes) ⌝ }
+    ensures place { λ r. ⌜ r ≡ length (planLines (head .n) (head .mark) peak (now (order .entry)) (now (pops .entry)) (now (fstarts .entry)) (now (frows .entry))) ⌝ }
+    ensures writes { λ r. ⌜ now (bytes .exit) ≡ sets (now (bytes .entry)) 0 (planLines (head .n) (head .mark) peak (now (order .entry)) (now (pops .entry)) (now (fstarts .entry)) (now (frows .entry))) ⌝ }
+{
+    let first = printer::write_header(head.n, head.mark, peak, bytes);
+    step_lines::write_steps(order, pops, fstarts, frows, below, bytes, first)
+}
+
+// Analyses a job in lent slices and writes what is printed of it, its listing or the line of its refusal, to the front of bytes; answers its length.
+pub fn print_analysis(
+    head: JobHead,
+    starts: &[u64],
+    rows: &[u32],
+    parents: &mut [u32],
+    order: &mut [u32],
+    pops: &mut [u32],
+    fstarts: &mut [u64],
+    frows: &mut [u32],
+    work: &mut [u64],
+    bytes: &mut [u8],
+) -> usize
+    requires room { ⌜ head .n < length (now work) ⌝ }
+    requires fits { ⌜ length (jobPrinted (jobOf head (now starts) (now rows)) (analysed (jobOf head (now starts) (now rows)) (six (now parents) (now order) (now pops) (now fstarts) (now frows) (now work)) .answer)) ≤ length (now bytes) ⌝ }
+    ensures place { λ r. ⌜ r ≡ length (jobPrinted (jobOf head (now (starts .entry)) (now (rows .entry))) (analysed (jobOf head (now (starts .entry)) (now (rows .entry))) (six (now (parents .entry)) (now (order .entry)) (now (pops .entry)) (now (fstarts .entry)) (now (frows .entry)) (now (work .entry))) .answer)) ⌝ }
+    ensures writes { λ r. ⌜ now (bytes .exit) ≡ sets (now (bytes .entry)) 0 (jobPrinted (jobOf head (now (starts .entry)) (now (rows .entry))) (analysed (jobOf head (now (starts .entry)) (now (rows .entry))) (six (now (parents .entry)) (now (order .entry)) (now (pops .entry)) (now (fstarts .entry)) (now (frows .entry)) (now (work .entry))) .answer)) ⌝ }
+{
+    let answer = analysis::analyse(
+        head,
+        starts,
+        rows,
+        parents,
+        order,
+        pops,
+        fstarts,
+        frows,
+        work,
+    );
+    if answer.number != 0 {
+        return printer::write_refusal(answer, bytes);
+    }
+    let n = head.n as usize;
+    let last = fstarts[n] as usize;
+    print_plan(
+        head,
+        answer.count,
+        &order[..n],
+        &pops[..n],
+        &fstarts[..n + 1],
+        &frows[..last],
+        work,
+        bytes,
+    )
+}
