@@ -3,8 +3,8 @@
 use Prim.Native.Nat.{_-_}
 use native.Mathlib.Omega.{arith}
 use borrow.Author.Needs.{needs}
-use Rattle.case_lines.proofs.lent.longs.Statement.{statement}
-use Rattle.case_lines.proofs.lent.longs.Tie as tie
+use Rattle.case_lines.proofs.sheet.longs.Statement.{statement}
+use Rattle.case_lines.proofs.sheet.longs.Tie as tie
 
 abbrev Inv-loop : tie.InvT-loop
 Inv-loop numbers list out₀ first i₀ i-end out i = Unit {0}

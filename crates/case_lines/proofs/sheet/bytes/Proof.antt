@@ -3,8 +3,8 @@
 use Prim.Native.Nat.{_-_}
 use native.Mathlib.Omega.{arith}
 use borrow.Author.Needs.{needs}
-use Rattle.case_lines.proofs.lent.words.Statement.{statement}
-use Rattle.case_lines.proofs.lent.words.Tie as tie
+use Rattle.case_lines.proofs.sheet.bytes.Statement.{statement}
+use Rattle.case_lines.proofs.sheet.bytes.Tie as tie
 
 abbrev Inv-loop : tie.InvT-loop
 Inv-loop numbers list out₀ first i₀ i-end out i = Unit {0}
@@ -30,9 +30,6 @@ at-requires c κs = tt
 cast-out : tie.Need-cast-out Inv-loop μ-loop
 cast-out c = search needs
 
-mul-out : tie.Need-mul-out Inv-loop μ-loop
-mul-out c = search needs
-
 array-write-out : tie.Need-array-write-out Inv-loop μ-loop
 array-write-out c = search needs
 
@@ -48,8 +45,8 @@ loop-again c = tt
 returns : tie.Need-returns Inv-loop μ-loop
 returns c = tt
 
-pub words-spec : {M : Type 1} → statement M
-words-spec =
+pub bytes-spec : {M : Type 1} → statement M
+bytes-spec =
     tie.close
     (tie.spec
     Inv-loop
@@ -60,7 +57,6 @@ words-spec =
     add-requires
     at-requires
     cast-out
-    mul-out
     array-write-out
     add-i
     loop-less
