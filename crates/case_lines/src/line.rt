@@ -1,0 +1,98 @@
+// A case as numbers, and where its parts stand among them. Places wrap, so every number is a place.
+ghost use Prim.Native.Nat.{_≤_};
+
+pub type Numbers = [u64; 4096];
+
+// The answer that is right.
+pub const RIGHT: usize = 3;
+
+// The counts of the nine lists: given starts, rows and plan bytes, then the result in each of the six lent slices.
+const COUNTS: usize = 6;
+
+// The lengths of the six lent slices.
+const LENGTHS: usize = 15;
+
+// The lists, one after the other.
+const LISTS: usize = 21;
+
+pub const STARTS: usize = 0;
+
+pub const ROWS: usize = 1;
+
+pub const PLAN: usize = 2;
+
+// The first of the six slices among the nine lists.
+const SLICES: usize = 3;
+
+pub fn at(numbers: &Numbers, place: usize) -> u64 {
+    numbers[place % 4096]
+}
+
+// The sum of two numbers below a million.
+pub fn add(a: usize, b: usize) -> usize {
+    a % 1000000 + b % 1000000
+}
+
+fn size(numbers: &Numbers, place: usize) -> usize {
+    (at(numbers, place) % 1000000) as usize
+}
+
+// How many numbers a list has.
+pub fn count(numbers: &Numbers, list: usize) -> usize {
+    size(numbers, add(COUNTS, list))
+}
+
+// The length of a lent slice.
+pub fn lent(numbers: &Numbers, slice: usize) -> usize {
+    size(numbers, add(LENGTHS, slice))
+}
+
+// The list that has the result in a lent slice.
+pub fn result(slice: usize) -> usize {
+    add(SLICES, slice)
+}
+
+// Where a list begins.
+pub fn first(numbers: &Numbers, list: usize) -> usize {
+    let mut place = LISTS;
+    for k in 0..list {
+        place = add(place, count(numbers, k));
+    }
+    place
+}
+
+// A number with one more digit behind it.
+fn followed(number: u64, digit: u8) -> u64 {
+    let two = std::num::wrapping_add_u64(number, number);
+    let four = std::num::wrapping_add_u64(two, two);
+    let eight = std::num::wrapping_add_u64(four, four);
+    let ten = std::num::wrapping_add_u64(eight, two);
+    std::num::wrapping_add_u64(ten, (digit % 16) as u64)
+}
+
+// How many bytes come after the five digits and the space that a line begins with.
+pub fn length(head: &[u8; 6]) -> usize
+    ensures { λ r. ⌜ r ≤ 8192 ⌝ }
+{
+    let mut number = 0;
+    for i in 0..5 {
+        number = followed(number, head[i]);
+    }
+    (number % 8193) as usize
+}
+
+// The numbers of a text in which each number ends with a space or a newline.
+pub fn decode(text: &[u8; 8192], length: usize, numbers: &mut Numbers) {
+    let mut place = 0;
+    let mut number = 0;
+    for i in 0..length {
+        let byte = text[i % 8192];
+        if byte <= b' ' {
+            numbers[place % 4096] = number;
+            place = add(place, 1);
+            number = 0;
+        } else {
+            number = followed(number, byte);
+        }
+    }
+}
