@@ -1,0 +1,43 @@
+-- The slices lent are the program's buffers.
+-- Assumes nothing.
+use borrow.Author.Needs.{needs}
+use Rattle.solver.proofs.Calls.{in-buffers}
+use Rattle.solver.proofs.check_in_buffers.Statement.{statement}
+use Rattle.solver.proofs.check_in_buffers.Tie as tie
+
+slice-aggregate-check-plan : tie.Need-slice-aggregate-check-plan
+slice-aggregate-check-plan c = search needs
+
+slice-aggregate-check-plan-2 : tie.Need-slice-aggregate-check-plan-2
+slice-aggregate-check-plan-2 c = search needs
+
+slice-aggregate-check-plan-3 : tie.Need-slice-aggregate-check-plan-3
+slice-aggregate-check-plan-3 c = search needs
+
+slice-aggregate-check-plan-4 : tie.Need-slice-aggregate-check-plan-4
+slice-aggregate-check-plan-4 c = search needs
+
+slice-aggregate-check-plan-5 : tie.Need-slice-aggregate-check-plan-5
+slice-aggregate-check-plan-5 c = search needs
+
+slice-aggregate-check-plan-6 : tie.Need-slice-aggregate-check-plan-6
+slice-aggregate-check-plan-6 c = search needs
+
+check-plan-requires : tie.Need-check-plan-requires
+check-plan-requires c κs = search needs
+
+returns : tie.Need-returns
+returns c = in-buffers _ _ (c .before .before .before .before .before .before .check-plan .ensures)
+
+pub check-in-buffers-spec : {M : Type 1} → statement M
+check-in-buffers-spec =
+    tie.close
+    (tie.spec
+    slice-aggregate-check-plan
+    slice-aggregate-check-plan-2
+    slice-aggregate-check-plan-3
+    slice-aggregate-check-plan-4
+    slice-aggregate-check-plan-5
+    slice-aggregate-check-plan-6
+    check-plan-requires
+    returns)
