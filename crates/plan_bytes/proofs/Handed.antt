@@ -119,7 +119,7 @@ module _ (job : Job) (lent : Lent) (p : first analysisTests (record { job = job;
     rows-front = rw (last-is, rows-hold) (front _ _ _ refl)
 
     -- so the plan of the job lies in front of the slices
-    pub in-front : InFront job (after .order) (after .pops) (after .factorStarts) (after .factorRows) (planOf job .peak)
+    in-front : InFront job (after .order) (after .pops) (after .factorStarts) (after .factorRows) (planOf job .peak)
     in-front =
         let tests = lists-iff (job .n) (startsFrom 0 (planOf job .lists)) (flat (planOf job .lists)) .1 factor in
         record {
