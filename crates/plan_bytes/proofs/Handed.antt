@@ -10,9 +10,9 @@ use Rattle.papers.specs.declared.Answer.{Answer}
 use Rattle.papers.specs.Lists.{flat, startsFrom, thenZeros}
 use Rattle.papers.specs.Job.{Job, columnOf}
 use Rattle.papers.specs.Key.{listsOf}
-use Rattle.papers.specs.Plan.{columnsIn, popsIn, planOf}
+use Rattle.papers.specs.Plan.{columnsIn, popsIn, planOf, planBytes}
 use Rattle.papers.specs.Refusals.{passed, first, Outcome, jobTests, Lent, holding, peakTest}
-use Rattle.papers.specs.Analysis.{holdingPlan, analysisTests, analysed}
+use Rattle.papers.specs.Analysis.{holdingPlan, analysisTests, analysed, PlanLent, planWritten}
 use Rattle.list_laws.proofs.Stores.{length-then-zeros, take-then-zeros, length-starts}
 use Rattle.bytes_laws.proofs.Plans.{Fit}
 use Rattle.job_laws.proofs.Firsts.{first-passed-iff, over-passes-iff}
@@ -27,8 +27,10 @@ use Rattle.plan_laws.specs.Passing.{Long}
 use Rattle.plan_laws.proofs.Slices.{long-iff}
 use Rattle.plan_laws.proofs.Sounds.{sound-fits, planned-sound}
 use Rattle.plan_writer.proofs.Steps.{steps-again}
+use Rattle.lent_lists.proofs.Listings.{Alike, zeros-alike}
 use Rattle.plan_store.specs.InFront.{InFront}
-use Rattle.plan_bytes.proofs.Ways.{analysis-done}
+use Rattle.plan_store.specs.Beside.{storedBeside}
+use Rattle.plan_bytes.proofs.Ways.{analysis-done, way-stored}
 
 -- the front of a slice that holds a result of so many numbers
 front : (xs l : List ℕ) (k : ℕ) → length xs ≡ k → take k (thenZeros xs l) ≡ xs
@@ -117,7 +119,7 @@ module _ (job : Job) (lent : Lent) (p : first analysisTests (record { job = job;
     rows-front = rw (last-is, rows-hold) (front _ _ _ refl)
 
     -- so the plan of the job lies in front of the slices
-    pub in-front : InFront job (after .order) (after .pops) (after .factorStarts) (after .factorRows) (planOf job .peak)
+    in-front : InFront job (after .order) (after .pops) (after .factorStarts) (after .factorRows) (planOf job .peak)
     in-front =
         let tests = lists-iff (job .n) (startsFrom 0 (planOf job .lists)) (flat (planOf job .lists)) .1 factor in
         record {
@@ -131,14 +133,16 @@ module _ (job : Job) (lent : Lent) (p : first analysisTests (record { job = job;
           planned = rw (order-front, pops-front, starts-front, rows-front, steps-again (planOf job .steps), lists-again);
         }
 
--- ---- an analysis that answers 0, in the words of its contract
+-- ---- an analysis that answers 0
 
-module _ (job : Job) (lent : Lent) {r : Answer} {after : Lent} (e : _≡_ {A = Outcome Lent} (record { answer = r; lent = after }) (analysed job lent)) (z : r .number ≡ 0) where
-  pub done-passes : first analysisTests (record { job = job; lent = lent }) ≡ passed
-  done-passes = analysis-done job lent e z .0
-
-  pub done-holds : after ≡ holdingPlan job (planOf job) lent
-  done-holds = analysis-done job lent e z .2
-
+module _ (job : Job) (slices : PlanLent) {r : Answer} {after : Lent} (e : _≡_ {A = Outcome Lent} (record { answer = r; lent = after }) (analysed job (slices .analysis)))
+    (z : r .number ≡ 0) where
+  -- the plan lies in front of its slices, and its count is the peak
   pub done-in-front : InFront job (after .order) (after .pops) (after .factorStarts) (after .factorRows) (r .count)
-  done-in-front = rw (analysis-done job lent e z .1) (in-front job lent done-passes done-holds)
+  done-in-front = let (p, count, holds) = analysis-done job (slices .analysis) e z in rw count (in-front job (slices .analysis) p holds)
+
+  -- what is then stored beside it is the outcome
+  pub done-stored : {found : Outcome PlanLent} → Alike (slices .analysis) after
+      → found ≡ storedBeside (planBytes job (planOf job)) (record { analysis = after; bytes = slices .bytes }) → found ≡ planWritten job slices
+  done-stored alike f =
+      let (p, count, holds) = analysis-done job (slices .analysis) e z in way-stored job slices p holds (zeros-alike (slices .analysis) after alike refl) f

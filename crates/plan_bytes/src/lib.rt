@@ -35,10 +35,7 @@ pub fn write_plan(
         work,
     );
     if analysed.number != 0 {
-        if analysed.number <= 7 {
-            return analysed;
-        }
-        slices::clear8(bytes);
+        plan_store::clear_late(analysed.number, bytes);
         return analysed;
     }
     plan_store::store_beside(

@@ -1,0 +1,22 @@
+-- The test is the one that the promise makes.
+-- Assumes nothing.
+use mathlib.Core.Path.{refl}
+use native.Mathlib.Omega.{arith}
+use borrow.Author.Needs.{needs}
+use Rattle.plan_store.proofs.clear_late.Statement.{statement}
+use Rattle.plan_store.proofs.clear_late.Tie as tie
+
+returns : tie.Need-returns
+returns c = (λ h. refl, λ h. absurd (omega (arith, c .if1 .taken)))
+
+clear8-requires : tie.Need-clear8-requires
+clear8-requires c κs = search needs
+
+same-length : tie.Need-same-length
+same-length c = search needs
+
+returns-2 : tie.Need-returns-2
+returns-2 c = (λ h. absurd (omega (arith, c .before .before .before .before .if1 .left)), λ h. c .before .before .clear8 .ensures)
+
+pub clear-late-spec : {M : Type 1} → statement M
+clear-late-spec = tie.close (tie.spec returns clear8-requires same-length returns-2)
