@@ -1,11 +1,11 @@
 -- Bytes written one after the other into a lent slice: what is left to write, from the place reached, is on top of what was written the whole. So one part
 -- more is one rewriting, and where nothing is left the whole is written.
 -- Assumes nothing.
-use Prim.Native.Nat.{ℕ, suc, _+_, _<_, _≤_}
+use Prim.Native.Nat.{ℕ, _+_, _≤_}
 use mathlib.Core.Path.{_≡_, refl, sym, ap, _∙_}
-use mathlib.Core.List.{List, [], _∷_, _++_}
+use mathlib.Core.List.{List, [], _++_}
 use native.Mathlib.Omega.{arith}
-use lib.ListN.{length, set, length-append}
+use lib.ListN.{length, length-append}
 use lib.Seq.{sets, length-sets}
 use Rattle.list_laws.proofs.Stores.{sets-append}
 

@@ -2,9 +2,9 @@
 -- before it leave.
 -- Assumes nothing.
 use Prim.Native.Nat.{ℕ, zero, suc, _+_, _-_, _<_, _≤_, min}
-use mathlib.Core.Path.{_≡_, refl, sym, ap, _∙_}
+use mathlib.Core.Path.{_≡_, refl, ap, _∙_}
 use mathlib.Core.Logic.{_⊎_, inl, inr}
-use mathlib.Core.List.{List, [], _∷_, _++_}
+use mathlib.Core.List.{List, _∷_, _++_}
 use native.Mathlib.Omega.{arith}
 use native.Mathlib.Nat.{le-suc-iff}
 use native.Mathlib.Numerals.{add-one}
@@ -15,9 +15,9 @@ use Rattle.papers.specs.Job.{columnOf}
 use Rattle.papers.specs.Tree.{t}
 use Rattle.papers.specs.Text.{decimalOf, printed}
 use Rattle.list_laws.proofs.Stores.{sets-append}
-use Rattle.room.specs.Rows.{rowsIn, Column}
+use Rattle.room.specs.Rows.{rowsIn}
 use Rattle.room.proofs.Stacks.{Stacked, stacked-start, stacked-room, stacked-turn}
-use Rattle.step_lines.specs.Steps.{roomBehind, lineBehind, linesTo, Printable}
+use Rattle.step_lines.specs.Steps.{lineBehind, linesTo, Printable}
 
 module _ (order pops starts rows : List ℕ) where
   lines-next : (k : ℕ) → linesTo order pops starts rows (suc k) ≡ linesTo order pops starts rows k ++ lineBehind order pops starts rows k

@@ -139,7 +139,7 @@ decimal-word-iff (d ∷ e ∷ ds) =
     )
 
 -- a number of so many digits
-length-decimal : (k x : ℕ) → x < 10 ^ suc k → length (decimalOf x) ≤ suc k
+pub length-decimal : (k x : ℕ) → x < 10 ^ suc k → length (decimalOf x) ≤ suc k
 length-decimal zero x h = rw (decimal-small x (omega arith)) (omega arith)
 length-decimal (suc k) x h = go (below-or x 10) (length-decimal k (x / 10))
   where

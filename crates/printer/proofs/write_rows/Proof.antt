@@ -1,7 +1,6 @@
 -- The loop's invariant: storing the numbers from i on at next leaves what storing all of them leaves. The measure is how many are left.
 -- Assumes nothing.
 use Prim.Native.Nat.{_-_}
-use native.Mathlib.Omega.{arith}
 use lib.ListN.{length}
 use borrow.Author.Needs.{needs}
 use Rattle.printer.proofs.Writing.{writes-all}

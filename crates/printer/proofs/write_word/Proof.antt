@@ -1,7 +1,6 @@
 -- The loop's invariant: storing the letters from i on at their place leaves what storing all of them leaves. The measure is how many are left.
 -- Assumes nothing.
 use Prim.Native.Nat.{_-_}
-use native.Mathlib.Omega.{arith}
 use lib.ListN.{length}
 use borrow.Author.Needs.{needs}
 use Rattle.printer.proofs.Lines.{Spelled, spelled-start, spelled-turn, spelled-stop}

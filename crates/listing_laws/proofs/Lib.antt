@@ -1,0 +1,5 @@
+pub mod Parts
+pub mod Lengths
+pub mod Fits
+pub mod Answers
+pub mod Program
