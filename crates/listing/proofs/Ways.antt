@@ -1,0 +1,41 @@
+-- The outcome of a listing by the length of its slice: 7 where it is too short, else what is printed, which fits, in the cleared slice.
+-- Assumes nothing.
+use Prim.Native.Nat.{ℕ, _<_, _≤_}
+use mathlib.Core.Path.{_≡_, sym, ap, _∙_}
+use mathlib.Core.List.{List}
+use native.Mathlib.Omega.{arith}
+use lib.ListN.{length, length-replicate}
+use lib.Seq.{sets}
+use Rattle.papers.specs.declared.Answer.{Answer}
+use Rattle.papers.specs.Bounds.{listingBytes}
+use Rattle.papers.specs.Lists.{zeros}
+use Rattle.papers.specs.Refusals.{answer, untouched, Outcome}
+use Rattle.papers.specs.Text.{Input, programPrints, ListingCall, listingTests, listingDone, listed}
+use Rattle.list_laws.proofs.Stores.{sets-zeros}
+use Rattle.job_laws.proofs.Firsts.{first-last, over-refuses, over-passes-iff}
+use Rattle.job_laws.proofs.Outcomes.{outcome-untouched, outcome-done}
+use Rattle.listing_laws.proofs.Program.{program-fits}
+
+module _ (input : Input) (bytes : List ℕ) where
+  abbrev call : ListingCall
+  call = record { input = input; bytes = bytes }
+
+  -- 7
+  pub way-short : length bytes < listingBytes → record { answer = answer 7 0 0; lent = bytes } ≡ listed input bytes
+  unfolding listed listingTests
+  way-short h =
+      sym (outcome-untouched listingTests listingDone zeros call bytes (first-last _ call ∙ over-refuses (length bytes) listingBytes (answer 7 0 0) untouched h))
+
+  module _ (h : listingBytes ≤ length bytes) {cleared : List ℕ} (z : cleared ≡ zeros bytes) where
+    -- what is printed fits
+    pub prints-fit : length (programPrints input) ≤ length cleared
+    prints-fit = omega (arith, program-fits input, ap length z, length-replicate {A = ℕ} (length bytes) 0)
+
+    -- done
+    pub way-printed : {r : ℕ} {after : List ℕ} → (r ≡ length (programPrints input)) × (after ≡ sets cleared 0 (programPrints input))
+        → _≡_ {A = Outcome (List ℕ)} (record { answer = answer 0 0 r; lent = after }) (listed input bytes)
+    unfolding listed listingTests listingDone
+    way-printed w =
+        let fits = program-fits input in
+        rw (w .0, w .1, z, sets-zeros (programPrints input) bytes (omega arith))
+        (sym (outcome-done listingTests listingDone zeros call bytes (first-last _ call ∙ over-passes-iff (length bytes) listingBytes (answer 7 0 0) untouched .1 h)))

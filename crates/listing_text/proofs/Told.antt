@@ -1,0 +1,123 @@
+-- What is read of a text is the job that is printed: its lists lie in the fronts of the buffers, its rows as they are kept, and neither the analysis nor what
+-- is printed of it sees the difference.
+-- Assumes nothing.
+use Prim.Native.Nat.{ℕ, _+_, _≤_}
+use mathlib.Core.Path.{_≡_, refl, sym, ap, _∙_}
+use mathlib.Core.List.{List, map}
+use native.Mathlib.Omega.{arith}
+use lib.ListN.{length, take, replicate, length-map, length-replicate}
+use lib.Seq.{sets, length-sets}
+use Rattle.papers.specs.declared.JobHead.{JobHead}
+use Rattle.papers.specs.Bounds.{programColumns, programRows}
+use Rattle.papers.specs.Job.{Job, jobOf}
+use Rattle.papers.specs.Refusals.{answer, passed, first, Lent}
+use Rattle.papers.specs.Analysis.{analysed}
+use Rattle.papers.specs.Text.{Input, textJob, textTests, refusalLine, buffers, jobPrinted, programPrints}
+use Rattle.lent.specs.Six.{six}
+use Rattle.column_laws.proofs.Parts.{front-stored}
+use Rattle.text_lines.specs.Lines.{narrowed}
+use Rattle.text_reader.specs.declared.JobRead.{JobRead}
+use Rattle.text_reader.specs.declared.JobRead.the-variants as read
+use Rattle.text_reader.specs.Reading.{JobTold, job-read, text-refused, keptJob}
+use Rattle.text_reader.proofs.Narrow.{kept-printed}
+use Rattle.text_reader.proofs.Sizes.{Sizes, passed-sizes}
+
+-- the front of a slice, where so many numbers were stored
+front : (xs l : List ℕ) (k : ℕ) {m : List ℕ} → m ≡ sets l 0 xs → length xs ≡ k → k ≤ length l → take k m ≡ xs
+front xs l k s e h = rw (s, ← e) (front-stored l xs (omega arith))
+
+same-job : (j : Job) {n mark limit : ℕ} {starts rows : List ℕ} → n ≡ j .n → starts ≡ j .starts → rows ≡ j .rows → mark ≡ j .mark → limit ≡ j .limit
+    → record { n = n; starts = starts; rows = rows; mark = mark; limit = limit } ≡ j
+same-job j a b c d e i = record { n = a i; starts = b i; rows = c i; mark = d i; limit = e i }
+
+-- ---- a text that is refused
+
+module _ (input : Input) where
+  pub told-refusal : {starts₀ rows₀ starts rows : List ℕ} {r : JobRead} {number place : ℕ} → JobTold input starts₀ rows₀ starts rows r → r ≡ read.Refused number place
+      → programPrints input ≡ refusalLine (answer number place 0)
+  unfolding programPrints
+  told-refusal (job-read p e s k) g = absurd (let z : _≡_ {A = ℕ} 0 1 = cc in omega arith)
+  told-refusal {number = number} {place = place} (text-refused c q p e) g =
+      let a : c ≡ number = cc in
+      let b : q ≡ place = cc in
+      rw (p, programPrints, a, b)
+
+-- ---- a text whose job was read
+
+-- the job's lists at the front of two slices
+pub record JobFound (input : Input) (starts₀ rows₀ starts rows : List ℕ) (head : JobHead) (count : ℕ) : Type 0 where
+  pub passes : first textTests input ≡ passed
+  pub columns : head .n ≡ textJob (input .text) .n
+  pub marked : head .mark ≡ textJob (input .text) .mark
+  pub limited : head .limit ≡ textJob (input .text) .limit
+  pub counted : count ≡ length (textJob (input .text) .rows)
+  pub started : starts ≡ sets starts₀ 0 (textJob (input .text) .starts)
+  pub kept : rows ≡ sets rows₀ 0 (map narrowed (textJob (input .text) .rows))
+
+pub told-job : {input : Input} {starts₀ rows₀ starts rows : List ℕ} {r : JobRead} {head : JobHead} {count : ℕ} → JobTold input starts₀ rows₀ starts rows r → r ≡ read.Job head count
+    → JobFound input starts₀ rows₀ starts rows head count
+told-job {input} {head = head} {count = count} (job-read p e s k) g =
+    let job = textJob (input .text) in
+    let a : record { n = job .n; mark = job .mark; limit = job .limit } ≡ head = cc in
+    let b : length (job .rows) ≡ count = cc in
+    record {
+      passes = p;
+      columns = sym (ap (λ (h : JobHead). h .n) a);
+      marked = sym (ap (λ (h : JobHead). h .mark) a);
+      limited = sym (ap (λ (h : JobHead). h .limit) a);
+      counted = sym b;
+      started = s;
+      kept = k;
+    }
+told-job (text-refused c q p e) g = absurd (let z : _≡_ {A = ℕ} 0 1 = cc in omega arith)
+
+-- in the program's zeroed buffers
+module _ {input : Input} {starts rows : List ℕ} {head : JobHead} {count : ℕ} (f : JobFound input (replicate (programColumns + 1) 0) (replicate programRows 0) starts rows head count) where
+  sizes : Sizes (input .text)
+  sizes = passed-sizes input (f .passes)
+
+  pub found-columns : head .n ≤ programColumns
+  found-columns = omega (arith, f .columns, sizes .columns)
+
+  pub found-rows : count ≤ programRows
+  found-rows = omega (arith, f .counted, sizes .rows)
+
+  wide : length {A = ℕ} (replicate (programColumns + 1) 0) ≡ programColumns + 1
+  wide = length-replicate {A = ℕ} (programColumns + 1) 0
+
+  long : length {A = ℕ} (replicate programRows 0) ≡ programRows
+  long = length-replicate {A = ℕ} programRows 0
+
+  pub starts-long : head .n + 1 ≤ length starts
+  starts-long = omega (arith, found-columns, ap length (f .started), length-sets (replicate (programColumns + 1) 0) 0 (textJob (input .text) .starts), wide)
+
+  pub rows-long : count ≤ length rows
+  rows-long = omega (arith, found-rows, ap length (f .kept), length-sets (replicate programRows 0) 0 (map narrowed (textJob (input .text) .rows)), long)
+
+  job-is : jobOf head (take (head .n + 1) starts) (take count rows) ≡ keptJob (textJob (input .text))
+  job-is =
+      let job = textJob (input .text) in
+      same-job (keptJob job) (f .columns)
+      (front (job .starts) (replicate (programColumns + 1) 0) (head .n + 1) (f .started) (omega (arith, f .columns, sizes .starts)) (omega (arith, found-columns, wide)))
+      (front (map narrowed (job .rows)) (replicate programRows 0) count (f .kept) (omega (arith, f .counted, length-map (job .rows) narrowed)) (omega (arith, found-rows, long)))
+      (f .marked) (f .limited)
+
+  -- what is printed of it is what is printed of the text
+  pub found-printed : programPrints input ≡ jobPrinted (jobOf head (take (head .n + 1) starts) (take count rows)) (analysed (jobOf head (take (head .n + 1) starts) (take count rows)) buffers .answer)
+  unfolding programPrints
+  found-printed = rw (f .passes, programPrints) (sym (kept-printed (textJob (input .text)) buffers) ∙ ap (λ (j : Job). jobPrinted j (analysed j buffers .answer)) (sym job-is))
+
+-- ---- zeroed slices of the program's sizes are its buffers
+
+module _ (job : Job) (bytes₀ : List ℕ) where
+  abbrev pub zeroes : Lent
+  zeroes = six (replicate 256 0) (replicate 256 0) (replicate 256 0) (replicate 257 0) (replicate 4096 0) (replicate 2056 0)
+
+  pub fits-in : length (jobPrinted job (analysed job buffers .answer)) ≤ length bytes₀ → length (jobPrinted job (analysed job zeroes .answer)) ≤ length bytes₀
+  unfolding buffers
+  fits-in h = h
+
+  pub printed-in : {r : ℕ} {bytes : List ℕ} → (r ≡ length (jobPrinted job (analysed job zeroes .answer))) × (bytes ≡ sets bytes₀ 0 (jobPrinted job (analysed job zeroes .answer)))
+      → (r ≡ length (jobPrinted job (analysed job buffers .answer))) × (bytes ≡ sets bytes₀ 0 (jobPrinted job (analysed job buffers .answer)))
+  unfolding buffers
+  printed-in w = w

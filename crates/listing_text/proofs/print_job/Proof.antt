@@ -1,0 +1,49 @@
+-- Zeroed slices of the program's sizes are its buffers.
+-- Assumes nothing.
+use native.Mathlib.Omega.{arith}
+use borrow.Author.Needs.{needs}
+use Rattle.papers.specs.Job.{jobOf}
+use Rattle.listing_text.proofs.Told.{fits-in, printed-in}
+use Rattle.listing_text.proofs.print_job.Statement.{statement}
+use Rattle.listing_text.proofs.print_job.Tie as tie
+
+slice-aggregate-print-analysis : tie.Need-slice-aggregate-print-analysis
+slice-aggregate-print-analysis c = search needs
+
+slice-aggregate-print-analysis-2 : tie.Need-slice-aggregate-print-analysis-2
+slice-aggregate-print-analysis-2 c = search needs
+
+slice-aggregate-print-analysis-3 : tie.Need-slice-aggregate-print-analysis-3
+slice-aggregate-print-analysis-3 c = search needs
+
+slice-aggregate-print-analysis-4 : tie.Need-slice-aggregate-print-analysis-4
+slice-aggregate-print-analysis-4 c = search needs
+
+slice-aggregate-print-analysis-5 : tie.Need-slice-aggregate-print-analysis-5
+slice-aggregate-print-analysis-5 c = search needs
+
+slice-aggregate-print-analysis-6 : tie.Need-slice-aggregate-print-analysis-6
+slice-aggregate-print-analysis-6 c = search needs
+
+print-analysis-requires : tie.Need-print-analysis-requires
+print-analysis-requires c κs = (omega (arith, c .before .before .before .before .before .before .before .before .before .before .pre .0), fits-in (jobOf (c .before .before .before .before .before .before .before .before .before .before .args .head) (c .before .before .before .before .before .before .before .before .before .before .args .starts .now) (c .before .before .before .before .before .before .before .before .before .before .args .rows .now)) (c .before .before .before .before .before .before .before .before .before .before .args .bytes .now) (c .before .before .before .before .before .before .before .before .before .before .pre .1))
+
+same-length : tie.Need-same-length
+same-length c = search needs
+
+returns : tie.Need-returns
+returns c = printed-in (jobOf (c .before .before .before .before .before .before .before .before .before .before .before .before .before .before .before .before .before .before .before .args .head) (c .before .before .before .before .before .before .before .before .before .before .before .before .before .before .before .before .before .before .before .args .starts .now) (c .before .before .before .before .before .before .before .before .before .before .before .before .before .before .before .before .before .before .before .args .rows .now)) (c .before .before .before .before .before .before .before .before .before .before .before .before .before .before .before .before .before .before .before .args .bytes .now) (c .before .before .before .before .before .before .before .before .print-analysis .ensures)
+
+pub print-job-spec : {M : Type 1} → statement M
+print-job-spec =
+    tie.close
+    (tie.spec
+    slice-aggregate-print-analysis
+    slice-aggregate-print-analysis-2
+    slice-aggregate-print-analysis-3
+    slice-aggregate-print-analysis-4
+    slice-aggregate-print-analysis-5
+    slice-aggregate-print-analysis-6
+    print-analysis-requires
+    same-length
+    returns)

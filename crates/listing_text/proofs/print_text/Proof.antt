@@ -1,0 +1,80 @@
+-- A text that is refused prints its line; the job of any other lies in the fronts of the buffers, and what is printed of it is what is printed of the text.
+-- Assumes nothing.
+use mathlib.Core.Path.{sym, ap}
+use native.Mathlib.Omega.{arith}
+use lib.ListN.{length}
+use lib.Seq.{length-take-le}
+use borrow.Author.Needs.{needs}
+use Rattle.listing_plan.proofs.Parts.{written-as}
+use Rattle.listing_text.proofs.Told.{told-refusal, told-job, found-columns, found-rows, starts-long, rows-long, found-printed}
+use Rattle.listing_text.proofs.print_text.Statement.{statement}
+use Rattle.listing_text.proofs.print_text.Tie as tie
+
+slice-aggregate-read-job : tie.Need-slice-aggregate-read-job
+slice-aggregate-read-job c = search needs
+
+slice-aggregate-read-job-2 : tie.Need-slice-aggregate-read-job-2
+slice-aggregate-read-job-2 c = search needs
+
+read-job-requires : tie.Need-read-job-requires
+read-job-requires c κs = search needs
+
+enum-known-number : tie.Need-enum-known-number
+enum-known-number c = search needs
+
+write-refusal-requires : tie.Need-write-refusal-requires
+write-refusal-requires c κs = omega (arith, ap length (told-refusal _ (c .before .before .before .before .before .before .read-job .ensures) (c .before .before .number .given .1)), c .before .before .before .before .before .before .before .before .before .before .before .pre)
+
+same-length : tie.Need-same-length
+same-length c = search needs
+
+returns : tie.Need-returns
+returns c = written-as (told-refusal _ (c .before .before .before .before .before .before .before .before .before .read-job .ensures) (c .before .before .before .before .before .number .given .1)) (c .before .before .before .before .before .before .before .before .before .before .before .before .before .before .args .bytes .now) (c .before .before .write-refusal .ensures)
+
+enum-known-head : tie.Need-enum-known-head
+enum-known-head c = search needs
+
+add-starts : tie.Need-add-starts
+add-starts c = omega (arith, found-columns (told-job (c .before .before .before .before .before .read-job .ensures) (c .before .head .given .1)))
+
+array-share-prefix-starts : tie.Need-array-share-prefix-starts
+array-share-prefix-starts c = omega (arith, found-columns (told-job (c .before .before .before .before .before .read-job .ensures) (c .before .head .given .1)))
+
+slice-aggregate-print-job : tie.Need-slice-aggregate-print-job
+slice-aggregate-print-job c = sym (length-take-le _ _ (starts-long (told-job (c .before .before .before .before .before .before .read-job .ensures) (c .before .before .head .given .1))))
+
+array-share-prefix-rows : tie.Need-array-share-prefix-rows
+array-share-prefix-rows c = omega (arith, found-rows (told-job (c .before .before .before .before .before .before .read-job .ensures) (c .before .before .head .given .1)))
+
+slice-aggregate-print-job-2 : tie.Need-slice-aggregate-print-job-2
+slice-aggregate-print-job-2 c = sym (length-take-le _ _ (rows-long (told-job (c .before .before .before .before .before .before .before .read-job .ensures) (c .before .before .before .head .given .1))))
+
+print-job-requires : tie.Need-print-job-requires
+print-job-requires c κs = (found-columns (told-job (c .before .before .before .before .before .before .before .before .read-job .ensures) (c .before .before .before .before .head .given .1)), omega (arith, ap length (found-printed (told-job (c .before .before .before .before .before .before .before .before .read-job .ensures) (c .before .before .before .before .head .given .1))), c .before .before .before .before .before .before .before .before .before .before .before .before .before .pre))
+
+same-length-2 : tie.Need-same-length-2
+same-length-2 c = search needs
+
+returns-2 : tie.Need-returns-2
+returns-2 c = written-as (found-printed (told-job (c .before .before .before .before .before .before .before .before .before .before .before .read-job .ensures) (c .before .before .before .before .before .before .before .head .given .1))) (c .before .before .before .before .before .before .before .before .before .before .before .before .before .before .before .before .args .bytes .now) (c .before .before .print-job .ensures)
+
+pub print-text-spec : {M : Type 1} → statement M
+print-text-spec =
+    tie.close
+    (tie.spec
+    slice-aggregate-read-job
+    slice-aggregate-read-job-2
+    read-job-requires
+    enum-known-number
+    write-refusal-requires
+    same-length
+    returns
+    enum-known-head
+    add-starts
+    array-share-prefix-starts
+    slice-aggregate-print-job
+    array-share-prefix-rows
+    slice-aggregate-print-job-2
+    print-job-requires
+    same-length-2
+    returns-2)
