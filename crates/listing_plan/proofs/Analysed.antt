@@ -20,7 +20,7 @@ use Rattle.job_laws.proofs.Passed.{Passed, PassedLists, lists-iff, passes-iff, 
 use Rattle.job_laws.proofs.Laid.{rows-laid, starts-laid}
 use Rattle.lent_plan.proofs.Ties.{startsOf}
 use Rattle.plan_writer.specs.Lists.{stepsIn, planIn, Writable}
-use Rattle.plan_bytes.proofs.Handed.{planned, done-passes, done-holds, done-writable}
+use Rattle.plan_bytes.proofs.Handed.{done-in-front, peak-counted}
 use Rattle.step_lines.specs.Steps.{Printable}
 use Rattle.listing_plan.specs.PlanLines.{planLines}
 use Rattle.listing_plan.proofs.Steps.{lines-same, steps-printable}
@@ -108,13 +108,13 @@ module _ (job : Job) (lent : Lent) {r : Answer} {after : Lent} (e : _≡_ {A = O
 
   module _ (z : r .number ≡ 0) where
     laid : planIn (job .n) (take (job .n) (after .order)) (take (job .n) (after .pops)) (take (job .n + 1) (after .factorStarts)) (take (getD (after .factorStarts) (job .n) 0) (after .factorRows)) (planOf job .peak) ≡ planOf job
-    laid = planned job lent (done-passes job lent e z) (done-holds job lent e z)
+    laid = rw (peak-counted job lent e z) at (done-in-front job lent e z .planned)
 
     -- its steps can be printed
     pub done-printable : Printable (take (job .n) (after .order)) (take (job .n) (after .pops)) (take (job .n + 1) (after .factorStarts)) (take (getD (after .factorStarts) (job .n) 0) (after .factorRows))
-    done-printable = plan-printable job (done-writable job lent e z) laid
+    done-printable = plan-printable job (done-in-front job lent e z .writable) laid
 
     -- and are what is printed
     pub done-printed : jobPrinted job (analysed job lent .answer)
         ≡ planLines (job .n) (job .mark) (r .count) (take (job .n) (after .order)) (take (job .n) (after .pops)) (take (job .n + 1) (after .factorStarts)) (take (getD (after .factorStarts) (job .n) 0) (after .factorRows))
-    done-printed = ap (jobPrinted job) answer-is ∙ listing-printed z ∙ plan-printed job (done-writable job lent e z) laid (r .count)
+    done-printed = ap (jobPrinted job) answer-is ∙ listing-printed z ∙ plan-printed job (done-in-front job lent e z .writable) laid (r .count)

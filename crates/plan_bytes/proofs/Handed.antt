@@ -7,6 +7,7 @@ use mathlib.Core.List.{List}
 use native.Mathlib.Omega.{arith}
 use lib.ListN.{length, getD, take, length-map, List·getD-append}
 use Rattle.papers.specs.declared.Answer.{Answer}
+use Rattle.papers.specs.Bounds.{maxColumns}
 use Rattle.papers.specs.Lists.{flat, startsFrom, thenZeros}
 use Rattle.papers.specs.Job.{Job, columnOf}
 use Rattle.papers.specs.Key.{listsOf}
@@ -17,7 +18,7 @@ use Rattle.list_laws.proofs.Stores.{length-then-zeros, take-then-zeros, length-
 use Rattle.bytes_laws.proofs.Plans.{Fit}
 use Rattle.job_laws.proofs.Firsts.{first-passed-iff, over-passes-iff}
 use Rattle.job_laws.proofs.Starts.{start-at}
-use Rattle.job_laws.proofs.Passed.{PassedLists, lists-iff}
+use Rattle.job_laws.proofs.Passed.{PassedLists, lists-iff, passes-iff}
 use Rattle.job_laws.proofs.Laid.{laid-lists}
 use Rattle.job_laws.proofs.Readable.{laid-pass}
 use Rattle.refusal_laws.proofs.Agreements.{agree-passed-iff}
@@ -135,14 +136,20 @@ module _ (job : Job) (lent : Lent) (p : first analysisTests (record { job = job;
 
 -- ---- an analysis that answers 0
 
-module _ (job : Job) (slices : PlanLent) {r : Answer} {after : Lent} (e : _≡_ {A = Outcome Lent} (record { answer = r; lent = after }) (analysed job (slices .analysis)))
-    (z : r .number ≡ 0) where
+module _ (job : Job) (lent : Lent) {r : Answer} {after : Lent} (e : _≡_ {A = Outcome Lent} (record { answer = r; lent = after }) (analysed job lent)) (z : r .number ≡ 0) where
   -- the plan lies in front of its slices, and its count is the peak
   pub done-in-front : InFront job (after .order) (after .pops) (after .factorStarts) (after .factorRows) (r .count)
-  done-in-front = let (p, count, holds) = analysis-done job (slices .analysis) e z in rw count (in-front job (slices .analysis) p holds)
+  done-in-front = let (p, count, holds) = analysis-done job lent e z in rw count (in-front job lent p holds)
 
-  -- what is then stored beside it is the outcome
-  pub done-stored : {found : Outcome PlanLent} → Alike (slices .analysis) after
-      → found ≡ storedBeside (planBytes job (planOf job)) (record { analysis = after; bytes = slices .bytes }) → found ≡ planWritten job slices
-  done-stored alike f =
-      let (p, count, holds) = analysis-done job (slices .analysis) e z in way-stored job slices p holds (zeros-alike (slices .analysis) after alike refl) f
+  pub peak-counted : r .count ≡ planOf job .peak
+  peak-counted = analysis-done job lent e z .1
+
+  pub few-columns : job .n ≤ maxColumns
+  few-columns = passes-iff job .0 (valid job lent (analysis-done job lent e z .0)) .few
+
+-- what is then stored beside it is the outcome
+pub done-stored : (job : Job) (slices : PlanLent) {r : Answer} {after : Lent} → _≡_ {A = Outcome Lent} (record { answer = r; lent = after }) (analysed job (slices .analysis)) → r .number ≡ 0
+    → {found : Outcome PlanLent} → Alike (slices .analysis) after
+    → found ≡ storedBeside (planBytes job (planOf job)) (record { analysis = after; bytes = slices .bytes }) → found ≡ planWritten job slices
+done-stored job slices {after = after} e z alike f =
+    let (p, count, holds) = analysis-done job (slices .analysis) e z in way-stored job slices p holds (zeros-alike (slices .analysis) after alike refl) f
