@@ -1,0 +1,17 @@
+// The program `plan`: prints the listing of the job text on standard input, or the line of its refusal.
+use libc::STDIN_FILENO;
+use libc::STDOUT_FILENO;
+
+// Reads as much as the buffer for input holds, and looks whether a byte follows.
+fn main() {
+    let mut input = [0u8; text_reader::INPUT_BYTES];
+    let mut behind = [0u8; 1];
+    let read = io::read_full(STDIN_FILENO, &mut input);
+    let more = io::read_full(STDIN_FILENO, &mut behind);
+    let mut output = [0u8; listing::LISTING_BYTES];
+    let answer = listing::listing(&input[..read], more != 0, &mut output);
+    let printed = answer.count as usize;
+    if printed <= output.len() {
+        io::write_all(STDOUT_FILENO, &output[..printed]);
+    }
+}
