@@ -3,7 +3,6 @@
 use native.Mathlib.Omega.{arith}
 use lib.ListN.{length-take}
 use borrow.Author.Needs.{needs}
-use borrow.Author.Needs.{needs}
 use Rattle.rehearsal.proofs.call.wrong_in_call.Statement.{statement}
 use Rattle.rehearsal.proofs.call.wrong_in_call.Tie as tie
 
