@@ -1,0 +1,120 @@
+-- Every lent part is within its array.
+-- Assumes nothing.
+use native.Mathlib.Omega.{arith}
+use lib.ListN.{length-take}
+use borrow.Author.Needs.{needs}
+use Rattle.rehearsal.proofs.call.wrong_in_call.Statement.{statement}
+use Rattle.rehearsal.proofs.call.wrong_in_call.Tie as tie
+
+starts-of-requires : tie.Need-starts-of-requires
+starts-of-requires c κs = search needs
+
+list-of-requires : tie.Need-list-of-requires
+list-of-requires c κs = search needs
+
+list-of-requires-2 : tie.Need-list-of-requires-2
+list-of-requires-2 c κs = search needs
+
+list-of-requires-3 : tie.Need-list-of-requires-3
+list-of-requires-3 c κs = search needs
+
+filled-requires : tie.Need-filled-requires
+filled-requires c κs = search needs
+
+length-requires : tie.Need-length-requires
+length-requires c κs = search needs
+
+length-requires-2 : tie.Need-length-requires-2
+length-requires-2 c κs = search needs
+
+length-requires-3 : tie.Need-length-requires-3
+length-requires-3 c κs = search needs
+
+length-requires-4 : tie.Need-length-requires-4
+length-requires-4 c κs = search needs
+
+length-requires-5 : tie.Need-length-requires-5
+length-requires-5 c κs = search needs
+
+n-requires : tie.Need-n-requires
+n-requires c κs = search needs
+
+array-share-prefix-starts : tie.Need-array-share-prefix-starts
+array-share-prefix-starts c = search needs
+
+slice-aggregate-run : tie.Need-slice-aggregate-run
+slice-aggregate-run c = simp length-take (omega arith)
+
+array-share-prefix-rows : tie.Need-array-share-prefix-rows
+array-share-prefix-rows c = search needs
+
+slice-aggregate-run-2 : tie.Need-slice-aggregate-run-2
+slice-aggregate-run-2 c = simp length-take (omega arith)
+
+array-share-prefix-columns : tie.Need-array-share-prefix-columns
+array-share-prefix-columns c = search needs
+
+slice-aggregate-run-3 : tie.Need-slice-aggregate-run-3
+slice-aggregate-run-3 c = simp length-take (omega arith)
+
+array-share-prefix-pops : tie.Need-array-share-prefix-pops
+array-share-prefix-pops c = search needs
+
+slice-aggregate-run-4 : tie.Need-slice-aggregate-run-4
+slice-aggregate-run-4 c = simp length-take (omega arith)
+
+room-requires : tie.Need-room-requires
+room-requires c κs = search needs
+
+array-borrow-prefix-stack : tie.Need-array-borrow-prefix-stack
+array-borrow-prefix-stack c = search needs
+
+slice-aggregate-run-5 : tie.Need-slice-aggregate-run-5
+slice-aggregate-run-5 c = simp length-take (omega arith)
+
+run-requires : tie.Need-run-requires
+run-requires c κs = search needs
+
+differences-requires : tie.Need-differences-requires
+differences-requires c κs = search needs
+
+wrong-places-requires : tie.Need-wrong-places-requires
+wrong-places-requires c κs = search needs
+
+plus-requires : tie.Need-plus-requires
+plus-requires c κs = search needs
+
+returns : tie.Need-returns
+returns c = search needs
+
+pub wrong-in-call-spec : {M : Type 1} → statement M
+wrong-in-call-spec =
+    tie.close
+    (tie.spec
+    starts-of-requires
+    list-of-requires
+    list-of-requires-2
+    list-of-requires-3
+    filled-requires
+    length-requires
+    length-requires-2
+    length-requires-3
+    length-requires-4
+    length-requires-5
+    n-requires
+    array-share-prefix-starts
+    slice-aggregate-run
+    array-share-prefix-rows
+    slice-aggregate-run-2
+    array-share-prefix-columns
+    slice-aggregate-run-3
+    array-share-prefix-pops
+    slice-aggregate-run-4
+    room-requires
+    array-borrow-prefix-stack
+    slice-aggregate-run-5
+    run-requires
+    differences-requires
+    wrong-places-requires
+    plus-requires
+    returns)

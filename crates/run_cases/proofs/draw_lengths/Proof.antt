@@ -1,0 +1,63 @@
+-- A turn is safe whatever it finds. The measure is how many turns are left.
+-- Assumes nothing.
+use Prim.Native.Nat.{_-_}
+use native.Mathlib.Omega.{arith}
+use Rattle.run_cases.proofs.draw_lengths.Statement.{statement}
+use Rattle.run_cases.proofs.draw_lengths.Tie as tie
+
+abbrev Inv-loop : tie.InvT-loop
+Inv-loop case₀ seed state₀ part₀ case state part = Unit {0}
+
+abbrev μ-loop : tie.MeasureT-loop
+μ-loop case₀ seed state₀ part₀ case state part = 6 - part
+
+loop-holds : tie.Need-loop-holds Inv-loop μ-loop
+loop-holds c = tt
+
+next-requires : tie.Need-next-requires Inv-loop μ-loop
+next-requires c κs = tt
+
+n-requires : tie.Need-n-requires Inv-loop μ-loop
+n-requires c κs = tt
+
+choice-requires : tie.Need-choice-requires Inv-loop μ-loop
+choice-requires c κs = tt
+
+add-requires : tie.Need-add-requires Inv-loop μ-loop
+add-requires c κs = tt
+
+add-requires-2 : tie.Need-add-requires-2 Inv-loop μ-loop
+add-requires-2 c κs = tt
+
+set-requires : tie.Need-set-requires Inv-loop μ-loop
+set-requires c κs = tt
+
+add-part : tie.Need-add-part Inv-loop μ-loop
+add-part c = omega arith
+
+loop-less : tie.Need-loop-less Inv-loop μ-loop
+loop-less c = omega arith
+
+loop-again : tie.Need-loop-again Inv-loop μ-loop
+loop-again c = tt
+
+returns : tie.Need-returns Inv-loop μ-loop
+returns c = tt
+
+pub draw-lengths-spec : {M : Type 1} → statement M
+draw-lengths-spec =
+    tie.close
+    (tie.spec
+    Inv-loop
+    μ-loop
+    loop-holds
+    next-requires
+    n-requires
+    choice-requires
+    add-requires
+    add-requires-2
+    set-requires
+    add-part
+    loop-less
+    loop-again
+    returns)

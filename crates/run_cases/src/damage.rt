@@ -1,0 +1,71 @@
+// One argument of a case changed.
+use elimination::grid::add;
+use elimination::grid::less;
+use elimination::shapes::choice;
+use elimination::shapes::next;
+use simulation::case;
+use simulation::case::Case;
+use simulation::case::get;
+use simulation::case::length;
+use simulation::case::set;
+
+// The part to change: in the head n and the lengths stand.
+fn part_of(lot: usize) -> usize {
+    match lot {
+        0 | 1 | 2 => case::HEAD,
+        3 | 4 => case::STARTS,
+        5 | 6 => case::ROWS,
+        7 | 8 => case::COLUMNS,
+        _ => case::POPS,
+    }
+}
+
+// The place to change in a part that has so many.
+fn place_of(part: usize, places: usize, seed: usize) -> usize {
+    if part == case::HEAD {
+        return add(case::N, choice(seed, 6));
+    }
+    choice(seed, places)
+}
+
+// A number to put in the place of x: one of its neighbours, the least, the greatest of 32 and of 64 bits, the greatest n and one more, one more than n,
+// or one from 0 to n.
+fn other(x: usize, n: usize, lot: usize, seed: usize) -> usize {
+    match lot {
+        0 | 1 => less(x, 1),
+        2 | 3 => add(x, 1),
+        4 => 0,
+        5 => 4294967295,
+        6 => 18446744073709551615,
+        7 => 4096,
+        8 => 4097,
+        9 => add(n, 1),
+        _ => choice(seed, add(n, 1)),
+    }
+}
+
+// A number that the place can hold: starts and n have 64 bits, lengths go up to 96.
+fn narrow(part: usize, place: usize, x: usize) -> usize {
+    if part == case::STARTS {
+        return x;
+    }
+    if part != case::HEAD {
+        return x % 4294967296;
+    }
+    if place == case::N {
+        return x;
+    }
+    x % 97
+}
+
+pub fn damage(case: &mut Case, seed: usize) -> usize {
+    let a = next(seed);
+    let b = next(a);
+    let c = next(b);
+    let d = next(c);
+    let part = part_of(choice(a, 12));
+    let place = place_of(part, length(case, part), b);
+    let value = other(get(case, part, place), case::n(case), choice(c, 12), d);
+    set(case, part, place, narrow(part, place, value));
+    d
+}

@@ -1,0 +1,105 @@
+// Runs to try, of up to 12 columns, drawn from a seed: lists with and without fill, steps of a plan and steps by lot, columns repeated, damage to every
+// argument, and rooms about the one needed. What draws from a seed answers the seed to go on with. Nothing is promised but that every function is safe
+// and ends.
+mod lists; // lists.rt: the lists, and the steps of a plan over them
+mod lot; // lot.rt: steps by lot
+mod damage; // damage.rt: an argument changed
+
+use elimination::fill;
+use elimination::grid::add;
+use elimination::grid::less;
+use elimination::shapes::choice;
+use elimination::shapes::next;
+use simulation::case;
+use simulation::case::Case;
+use simulation::case::set;
+
+// The greatest room.
+const MOST: usize = 18446744073709551615;
+
+// A number that is right nowhere, at every place.
+fn clear(case: &mut Case) {
+    for place in 0..576 {
+        case[place] = 7000;
+    }
+}
+
+// Columns, pops and stack list have n places or a few more.
+fn draw_lengths(case: &mut Case, seed: usize) -> usize {
+    let mut state = seed;
+    for part in 3..6 {
+        state = next(state);
+        let length = add(case::n(case), choice(state, 4));
+        set(case, case::HEAD, add(case::N, part), length);
+    }
+    state
+}
+
+// All arguments but the room, which is the greatest.
+fn draw_steps(case: &mut Case, seed: usize) -> usize {
+    let a = next(seed);
+    let n = choice(a, 13);
+    let mut grid = [0usize; 625];
+    let mut counts = [0usize; 25];
+    let mut parents = [0usize; 25];
+    let b = lists::draw_grid(&mut grid, n, a);
+    fill::columns(&grid, &mut counts, &mut parents);
+    lists::write_lists(case, &grid, &counts, n);
+    set(case, case::HEAD, case::ROOM, MOST);
+    let c = next(draw_lengths(case, b));
+    let d = next(c);
+    if choice(c, 2) == 0 {
+        lists::write_plan(case, &parents, &counts, n, choice(d, 3));
+        return d;
+    }
+    lot::draw_lot(case, d)
+}
+
+// Half of the cases stay as they are; one argument is changed, or two.
+fn draw_damage(case: &mut Case, seed: usize) -> usize {
+    let a = next(seed);
+    let harm = choice(a, 6);
+    if harm < 3 {
+        return a;
+    }
+    let b = damage::damage(case, a);
+    if harm < 5 {
+        return b;
+    }
+    damage::damage(case, b)
+}
+
+// A room where so much is needed: that, one less, one more, something below, and the least and the greatest of all.
+fn room_of(needed: usize, lot: usize, seed: usize) -> usize {
+    match lot {
+        0 => 0,
+        1 => less(needed, 1),
+        2 => add(needed, 1),
+        3 => choice(seed, add(needed, 1)),
+        4 => 9223372036854775808,
+        5 => MOST,
+        _ => needed,
+    }
+}
+
+// A room about what the steps need.
+fn draw_room(case: &mut Case, seed: usize) -> usize {
+    let needed = simulation::simulate(case).count as usize;
+    let a = next(seed);
+    let b = next(a);
+    set(
+        case,
+        case::HEAD,
+        case::ROOM,
+        room_of(needed, choice(a, 8), b),
+    );
+    b
+}
+
+// The case of a seed.
+pub fn draw_case(case: &mut Case, seed: usize) -> usize {
+    clear(case);
+    let a = draw_steps(case, seed);
+    let b = draw_damage(case, a);
+    draw_room(case, b)
+}
