@@ -1,0 +1,149 @@
+-- From what the reading and the judgement answer to what is known of the check, and from that to its outcome once the slices are cleared.
+-- Assumes nothing.
+use Prim.Native.Nat.{ℕ, _<_, _≤_}
+use mathlib.Core.Path.{_≡_, refl, sym, ap, _∙_}
+use mathlib.Core.Logic.{_≢_}
+use mathlib.Core.List.{List, map}
+use native.Mathlib.Omega.{arith}
+use lib.ListN.{length, getD}
+use lib.Seq.{sets}
+use Rattle.papers.specs.declared.Answer.{Answer}
+use Rattle.papers.specs.Lists.{upTo, flat, zeros}
+use Rattle.papers.specs.Job.{Job, pattern}
+use Rattle.papers.specs.Tree.{parent}
+use Rattle.papers.specs.Key.{keyOf}
+use Rattle.papers.specs.Plan.{Plan, Read, got, bad, readPlan}
+use Rattle.papers.specs.Refusals.{answer, passed, first, Outcome, jobTests, Lent, allZero}
+use Rattle.papers.specs.Analysis.{holdingPlan}
+use Rattle.papers.specs.Check.{CheckCall, keyTest, planRead, checkTests, checkDone, checked}
+use Rattle.bytes_laws.proofs.Plans.{Fit, plan-only}
+use Rattle.job_laws.proofs.Outcomes.{outcome-zeroed, outcome-done}
+use Rattle.lent.specs.Six.{six, LongEnough}
+use Rattle.lent.proofs.Sixes.{each-zero}
+use Rattle.key_match.specs.declared.KeyMatch.{KeyMatch}
+use Rattle.key_match.specs.declared.KeyMatch.the-variants.{Begins}
+use Rattle.key_match.specs.Matches.{keyMatch}
+use Rattle.key_match.proofs.Answers.{begins-key}
+use Rattle.plan_reader.specs.declared.PlanReading.{PlanReading}
+use Rattle.plan_reader.specs.declared.PlanReading.the-variants.{Whole, Faulty}
+use Rattle.plan_reader.specs.Plans.{planReading, Keeps}
+use Rattle.plan_judge.specs.Judged.{InFront, HoldPlan, judgeTests, ruling, Judged}
+use Rattle.plan_judge.proofs.Rulings.{Told, refusal, clean, told, number-of}
+use Rattle.bytes_judge.specs.Ruled.{callOf, Ruled, refuses, passes}
+use Rattle.bytes_judge.proofs.Ways.{passes-11, refuses-12, refuses-8, from-16}
+use Rattle.bytes_judge.proofs.Fronts.{InSlices, in-slices, held-in-front, done-holds}
+
+-- ---- the answer of the reading
+
+pub reading-faulty : (found : Read Plan) {q : PlanReading} {number place : ℕ} → q ≡ planReading found → q ≡ Faulty number place → found ≡ bad number place
+unfolding planReading
+reading-faulty (got plan at) e f = absurd (let z : _≡_ {A = ℕ} 0 1 = cc in omega arith)
+reading-faulty (bad number place) e f = cc
+
+-- a plan was read, with this peak and so many rows in its lists
+pub record WholePlan (found : Read Plan) (peak count : ℕ) : Type 0 where
+  pub plan : Plan
+  pub at : ℕ
+  pub read : found ≡ got plan at
+  pub declared : plan .peak ≡ peak
+  pub counted : length (flat (plan .lists)) ≡ count
+
+pub reading-whole : (found : Read Plan) {q : PlanReading} {peak count : ℕ} → q ≡ planReading found → q ≡ Whole peak count → WholePlan found peak count
+unfolding planReading
+reading-whole (got plan at) e f = record { plan = plan; at = at; read = refl; declared = cc; counted = cc }
+reading-whole (bad number place) e f = absurd (let z : _≡_ {A = ℕ} 0 1 = cc in omega arith)
+
+-- ---- the judgement on the plan that was read
+module _ (job : Job) (bytes : List ℕ) (lent : Lent) (p : first jobTests job ≡ passed) (long : LongEnough (job .n) lent) (begins : keyTest (callOf job bytes lent) ≡ passed)
+    {plan : Plan} {at : ℕ} (read : planRead (callOf job bytes lent) ≡ got plan at)
+  where
+    abbrev call : CheckCall
+    call = callOf job bytes lent
+
+    done-is : checkDone call ≡ record { answer = answer 0 0 (plan .peak); lent = holdingPlan job plan lent }
+    unfolding checkDone
+    done-is = rw (read, checkDone)
+
+    pub judged : {parents order pops starts rows : List ℕ} {peak : ℕ} {r : Answer} → length (flat (plan .lists)) ≤ length (lent .factorRows) → plan .peak ≡ peak
+        → r ≡ ruling (first (judgeTests job) plan) peak → (r .number ≡ 0 → six parents order pops starts rows (zeros (lent .work)) ≡ holdingPlan job plan lent)
+        → Ruled call parents order pops starts rows r
+    judged {parents} {order} {pops} {starts} {rows} {peak} {r} fits declared e holds = go (told job plan peak e)
+      where
+        go : Told (first (judgeTests job) plan) peak r → Ruled call parents order pops starts rows r
+        go (refusal q z) = refuses (from-16 job bytes lent p long begins read fits ∙ q) z
+        go (clean q f) =
+            let h = holds (number-of f) in
+            let a : r ≡ answer 0 0 (plan .peak) = f ∙ ap (answer 0 0) (sym declared) in
+            passes (from-16 job bytes lent p long begins read fits ∙ q) (number-of f) ((λ i. record { answer = a i; lent = h i }) ∙ sym done-is)
+
+-- ---- from the bytes, the key and what stands behind it
+module _ (job : Job) (bytes : List ℕ) (lent : Lent) (p : first jobTests job ≡ passed) (long : LongEnough (job .n) lent) {m : KeyMatch} (matched : m ≡ keyMatch (keyOf job) bytes)
+    {at : ℕ} (behind : m ≡ Begins at) {g : PlanReading} (answered : g ≡ planReading (readPlan (job .n) bytes at))
+  where
+    begins : keyTest (callOf job bytes lent) ≡ passed
+    begins = passes-11 job bytes lent p long matched behind
+
+    at-key : at ≡ length (keyOf job)
+    at-key = begins-key (keyOf job) bytes matched behind .1
+
+    found : g ≡ planReading (planRead (callOf job bytes lent))
+    unfolding planRead
+    found = rw at-key at answered
+
+    -- 12 to 15
+    pub ruled-faulty : {number place : ℕ} {parents order pops starts rows : List ℕ} {r : Answer} → g ≡ Faulty number place → r ≡ answer number place 0
+        → Ruled (callOf job bytes lent) parents order pops starts rows r
+    ruled-faulty f e = let (v, z) = refuses-12 job bytes lent p long begins (reading-faulty _ found f) e in refuses v (λ n. omega arith)
+
+    module _ {peak count : ℕ} (f : g ≡ Whole peak count) where
+      whole : WholePlan (planRead (callOf job bytes lent)) peak count
+      whole = reading-whole _ found f
+
+      -- 8
+      pub ruled-rows : {parents order pops starts rows : List ℕ} {r : Answer} → length (lent .factorRows) < count → r ≡ answer 8 0 count → Ruled (callOf job bytes lent) parents order pops starts rows r
+      ruled-rows l e =
+          refuses (refuses-8 job bytes lent p long begins (whole .read) (omega (arith, whole .counted)) (e ∙ ap (answer 8 0) (sym (whole .counted)))) (λ n. omega (arith, number-of e))
+
+      -- 16 to 20 and 9, on the plan that the reading keeps in the cleared slices
+      module _ (each-byte : (i : ℕ) → getD bytes i 0 < 256) (fits : count ≤ length (lent .factorRows)) {p₁ o₁ q₁ s₁ r₁ w₁ o q s r : List ℕ} (cleared : six p₁ o₁ q₁ s₁ r₁ w₁ ≡ allZero lent)
+          (keeps : Keeps (readPlan (job .n) bytes at) o₁ o q₁ q s₁ s r₁ r)
+        where
+          fit : Fit (job .n) (whole .plan)
+          unfolding planRead
+          fit = plan-only (job .n) bytes each-byte (whole .plan) (length (keyOf job)) (whole .at) (whole .read) .1
+
+          kept : InSlices (whole .plan) lent o q s r
+          unfolding planRead
+          kept =
+              let each = each-zero lent _ cleared in
+              in-slices fit lent long (omega (arith, whole .counted)) (each .order) (each .pops) (each .starts) (each .rows) (keeps (whole .plan) (whole .at) (ap (readPlan (job .n) bytes) at-key ∙ whole .read))
+
+          front : InFront (job .n) (whole .plan) peak o q s r
+          front = held-in-front fit lent kept (whole .declared)
+
+          pub plan-held : HoldPlan (job .n) peak o q s r
+          plan-held = record { plan = whole .plan; front = front }
+
+          pub ruled-judged : {parents : List ℕ} {a : Answer} → Judged job peak o q s r a → (a .number ≡ 0 → parents ≡ sets p₁ 0 (map (parent (pattern job)) (upTo (job .n))))
+              → Ruled (callOf job bytes lent) parents o q s r a
+          ruled-judged e stores =
+              judged job bytes lent p long begins (whole .read) (omega (arith, whole .counted)) (whole .declared) (e (whole .plan) front)
+              (λ z. done-holds job (whole .plan) lent (long .parents) (each-zero lent _ cleared .parents) (stores z) kept)
+
+-- ---- the outcome
+module _ {job : Job} {bytes : List ℕ} {lent : Lent} {parents order pops starts rows : List ℕ} {r : Answer} (ruled : Ruled (callOf job bytes lent) parents order pops starts rows r) where
+  pub way-refused : {after : Lent} → r .number ≢ 0 → after ≡ allZero lent → _≡_ {A = Outcome Lent} (record { answer = r; lent = after }) (checked job bytes lent)
+  unfolding checked
+  way-refused {after} z e = go ruled
+    where
+      go : Ruled (callOf job bytes lent) parents order pops starts rows r → _≡_ {A = Outcome Lent} (record { answer = r; lent = after }) (checked job bytes lent)
+      go (refuses q n) = (λ i. record { answer = r; lent = e i }) ∙ sym (outcome-zeroed checkTests checkDone allZero (callOf job bytes lent) lent q)
+      go (passes q n h) = absurd (z n)
+
+  pub way-done : {work : List ℕ} → r .number ≡ 0 → work ≡ zeros (lent .work) → _≡_ {A = Outcome Lent} (record { answer = r; lent = six parents order pops starts rows work }) (checked job bytes lent)
+  unfolding checked
+  way-done {work} z e = go ruled
+    where
+      go : Ruled (callOf job bytes lent) parents order pops starts rows r → _≡_ {A = Outcome Lent} (record { answer = r; lent = six parents order pops starts rows work }) (checked job bytes lent)
+      go (refuses q n) = absurd (n z)
+      go (passes q n h) = (λ i. record { answer = r; lent = six parents order pops starts rows (e i) }) ∙ h ∙ sym (outcome-done checkTests checkDone allZero (callOf job bytes lent) lent q)

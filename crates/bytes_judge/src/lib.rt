@@ -1,0 +1,60 @@
+// The judgement on a plan's bytes: held against the key, read into the slices, and judged there.
+use key_match::KeyMatch;
+use papers::Answer;
+use papers::JobHead;
+use plan_reader::PlanReading;
+ghost use mathlib.Core.Path.{_≡_};
+ghost use Rattle.papers.specs.Job.{jobOf};
+ghost use Rattle.papers.specs.Refusals.{passed, first, jobTests};
+ghost use Rattle.lent.specs.Six.{six, LongEnough};
+ghost use Rattle.bytes_judge.specs.Ruled.{callOf, Ruled};
+
+// 11 to 15, 8, 16 to 20 and 9 for a job that passed its tests, in slices that are long enough. A plan that passes is left in them, with zeros behind it;
+// work, and after a refusal all of each slice, is still to be cleared.
+pub fn judge_bytes(
+    head: JobHead,
+    starts: &[u64],
+    rows: &[u32],
+    plan: &[u8],
+    parents: &mut [u32],
+    order: &mut [u32],
+    pops: &mut [u32],
+    fstarts: &mut [u64],
+    frows: &mut [u32],
+    work: &mut [u64],
+) -> Answer
+    requires passes { ⌜ first jobTests (jobOf head (now starts) (now rows)) ≡ passed ⌝ }
+    requires long { ⌜ LongEnough (head .n) (six (now parents) (now order) (now pops) (now fstarts) (now frows) (now work)) ⌝ }
+    ensures { λ r. ⌜ Ruled (callOf (jobOf head (now (starts .entry)) (now (rows .entry))) (now (plan .entry)) (six (now (parents .entry)) (now (order .entry)) (now (pops .entry)) (now (fstarts .entry)) (now (frows .entry)) (now (work .entry)))) (now (parents .exit)) (now (order .exit)) (now (pops .exit)) (now (fstarts .exit)) (now (frows .exit)) r ⌝ }
+{
+    match key_match::match_key(head, starts, rows, plan) {
+        KeyMatch::Differs { place } => {
+            return plan_judge::answered(11, place, 0);
+        }
+        KeyMatch::Begins { next } => {
+            lent::clear_all(parents, order, pops, fstarts, frows, work);
+            match plan_reader::read_plan(head.n, plan, next, order, pops, fstarts, frows) {
+                PlanReading::Faulty { number, place } => {
+                    return plan_judge::answered(number, place, 0);
+                }
+                PlanReading::Whole { peak, rows: count } => {
+                    if (frows.len() as u64) < count {
+                        return plan_judge::answered(8, 0, count);
+                    }
+                    return plan_judge::judge(
+                        head,
+                        peak,
+                        starts,
+                        rows,
+                        parents,
+                        order,
+                        pops,
+                        fstarts,
+                        frows,
+                        work,
+                    );
+                }
+            }
+        }
+    }
+}
