@@ -1,11 +1,11 @@
--- A plan at the front of cleared slices: each slice is the plan's list, then zeros, so the parts as long as its lists are its lists.
+-- A plan at the front of cleared slices: each slice is the plan's list, then zeros, so it stands at their front.
 -- Assumes nothing.
 use Prim.Native.Nat.{ℕ, _+_, _≤_}
-use mathlib.Core.Path.{_≡_, refl, sym, ap, _∙_}
-use mathlib.Core.List.{List, _++_, map}
+use mathlib.Core.Path.{_≡_, refl, ap, _∙_}
+use mathlib.Core.List.{List, map}
 use native.Mathlib.Omega.{arith}
-use lib.ListN.{length, take, drop, length-map}
-use lib.Seq.{sets, sets-eq}
+use lib.ListN.{length, take, length-map}
+use lib.Seq.{sets}
 use Rattle.papers.specs.Lists.{upTo, flat, startsFrom, zeros, thenZeros}
 use Rattle.papers.specs.Job.{Job, pattern}
 use Rattle.papers.specs.Tree.{parent}
@@ -18,17 +18,10 @@ use Rattle.bytes_laws.proofs.Plans.{Fit}
 use Rattle.lent.specs.Six.{six, LongEnough}
 use Rattle.lent.proofs.Sixes.{sixes}
 use Rattle.plan_reader.specs.Plans.{PlanIn}
-use Rattle.plan_judge.specs.Judged.{PlanHeld}
+use Rattle.plan_judge.specs.Judged.{InFront}
 
 length-family : (f : ℕ → ℕ) (n : ℕ) → length (map f (upTo n)) ≡ n
 length-family f n = length-map (upTo n) f ∙ length-upTo n
-
--- the front of a slice that came back as a list of the columns
-pub front-stored : (f : ℕ → ℕ) (n : ℕ) (l : List ℕ) {ys : List ℕ} → n ≤ length l → ys ≡ map f (upTo n) → ys ++ drop n l ≡ sets l 0 (map f (upTo n))
-front-stored f n l h e =
-    let long = length-family f n in
-    let z : 0 + length (map f (upTo n)) ≡ n = omega arith in
-    rw e (sym (rw z at (sets-eq (map f (upTo n)) l 0 (omega arith))))
 
 -- a list stored in a cleared slice, and the part that holds it
 stored : (xs l₀ : List ℕ) {l₁ l : List ℕ} → l₁ ≡ zeros l₀ → l ≡ sets l₁ 0 xs → length xs ≤ length l₀ → l ≡ thenZeros xs l₀
@@ -67,15 +60,17 @@ module _ {n : ℕ} {plan : Plan} (fit : Fit n plan) where
     }
 
     module _ {order pops starts rows : List ℕ} (in-them : InSlices plan before order pops starts rows) where
-      -- the parts hold the plan
-      pub held-in-front : {peak count : ℕ} → plan .peak ≡ peak → length (flat (plan .lists)) ≡ count → PlanHeld n plan peak (take n order) (take n pops) (take (n + 1) starts) (take count rows)
-      held-in-front declared counted = record {
-        fit = fit;
-        declared = declared;
-        columns = part-of n _ (before .order) (in-them .columns) columns-length;
-        popped = part-of n _ (before .pops) (in-them .popped) pops-length;
-        begins = part-of (n + 1) _ (before .factorStarts) (in-them .begins) starts-length;
-        listed = part-of _ _ (before .factorRows) (in-them .listed) counted;
+      -- it stands at their front
+      pub held-in-front : {peak : ℕ} → plan .peak ≡ peak → InFront n plan peak order pops starts rows
+      held-in-front declared = record {
+        held = record {
+          fit = fit;
+          declared = declared;
+          columns = part-of n _ (before .order) (in-them .columns) columns-length;
+          popped = part-of n _ (before .pops) (in-them .popped) pops-length;
+          begins = part-of (n + 1) _ (before .factorStarts) (in-them .begins) starts-length;
+        };
+        listed = part-of _ _ (before .factorRows) (in-them .listed) refl;
       }
 
 -- done: with the parents stored in front, and work cleared

@@ -1,11 +1,11 @@
 -- From what the reading and the judgement answer to what is known of the check, and from that to its outcome once the slices are cleared.
 -- Assumes nothing.
-use Prim.Native.Nat.{ℕ, _+_, _<_, _≤_}
+use Prim.Native.Nat.{ℕ, _<_, _≤_}
 use mathlib.Core.Path.{_≡_, refl, sym, ap, _∙_}
 use mathlib.Core.Logic.{_≢_}
 use mathlib.Core.List.{List, map}
 use native.Mathlib.Omega.{arith}
-use lib.ListN.{length, getD, take}
+use lib.ListN.{length, getD}
 use lib.Seq.{sets}
 use Rattle.papers.specs.declared.Answer.{Answer}
 use Rattle.papers.specs.Lists.{upTo, flat, zeros}
@@ -20,13 +20,17 @@ use Rattle.bytes_laws.proofs.Plans.{Fit, plan-only}
 use Rattle.job_laws.proofs.Outcomes.{outcome-zeroed, outcome-done}
 use Rattle.lent.specs.Six.{six, LongEnough}
 use Rattle.lent.proofs.Sixes.{each-zero}
+use Rattle.key_match.specs.declared.KeyMatch.{KeyMatch}
+use Rattle.key_match.specs.declared.KeyMatch.the-variants.{Begins}
+use Rattle.key_match.specs.Matches.{keyMatch}
+use Rattle.key_match.proofs.Answers.{begins-key}
 use Rattle.plan_reader.specs.declared.PlanReading.{PlanReading}
 use Rattle.plan_reader.specs.declared.PlanReading.the-variants.{Whole, Faulty}
 use Rattle.plan_reader.specs.Plans.{planReading, Keeps}
-use Rattle.plan_judge.specs.Judged.{PlanHeld, HoldPlan, judgeTests, ruling, Judged}
-use Rattle.plan_judge.proofs.Rulings.{Told, refusal, clean, told, number-of, at-passes}
-use Rattle.bytes_judge.specs.Ruled.{callOf, KeyEnds, Ruled, refuses, passes}
-use Rattle.bytes_judge.proofs.Ways.{refuses-12, refuses-8, from-16}
+use Rattle.plan_judge.specs.Judged.{InFront, HoldPlan, judgeTests, ruling, Judged}
+use Rattle.plan_judge.proofs.Rulings.{Told, refusal, clean, told, number-of}
+use Rattle.bytes_judge.specs.Ruled.{callOf, Ruled, refuses, passes}
+use Rattle.bytes_judge.proofs.Ways.{passes-11, refuses-12, refuses-8, from-16}
 use Rattle.bytes_judge.proofs.Fronts.{InSlices, in-slices, held-in-front, done-holds}
 
 -- ---- the answer of the reading
@@ -72,17 +76,19 @@ module _ (job : Job) (bytes : List ℕ) (lent : Lent) (p : first jobTests job �
             let a : r ≡ answer 0 0 (plan .peak) = f ∙ ap (answer 0 0) (sym declared) in
             passes (from-16 job bytes lent p long begins read fits ∙ q) (number-of f) ((λ i. record { answer = a i; lent = h i }) ∙ sym done-is)
 
--- ---- from the bytes behind the key
-module _ (job : Job) (bytes : List ℕ) (lent : Lent) (p : first jobTests job ≡ passed) (long : LongEnough (job .n) lent) {at : ℕ} (ends : KeyEnds job bytes at)
-    {g : PlanReading} (answered : g ≡ planReading (readPlan (job .n) bytes at))
+-- ---- from the bytes, the key and what stands behind it
+module _ (job : Job) (bytes : List ℕ) (lent : Lent) (p : first jobTests job ≡ passed) (long : LongEnough (job .n) lent) {m : KeyMatch} (matched : m ≡ keyMatch (keyOf job) bytes)
+    {at : ℕ} (behind : m ≡ Begins at) {g : PlanReading} (answered : g ≡ planReading (readPlan (job .n) bytes at))
   where
     begins : keyTest (callOf job bytes lent) ≡ passed
-    unfolding keyTest
-    begins = at-passes 11 refl (ends .0)
+    begins = passes-11 job bytes lent p long matched behind
+
+    at-key : at ≡ length (keyOf job)
+    at-key = begins-key (keyOf job) bytes matched behind .1
 
     found : g ≡ planReading (planRead (callOf job bytes lent))
     unfolding planRead
-    found = rw (ends .1) at answered
+    found = rw at-key at answered
 
     -- 12 to 15
     pub ruled-faulty : {number place : ℕ} {parents order pops starts rows : List ℕ} {r : Answer} → g ≡ Faulty number place → r ≡ answer number place 0
@@ -110,18 +116,18 @@ module _ (job : Job) (bytes : List ℕ) (lent : Lent) (p : first jobTests job �
           unfolding planRead
           kept =
               let each = each-zero lent _ cleared in
-              in-slices fit lent long (omega (arith, whole .counted)) (each .order) (each .pops) (each .starts) (each .rows) (keeps (whole .plan) (whole .at) (ap (readPlan (job .n) bytes) (ends .1) ∙ whole .read))
+              in-slices fit lent long (omega (arith, whole .counted)) (each .order) (each .pops) (each .starts) (each .rows) (keeps (whole .plan) (whole .at) (ap (readPlan (job .n) bytes) at-key ∙ whole .read))
 
-          held : PlanHeld (job .n) (whole .plan) peak (take (job .n) o) (take (job .n) q) (take (job .n + 1) s) (take count r)
-          held = held-in-front fit lent kept (whole .declared) (whole .counted)
+          front : InFront (job .n) (whole .plan) peak o q s r
+          front = held-in-front fit lent kept (whole .declared)
 
-          pub plan-held : HoldPlan (job .n) peak (take (job .n) o) (take (job .n) q) (take (job .n + 1) s) (take count r)
-          plan-held = record { plan = whole .plan; held = held }
+          pub plan-held : HoldPlan (job .n) peak o q s r
+          plan-held = record { plan = whole .plan; front = front }
 
-          pub ruled-judged : {parents : List ℕ} {a : Answer} → Judged job peak (take (job .n) o) (take (job .n) q) (take (job .n + 1) s) (take count r) a
-              → (a .number ≡ 0 → parents ≡ sets p₁ 0 (map (parent (pattern job)) (upTo (job .n)))) → Ruled (callOf job bytes lent) parents o q s r a
+          pub ruled-judged : {parents : List ℕ} {a : Answer} → Judged job peak o q s r a → (a .number ≡ 0 → parents ≡ sets p₁ 0 (map (parent (pattern job)) (upTo (job .n))))
+              → Ruled (callOf job bytes lent) parents o q s r a
           ruled-judged e stores =
-              judged job bytes lent p long begins (whole .read) (omega (arith, whole .counted)) (whole .declared) (e (whole .plan) held)
+              judged job bytes lent p long begins (whole .read) (omega (arith, whole .counted)) (whole .declared) (e (whole .plan) front)
               (λ z. done-holds job (whole .plan) lent (long .parents) (each-zero lent _ cleared .parents) (stores z) kept)
 
 -- ---- the outcome

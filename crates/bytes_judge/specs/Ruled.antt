@@ -1,24 +1,18 @@
 -- What is known of a check once its tests are made, before the slices are cleared.
 -- Assumes nothing.
-use Prim.Native.Nat.{ℕ, _≤_}
+use Prim.Native.Nat.{ℕ}
 use mathlib.Core.Path.{_≡_}
 use mathlib.Core.Logic.{_≢_}
 use mathlib.Core.List.{List}
-use lib.ListN.{length}
 use Rattle.papers.specs.declared.Answer.{Answer}
-use Rattle.papers.specs.Lists.{least, zeros}
+use Rattle.papers.specs.Lists.{zeros}
 use Rattle.papers.specs.Job.{Job}
-use Rattle.papers.specs.Key.{keyOf}
 use Rattle.papers.specs.Refusals.{zeroed, passed, refused, first, Outcome, Lent}
-use Rattle.papers.specs.Check.{CheckCall, keyDiffers, checkTests, checkDone}
+use Rattle.papers.specs.Check.{CheckCall, checkTests, checkDone}
 use Rattle.lent.specs.Six.{six}
 
 abbrev pub callOf : Job → List ℕ → Lent → CheckCall
 callOf job plan lent = record { job = job; plan = plan; lent = lent }
-
--- the bytes begin with the key of the job, which ends at `at`
-abbrev pub KeyEnds : Job → List ℕ → ℕ → Type 0
-KeyEnds job plan at = (least (keyDiffers (keyOf job) plan) (length (keyOf job)) ≡ 0) × (at ≡ length (keyOf job)) × (at ≤ length plan)
 
 -- a refusal that is to leave zeros; or a plan that passes and stands in the slices, and work is still to be cleared
 pub data Ruled (call : CheckCall) (parents order pops starts rows : List ℕ) (r : Answer) : Type 0 where

@@ -1,52 +1,11 @@
 // The check of a plan's bytes for a job: its entry point.
-use key_match::KeyMatch;
 use papers::Answer;
 use papers::JobHead;
 ghost use mathlib.Core.Path.{_≡_};
 ghost use Rattle.papers.specs.Job.{jobOf};
-ghost use Rattle.papers.specs.Refusals.{passed, first, Outcome, jobTests, Lent};
+ghost use Rattle.papers.specs.Refusals.{Outcome, Lent};
 ghost use Rattle.papers.specs.Check.{checked};
-ghost use Rattle.lent.specs.Six.{six, LongEnough};
-ghost use Rattle.bytes_judge.specs.Ruled.{callOf, Ruled};
-
-// 11 to 15, 8, 16 to 20 and 9 for a job that passed its tests, in slices that are long enough; they are left as by judge_plan.
-fn judge_bytes(
-    head: JobHead,
-    starts: &[u64],
-    rows: &[u32],
-    plan: &[u8],
-    parents: &mut [u32],
-    order: &mut [u32],
-    pops: &mut [u32],
-    fstarts: &mut [u64],
-    frows: &mut [u32],
-    work: &mut [u64],
-) -> Answer
-    requires passes { ⌜ first jobTests (jobOf head (now starts) (now rows)) ≡ passed ⌝ }
-    requires long { ⌜ LongEnough (head .n) (six (now parents) (now order) (now pops) (now fstarts) (now frows) (now work)) ⌝ }
-    ensures { λ r. ⌜ Ruled (callOf (jobOf head (now (starts .entry)) (now (rows .entry))) (now (plan .entry)) (six (now (parents .entry)) (now (order .entry)) (now (pops .entry)) (now (fstarts .entry)) (now (frows .entry)) (now (work .entry)))) (now (parents .exit)) (now (order .exit)) (now (pops .exit)) (now (fstarts .exit)) (now (frows .exit)) r ⌝ }
-{
-    match key_match::match_key(head, starts, rows, plan) {
-        KeyMatch::Differs { place } => {
-            return plan_judge::answered(11, place, 0);
-        }
-        KeyMatch::Begins { next } => {
-            return bytes_judge::judge_plan(
-                head,
-                starts,
-                rows,
-                plan,
-                next,
-                parents,
-                order,
-                pops,
-                fstarts,
-                frows,
-                work,
-            );
-        }
-    }
-}
+ghost use Rattle.lent.specs.Six.{six};
 
 // The check of a plan's bytes: 1 to 7, 11 to 15, 8, 16 to 20, 9; done, the slices hold the parents and the plan's order, pops, factor starts and rows,
 // then zeros, and the count is the peak.
@@ -79,7 +38,7 @@ pub fn check_plan(
     ) {
         return plan_judge::answered(7, 0, 0);
     }
-    let answer = judge_bytes(
+    let answer = bytes_judge::judge_bytes(
         head,
         starts,
         rows,

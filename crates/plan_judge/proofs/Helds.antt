@@ -18,7 +18,7 @@ use Rattle.step_tests.specs.Steps.{Within}
 use Rattle.plan_judge.specs.Judged.{PlanHeld, judgeTests, ruling}
 use Rattle.plan_judge.proofs.Rulings.{ruling-refused, decides, at-refuses, at-passes}
 
-module _ {n peak : ℕ} {plan : Plan} {order pops fstarts frows : List ℕ} (held : PlanHeld n plan peak order pops fstarts frows) where
+module _ {n peak : ℕ} {plan : Plan} {order pops fstarts : List ℕ} (held : PlanHeld n plan peak order pops fstarts) where
   pub read : Steps n n (columnsIn (plan .steps))
   read = (length-map (plan .steps) (λ x. x .0) ∙ held .fit .all-steps, columns-within n (plan .steps) (held .fit .steps))
 
@@ -35,7 +35,7 @@ module _ {n peak : ℕ} {plan : Plan} {order pops fstarts frows : List ℕ} (hel
   within k h = rw order-length (in-range (getD order k 0) (at-place order k h))
 
 -- ---- 16
-module _ (job : Job) (plan : Plan) {peak : ℕ} {order pops fstarts frows : List ℕ} (held : PlanHeld (job .n) plan peak order pops fstarts frows) {p : ℕ} (e : p ≡ least (repeated order) (length order)) where
+module _ (job : Job) (plan : Plan) {peak : ℕ} {order pops fstarts : List ℕ} (held : PlanHeld (job .n) plan peak order pops fstarts) {p : ℕ} (e : p ≡ least (repeated order) (length order)) where
   found : p ≡ least (repeated (columnsIn (plan .steps))) (job .n)
   found = rw (order-length held, held .columns) at e
 

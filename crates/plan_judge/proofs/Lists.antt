@@ -1,82 +1,65 @@
 -- The test of a plan's lists as slices hold them; where it passes, the parents that it has stored are the job's, and the tests of the tree are left.
 -- Assumes nothing.
-use Prim.Native.Nat.{ℕ, _+_}
-use mathlib.Core.Path.{_≡_, refl, sym, ap, _∙_}
+use Prim.Native.Nat.{ℕ, _+_, _≤_}
+use mathlib.Core.Path.{_≡_, sym, ap, _∙_}
 use mathlib.Core.Logic.{_≢_}
-use mathlib.Core.List.{List, [], _∷_, map, append-nil}
+use mathlib.Core.List.{List, [], _∷_, map}
 use native.Mathlib.Omega.{arith}
-use lib.ListN.{length, drop, length-map, drop-of-length-le}
-use lib.Seq.{sets, sets-eq, take-all}
+use lib.ListN.{length, take, length-map}
+use lib.Seq.{sets, sets-eq, take-at}
 use Rattle.papers.specs.declared.Answer.{Answer}
-use Rattle.papers.specs.Lists.{upTo, flat}
+use Rattle.papers.specs.Lists.{upTo}
 use Rattle.papers.specs.Job.{Job, pattern}
 use Rattle.papers.specs.Tree.{parent}
 use Rattle.papers.specs.Plan.{Plan}
-use Rattle.papers.specs.Refusals.{answer, zeroed, passed, first, refusedAt, jobTests}
+use Rattle.papers.specs.Refusals.{answer, passed, first, jobTests}
 use Rattle.papers.specs.Check.{repeatTest, listTest}
 use Rattle.list_laws.proofs.UpTo.{length-upTo}
-use Rattle.list_laws.proofs.Stores.{length-starts}
 use Rattle.job_laws.proofs.Firsts.{first-passes}
-use Rattle.column_laws.specs.Tested.{Tested}
 use Rattle.list_test.specs.Lists.{PlanLists, HoldLists, FirstWrong}
-use Rattle.plan_judge.specs.Judged.{PlanHeld, OnTree, SomeOnTree, treeTests, judgeTests, ruling}
+use Rattle.plan_judge.specs.Judged.{InFront, OnTree, SomeOnTree, treeTests, judgeTests, ruling}
 use Rattle.plan_judge.proofs.Rulings.{ruling-refused, decides, at-refuses, at-passes}
-use Rattle.plan_judge.proofs.Helds.{order-length}
-use Rattle.lent_plan.proofs.Plans as plans
 
-module _ (job : Job) (valid : first jobTests job ≡ passed) where
-  module _ (plan : Plan) {peak : ℕ} {order pops fstarts frows : List ℕ} (held : PlanHeld (job .n) plan peak order pops fstarts frows) where
-    pub tested : Tested (length order) (job .starts) (job .rows)
-    tested = rw (order-length held) (plans.tested job valid)
+module _ (job : Job) (valid : first jobTests job ≡ passed) (plan : Plan) {peak : ℕ} {order pops fstarts frows : List ℕ} (front : InFront (job .n) plan peak order pops fstarts frows) where
+  plan-lists : PlanLists (job .n) (plan .lists) fstarts frows
+  plan-lists = record { count = front .held .fit .all-lists; fit = front .held .fit .lists; starts-are = front .held .begins; rows-are = front .listed }
 
-    plan-lists : PlanLists (length order) (plan .lists) fstarts frows
-    plan-lists = rw (order-length held) (record {
-      count = held .fit .all-lists;
-      fit = held .fit .lists;
-      starts-are = take-all (job .n + 1) fstarts (omega (arith, ap length (held .begins), length-starts 0 (plan .lists), held .fit .all-lists)) ∙ held .begins;
-      rows-are = take-all (length (flat (plan .lists))) frows (omega (arith, ap length (held .listed))) ∙ held .listed;
-    })
+  pub lists-held : HoldLists (job .n) fstarts frows
+  lists-held = record { lists = plan .lists; are = plan-lists }
 
-    pub lists-held : HoldLists (length order) fstarts frows
-    lists-held = record { lists = plan .lists; are = plan-lists }
+  module _ (unrepeated : repeatTest job plan ≡ passed) where
+    -- ---- 17
+    module _ {p : ℕ} (e : FirstWrong (job .n) (pattern job) fstarts frows p) where
+      pub refuses-17 : p ≢ 0 → {r : Answer} → r ≡ answer 17 p 0 → r ≡ ruling (first (judgeTests job) plan) peak
+      unfolding judgeTests listTest
+      refuses-17 z q = ruling-refused peak (decides (repeatTest job ∷ []) (listTest job) _ plan (unrepeated, tt) (at-refuses 17 p (e (plan .lists) plan-lists) z)) q
 
-    module _ (unrepeated : repeatTest job plan ≡ passed) where
-      -- ---- 17
-      module _ {p : ℕ} (e : FirstWrong (length order) (pattern job) fstarts frows p) where
-        found : refusedAt 17 p 0 zeroed ≡ listTest job plan
-        unfolding listTest
-        found = ap (λ q. refusedAt 17 q 0 zeroed) (rw (order-length held) at (e (plan .lists) plan-lists))
+      pub passes-17 : p ≡ 0 → listTest job plan ≡ passed
+      unfolding listTest
+      passes-17 z = at-passes 17 (e (plan .lists) plan-lists) z
 
-        pub refuses-17 : p ≢ 0 → {r : Answer} → r ≡ answer 17 p 0 → r ≡ ruling (first (judgeTests job) plan) peak
-        unfolding judgeTests
-        refuses-17 z q = ruling-refused peak (decides (repeatTest job ∷ []) (listTest job) _ plan (unrepeated, tt) (sym found ∙ at-refuses 17 p refl z)) q
+    module _ (right : listTest job plan ≡ passed) where
+      -- the tests of the tree are left, of a plan on the job's tree
+      pub left-to-tree : {r : Answer} → r ≡ ruling (first (treeTests job) plan) peak → r ≡ ruling (first (judgeTests job) plan) peak
+      unfolding judgeTests
+      left-to-tree q = q ∙ sym (ap (λ v. ruling v peak) (first-passes _ _ plan unrepeated ∙ first-passes _ _ plan right))
 
-        pub passes-17 : p ≡ 0 → listTest job plan ≡ passed
-        passes-17 z = sym found ∙ at-passes 17 refl z
+      pub on-tree : {limit : ℕ} {parents : List ℕ} → job .limit ≡ limit → parents ≡ map (parent (pattern job)) (upTo (job .n))
+          → OnTree job plan limit peak parents (take (job .n) order) (take (job .n) pops) (take (job .n + 1) fstarts)
+      on-tree l e = record { valid = valid; limited = l; held = front .held; unrepeated = unrepeated; right = right; parents-are = e }
 
-      module _ (right : listTest job plan ≡ passed) where
-        -- the tests of the tree are left, of a plan on the job's tree
-        pub left-to-tree : {r : Answer} → r ≡ ruling (first (treeTests job) plan) peak → r ≡ ruling (first (judgeTests job) plan) peak
-        unfolding judgeTests
-        left-to-tree q = q ∙ sym (ap (λ v. ruling v peak) (first-passes _ _ plan unrepeated ∙ first-passes _ _ plan right))
+      pub some-on-tree : {limit : ℕ} {parents : List ℕ} → job .limit ≡ limit → parents ≡ map (parent (pattern job)) (upTo (job .n))
+          → SomeOnTree limit peak parents (take (job .n) order) (take (job .n) pops) (take (job .n + 1) fstarts)
+      some-on-tree l e = record { job = job; plan = plan; on = on-tree l e }
 
-        pub on-tree : {limit : ℕ} {parents : List ℕ} → job .limit ≡ limit → parents ≡ map (parent (pattern job)) (upTo (job .n)) → OnTree job plan limit peak parents order pops fstarts
-        on-tree l e = record {
-          valid = valid;
-          limited = l;
-          held = record { fit = held .fit; declared = held .declared; columns = held .columns; popped = held .popped; begins = held .begins; listed = refl };
-          unrepeated = unrepeated;
-          right = right;
-          parents-are = e;
-        }
+length-family : (f : ℕ → ℕ) (n : ℕ) → length (map f (upTo n)) ≡ n
+length-family f n = length-map (upTo n) f ∙ length-upTo n
 
-        pub some-on-tree : {limit : ℕ} {parents : List ℕ} → job .limit ≡ limit → parents ≡ map (parent (pattern job)) (upTo (job .n)) → SomeOnTree limit peak parents order pops fstarts
-        some-on-tree l e = record { job = job; plan = plan; on = on-tree l e }
+pub parents-count : (f : ℕ → ℕ) (n : ℕ) {parents : List ℕ} → parents ≡ map f (upTo n) → length parents ≡ n
+parents-count f n e = ap length e ∙ length-family f n
 
--- a slice that is just as long takes the parents whole
-pub parents-stored : (f : ℕ → ℕ) (n m : ℕ) (parents : List ℕ) {after : List ℕ} → length parents ≡ n → m ≡ n → after ≡ sets parents 0 (map f (upTo m)) → after ≡ map f (upTo n)
-parents-stored f n m parents l s e =
-    let q = (rw s at e) in
-    let long : length (map f (upTo n)) ≡ n = length-map (upTo n) f ∙ length-upTo n in
-    let none : drop (0 + length (map f (upTo n))) parents ≡ [] = drop-of-length-le parents {i = 0 + length (map f (upTo n))} (omega arith) in
-    q ∙ rw (sets-eq (map f (upTo n)) parents 0 (omega arith), none) (append-nil (map f (upTo n)))
+-- the front of a slice in which the parents are stored
+pub parents-in-front : (f : ℕ → ℕ) (n : ℕ) (parents : List ℕ) {after : List ℕ} → n ≤ length parents → after ≡ sets parents 0 (map f (upTo n)) → take n after ≡ map f (upTo n)
+parents-in-front f n parents h e =
+    let long = length-family f n in
+    rw (e, sets-eq (map f (upTo n)) parents 0 (omega arith)) (take-at (map f (upTo n)) _ n long)

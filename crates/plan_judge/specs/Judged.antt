@@ -1,8 +1,9 @@
 -- A plan that was read, as slices hold it; the tests that judge it, and the answer to their verdict.
 -- Assumes nothing.
-use Prim.Native.Nat.{ℕ}
+use Prim.Native.Nat.{ℕ, _+_}
 use mathlib.Core.Path.{_≡_}
 use mathlib.Core.List.{List, [], _∷_, map}
+use lib.ListN.{length, take}
 use Rattle.papers.specs.declared.Answer.{Answer}
 use Rattle.papers.specs.Lists.{upTo, flat, startsFrom}
 use Rattle.papers.specs.Job.{Job, pattern}
@@ -12,25 +13,29 @@ use Rattle.papers.specs.Refusals.{answer, Verdict, passed, refused, first, jobT
 use Rattle.papers.specs.Check.{repeatTest, listTest, subtreeTest, popsTest, truePeak, declaredTest}
 use Rattle.bytes_laws.proofs.Plans.{Fit}
 
--- a plan of n columns, its numbers in their ranges, in slices that are just as long as it
-pub record PlanHeld (n : ℕ) (plan : Plan) (peak : ℕ) (order pops fstarts frows : List ℕ) : Type 0 where
+-- a plan of n columns, its numbers in their ranges; its steps and where its lists begin, in slices that are just as long
+pub record PlanHeld (n : ℕ) (plan : Plan) (peak : ℕ) (order pops fstarts : List ℕ) : Type 0 where
   pub fit : Fit n plan
   pub declared : plan .peak ≡ peak
   pub columns : order ≡ columnsIn (plan .steps)
   pub popped : pops ≡ popsIn (plan .steps)
   pub begins : fstarts ≡ startsFrom 0 (plan .lists)
-  pub listed : frows ≡ flat (plan .lists)
+
+-- the same at the front of slices, and the rows of its lists
+pub record InFront (n : ℕ) (plan : Plan) (peak : ℕ) (order pops fstarts frows : List ℕ) : Type 0 where
+  pub held : PlanHeld n plan peak (take n order) (take n pops) (take (n + 1) fstarts)
+  pub listed : take (length (flat (plan .lists))) frows ≡ flat (plan .lists)
 
 -- some plan, in these slices
 pub record HoldPlan (n peak : ℕ) (order pops fstarts frows : List ℕ) : Type 0 where
   pub plan : Plan
-  pub held : PlanHeld n plan peak order pops fstarts frows
+  pub front : InFront n plan peak order pops fstarts frows
 
 -- a plan of a job that passed 1 to 6, with the parents of the job's columns; the plan has passed 16 and 17, so its lists are R
 pub record OnTree (job : Job) (plan : Plan) (limit peak : ℕ) (parents order pops fstarts : List ℕ) : Type 0 where
   pub valid : first jobTests job ≡ passed
   pub limited : job .limit ≡ limit
-  pub held : PlanHeld (job .n) plan peak order pops fstarts (flat (plan .lists))
+  pub held : PlanHeld (job .n) plan peak order pops fstarts
   pub unrepeated : repeatTest job plan ≡ passed
   pub right : listTest job plan ≡ passed
   pub parents-are : parents ≡ map (parent (pattern job)) (upTo (job .n))
@@ -59,4 +64,4 @@ TreeJudged limit peak parents order pops fstarts r =
     (job : Job) (plan : Plan) → OnTree job plan limit peak parents order pops fstarts → r ≡ ruling (first (treeTests job) plan) peak
 
 abbrev pub Judged : Job → ℕ → List ℕ → List ℕ → List ℕ → List ℕ → Answer → Type 0
-Judged job peak order pops fstarts frows r = (plan : Plan) → PlanHeld (job .n) plan peak order pops fstarts frows → r ≡ ruling (first (judgeTests job) plan) peak
+Judged job peak order pops fstarts frows r = (plan : Plan) → InFront (job .n) plan peak order pops fstarts frows → r ≡ ruling (first (judgeTests job) plan) peak

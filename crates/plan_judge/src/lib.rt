@@ -5,11 +5,13 @@ ghost use mathlib.Core.Path.{_≡_};
 ghost use mathlib.Core.List.{map};
 ghost use Prim.Native.Nat.{_≤_};
 ghost use lib.ListN.{length};
+ghost use lib.Seq.{sets};
 ghost use Rattle.papers.specs.Bounds.{workLength};
 ghost use Rattle.papers.specs.Lists.{upTo};
 ghost use Rattle.papers.specs.Job.{jobOf, columnOf};
 ghost use Rattle.papers.specs.Tree.{parent};
 ghost use Rattle.papers.specs.Refusals.{answer, passed, first, jobTests};
+ghost use Rattle.lent.specs.Six.{six, LongEnough};
 ghost use Rattle.plan_judge.specs.Judged.{HoldPlan, SomeOnTree, TreeJudged, Judged};
 
 // An answer, of its three numbers.
@@ -55,7 +57,7 @@ fn judge_tree(
     answered(0, 0, greatest)
 }
 
-// 16 to 20 and 9 of a plan that was read, in the slices that hold it; peak is what it declares. Where it passes, parents has the job's parents, and the
+// 16 to 20 and 9 of a plan that was read, at the front of the slices; peak is what it declares. Where it passes, the job's parents are stored, and the
 // count is the peak.
 pub fn judge(
     head: JobHead,
@@ -71,25 +73,27 @@ pub fn judge(
 ) -> Answer
     requires valid { ⌜ first jobTests (jobOf head (now starts) (now rows)) ≡ passed ⌝ }
     requires plan { ⌜ HoldPlan (head .n) peak (now order) (now pops) (now fstarts) (now frows) ⌝ }
-    requires room { ⌜ (length (now parents) ≡ head .n) × (workLength (head .n) ≤ length (now work)) ⌝ }
+    requires long { ⌜ LongEnough (head .n) (six (now parents) (now order) (now pops) (now fstarts) (now frows) (now work)) ⌝ }
     ensures answers { λ r. ⌜ Judged (jobOf head (now (starts .entry)) (now (rows .entry))) peak (now (order .entry)) (now (pops .entry)) (now (fstarts .entry)) (now (frows .entry)) r ⌝ }
-    ensures stores { λ r. ⌜ (r .number ≡ 0 → now (parents .exit) ≡ map (parent (columnOf (now (starts .entry)) (now (rows .entry)))) (upTo (head .n))) ⌝ }
+    ensures stores { λ r. ⌜ (r .number ≡ 0 → now (parents .exit) ≡ sets (now (parents .entry)) 0 (map (parent (columnOf (now (starts .entry)) (now (rows .entry)))) (upTo (head .n)))) ⌝ }
 {
-    let step = step_tests::first_repeat(order, work);
+    let n = head.n as usize;
+    let steps = &order[..n];
+    let step = step_tests::first_repeat(steps, work);
     if step != 0 {
         return answered(16, step, 0);
     }
-    let column = list_test::first_wrong_list(
-        order.len(),
-        starts,
-        rows,
-        fstarts,
-        frows,
-        parents,
-        work,
-    );
+    let column = list_test::first_wrong_list(n, starts, rows, fstarts, frows, parents, work);
     if column != 0 {
         return answered(17, column, 0);
     }
-    judge_tree(head.limit, peak, &parents[..], order, pops, fstarts, work)
+    judge_tree(
+        head.limit,
+        peak,
+        &parents[..n],
+        steps,
+        &pops[..n],
+        &fstarts[..n + 1],
+        work,
+    )
 }
