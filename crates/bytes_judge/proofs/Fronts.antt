@@ -12,16 +12,13 @@ use Rattle.papers.specs.Tree.{parent}
 use Rattle.papers.specs.Plan.{Plan, columnsIn, popsIn}
 use Rattle.papers.specs.Refusals.{Lent, holding}
 use Rattle.papers.specs.Analysis.{holdingPlan}
-use Rattle.list_laws.proofs.UpTo.{length-upTo}
 use Rattle.list_laws.proofs.Stores.{sets-zeros, take-then-zeros, length-starts}
 use Rattle.bytes_laws.proofs.Plans.{Fit}
 use Rattle.lent.specs.Six.{six, LongEnough}
 use Rattle.lent.proofs.Sixes.{sixes}
 use Rattle.plan_reader.specs.Plans.{PlanIn}
 use Rattle.plan_judge.specs.Judged.{InFront}
-
-length-family : (f : ℕ → ℕ) (n : ℕ) → length (map f (upTo n)) ≡ n
-length-family f n = length-map (upTo n) f ∙ length-upTo n
+use Rattle.plan_judge.proofs.Lists.{parents-count}
 
 -- a list stored in a cleared slice, and the part that holds it
 stored : (xs l₀ : List ℕ) {l₁ l : List ℕ} → l₁ ≡ zeros l₀ → l ≡ sets l₁ 0 xs → length xs ≤ length l₀ → l ≡ thenZeros xs l₀
@@ -79,4 +76,4 @@ pub done-holds : (job : Job) (plan : Plan) (before : Lent) {parents₁ parents o
     → six parents order pops starts rows (zeros (before .work)) ≡ holdingPlan job plan before
 unfolding holdingPlan holding
 done-holds job plan before h c e s =
-    sixes (stored _ (before .parents) c e (omega (arith, length-family (parent (pattern job)) (job .n)))) (s .columns) (s .popped) (s .begins) (s .listed) refl
+    sixes (stored _ (before .parents) c e (omega (arith, parents-count (parent (pattern job)) (job .n) refl))) (s .columns) (s .popped) (s .begins) (s .listed) refl

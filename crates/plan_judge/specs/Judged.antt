@@ -40,6 +40,7 @@ pub record OnTree (job : Job) (plan : Plan) (limit peak : ℕ) (parents order po
   pub right : listTest job plan ≡ passed
   pub parents-are : parents ≡ map (parent (pattern job)) (upTo (job .n))
 
+-- some job and plan so, in these slices
 pub record SomeOnTree (limit peak : ℕ) (parents order pops fstarts : List ℕ) : Type 0 where
   pub job : Job
   pub plan : Plan
