@@ -18,7 +18,7 @@ pub const COUNTS: usize = 29;
 pub const WRONG: usize = 30;
 
 // The sum of two numbers below 2^40.
-pub fn plus(a: u64, b: u64) -> u64 {
+fn plus(a: u64, b: u64) -> u64 {
     a % 1099511627776 + b % 1099511627776
 }
 

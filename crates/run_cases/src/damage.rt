@@ -44,7 +44,7 @@ fn other(x: usize, n: usize, lot: usize, seed: usize) -> usize {
     }
 }
 
-// A number that the place can hold: starts and n have 64 bits, lengths go up to 96.
+// A number that the place can hold: starts and n have 64 bits, lengths go up to 300.
 fn narrow(part: usize, place: usize, x: usize) -> usize {
     if part == case::STARTS {
         return x;
@@ -55,7 +55,7 @@ fn narrow(part: usize, place: usize, x: usize) -> usize {
     if place == case::N {
         return x;
     }
-    x % 97
+    x % 301
 }
 
 pub fn damage(case: &mut Case, seed: usize) -> usize {

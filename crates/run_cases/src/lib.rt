@@ -1,7 +1,6 @@
 // Runs to try, of up to 12 columns, drawn from a seed: lists with and without fill, steps of a plan and steps by lot, columns repeated, damage to every
 // argument, and rooms about the one needed. What draws from a seed answers the seed to go on with. Nothing is promised but that every function is safe
 // and ends.
-mod lists; // lists.rt: the lists, and the steps of a plan over them
 mod lot; // lot.rt: steps by lot
 mod damage; // damage.rt: an argument changed
 
@@ -19,7 +18,7 @@ const MOST: usize = 18446744073709551615;
 
 // A number that is right nowhere, at every place.
 fn clear(case: &mut Case) {
-    for place in 0..576 {
+    for place in 0..1800 {
         case[place] = 7000;
     }
 }
@@ -42,14 +41,14 @@ fn draw_steps(case: &mut Case, seed: usize) -> usize {
     let mut grid = [0usize; 625];
     let mut counts = [0usize; 25];
     let mut parents = [0usize; 25];
-    let b = lists::draw_grid(&mut grid, n, a);
+    let b = drawn_lists::draw_grid(&mut grid, n, a);
     fill::columns(&grid, &mut counts, &mut parents);
-    lists::write_lists(case, &grid, &counts, n);
+    drawn_lists::write_lists(case, &grid, &counts, n);
     set(case, case::HEAD, case::ROOM, MOST);
     let c = next(draw_lengths(case, b));
     let d = next(c);
     if choice(c, 2) == 0 {
-        lists::write_plan(case, &parents, &counts, n, choice(d, 3));
+        drawn_lists::write_plan(case, &parents, &counts, n, choice(d, 3));
         return d;
     }
     lot::draw_lot(case, d)

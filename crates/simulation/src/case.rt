@@ -1,7 +1,7 @@
-// The arguments of a run in one list of numbers. It has six parts of 96 places; places wrap.
+// The arguments of a run in one list of numbers. It has six parts of 300 places; places wrap.
 use elimination::grid::add;
 
-pub type Case = [usize; 576];
+pub type Case = [usize; 1800];
 
 // The parts. The head has the room, n, and behind n the lengths of the other parts; of the stack list nothing else is there.
 pub const HEAD: usize = 0;
@@ -22,11 +22,11 @@ pub const ROOM: usize = 0;
 pub const N: usize = 1;
 
 pub fn get(case: &Case, part: usize, place: usize) -> usize {
-    case[part % 6 * 96 + place % 96]
+    case[part % 6 * 300 + place % 300]
 }
 
 pub fn set(case: &mut Case, part: usize, place: usize, value: usize) {
-    case[part % 6 * 96 + place % 96] = value;
+    case[part % 6 * 300 + place % 300] = value;
 }
 
 pub fn n(case: &Case) -> usize {

@@ -9,7 +9,7 @@ abbrev Inv-loop : tie.InvT-loop
 Inv-loop case₀ place₀ case place = Unit {0}
 
 abbrev μ-loop : tie.MeasureT-loop
-μ-loop case₀ place₀ case place = 576 - place
+μ-loop case₀ place₀ case place = 1800 - place
 
 loop-holds : tie.Need-loop-holds Inv-loop μ-loop
 loop-holds c = tt

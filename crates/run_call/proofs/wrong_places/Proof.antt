@@ -2,14 +2,14 @@
 -- Assumes nothing.
 use Prim.Native.Nat.{_-_}
 use native.Mathlib.Omega.{arith}
-use Rattle.rehearsal.proofs.call.wrong_places.Statement.{statement}
-use Rattle.rehearsal.proofs.call.wrong_places.Tie as tie
+use Rattle.run_call.proofs.wrong_places.Statement.{statement}
+use Rattle.run_call.proofs.wrong_places.Tie as tie
 
 abbrev Inv-loop : tie.InvT-loop
 Inv-loop stack number lent wrong₀ i₀ wrong i = Unit {0}
 
 abbrev μ-loop : tie.MeasureT-loop
-μ-loop stack number lent wrong₀ i₀ wrong i = 96 - i
+μ-loop stack number lent wrong₀ i₀ wrong i = 300 - i
 
 loop-holds : tie.Need-loop-holds Inv-loop μ-loop
 loop-holds c = tt

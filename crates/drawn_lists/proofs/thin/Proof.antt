@@ -2,8 +2,8 @@
 -- Assumes nothing.
 use Prim.Native.Nat.{_-_}
 use native.Mathlib.Omega.{arith}
-use Rattle.run_cases.proofs.lists.thin.Statement.{statement}
-use Rattle.run_cases.proofs.lists.thin.Tie as tie
+use Rattle.drawn_lists.proofs.thin.Statement.{statement}
+use Rattle.drawn_lists.proofs.thin.Tie as tie
 
 abbrev Inv-loop : tie.InvT-loop
 Inv-loop grid₀ seed state₀ place₀ grid state place = Unit {0}

@@ -3,20 +3,20 @@
 use Prim.Native.Nat.{_-_}
 use native.Mathlib.Omega.{arith}
 use borrow.Author.Needs.{needs}
-use Rattle.rehearsal.proofs.call.filled.Statement.{statement}
-use Rattle.rehearsal.proofs.call.filled.Tie as tie
+use Rattle.run_call.proofs.starts_of.Statement.{statement}
+use Rattle.run_call.proofs.starts_of.Tie as tie
 
 abbrev Inv-loop : tie.InvT-loop
-Inv-loop list₀ i₀ list i = Unit {0}
+Inv-loop case list₀ i₀ list i = Unit {0}
 
 abbrev μ-loop : tie.MeasureT-loop
-μ-loop list₀ i₀ list i = 96 - i
+μ-loop case list₀ i₀ list i = 300 - i
 
 loop-holds : tie.Need-loop-holds Inv-loop μ-loop
 loop-holds c = tt
 
-before-requires : tie.Need-before-requires Inv-loop μ-loop
-before-requires c κs = tt
+get-requires : tie.Need-get-requires Inv-loop μ-loop
+get-requires c κs = tt
 
 mul-list : tie.Need-mul-list Inv-loop μ-loop
 mul-list c = omega arith
@@ -36,14 +36,14 @@ loop-again c = tt
 returns : tie.Need-returns Inv-loop μ-loop
 returns c = tt
 
-pub filled-spec : {M : Type 1} → statement M
-filled-spec =
+pub starts-of-spec : {M : Type 1} → statement M
+starts-of-spec =
     tie.close
     (tie.spec
     Inv-loop
     μ-loop
     loop-holds
-    before-requires
+    get-requires
     mul-list
     array-write-list
     add-i

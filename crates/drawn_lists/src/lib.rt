@@ -1,4 +1,5 @@
-// The lists of a case, and the steps of a plan over them, as the elimination has them.
+// Patterns drawn from a seed, and as parts of a case their lists and the steps of a plan over them, as the elimination has them. What draws from a seed
+// answers the seed to go on with. Nothing is promised but that every function is safe and ends.
 use elimination::fill;
 use elimination::grid::Grid;
 use elimination::grid::Line;
@@ -26,7 +27,7 @@ fn thin(grid: &mut Grid, seed: usize) -> usize {
 }
 
 // A pattern of n columns: a named shape, sometimes with a tree by lot, sometimes with rows by lot.
-fn draw_pattern(grid: &mut Grid, n: usize, seed: usize) -> usize {
+pub fn draw_pattern(grid: &mut Grid, n: usize, seed: usize) -> usize {
     let a = next(seed);
     let b = next(a);
     let c = next(b);
@@ -60,7 +61,7 @@ fn write_line(case: &mut Case, part: usize, line: &Line, from: usize) {
 }
 
 fn write_rows(case: &mut Case, rows: &[usize; 300]) {
-    for i in 0..96 {
+    for i in 0..300 {
         set(case, case::ROWS, i, rows[i]);
     }
 }

@@ -2,14 +2,14 @@
 -- Assumes nothing.
 use Prim.Native.Nat.{_-_}
 use native.Mathlib.Omega.{arith}
-use Rattle.run_cases.proofs.lists.write_rows.Statement.{statement}
-use Rattle.run_cases.proofs.lists.write_rows.Tie as tie
+use Rattle.drawn_lists.proofs.write_rows.Statement.{statement}
+use Rattle.drawn_lists.proofs.write_rows.Tie as tie
 
 abbrev Inv-loop : tie.InvT-loop
 Inv-loop case₀ rows i₀ case i = Unit {0}
 
 abbrev μ-loop : tie.MeasureT-loop
-μ-loop case₀ rows i₀ case i = 96 - i
+μ-loop case₀ rows i₀ case i = 300 - i
 
 loop-holds : tie.Need-loop-holds Inv-loop μ-loop
 loop-holds c = tt

@@ -3,8 +3,8 @@
 use native.Mathlib.Omega.{arith}
 use lib.ListN.{length-take}
 use borrow.Author.Needs.{needs}
-use Rattle.rehearsal.proofs.call.wrong_in_call.Statement.{statement}
-use Rattle.rehearsal.proofs.call.wrong_in_call.Tie as tie
+use Rattle.run_call.proofs.wrong_in_call.Statement.{statement}
+use Rattle.run_call.proofs.wrong_in_call.Tie as tie
 
 starts-of-requires : tie.Need-starts-of-requires
 starts-of-requires c κs = search needs

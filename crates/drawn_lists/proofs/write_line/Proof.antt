@@ -2,8 +2,8 @@
 -- Assumes nothing.
 use Prim.Native.Nat.{_-_}
 use native.Mathlib.Omega.{arith}
-use Rattle.run_cases.proofs.lists.write_line.Statement.{statement}
-use Rattle.run_cases.proofs.lists.write_line.Tie as tie
+use Rattle.drawn_lists.proofs.write_line.Statement.{statement}
+use Rattle.drawn_lists.proofs.write_line.Tie as tie
 
 abbrev Inv-loop : tie.InvT-loop
 Inv-loop case₀ part line from k₀ case k = Unit {0}

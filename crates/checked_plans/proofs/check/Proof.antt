@@ -1,0 +1,68 @@
+-- Every lent part is within its array.
+-- Assumes nothing.
+use native.Mathlib.Omega.{arith}
+use lib.ListN.{length-take}
+use borrow.Author.Needs.{needs}
+use Rattle.checked_plans.proofs.check.Statement.{statement}
+use Rattle.checked_plans.proofs.check.Tie as tie
+
+starts-of-requires : tie.Need-starts-of-requires
+starts-of-requires c κs = search needs
+
+list-of-requires : tie.Need-list-of-requires
+list-of-requires c κs = search needs
+
+length-requires : tie.Need-length-requires
+length-requires c κs = search needs
+
+length-requires-2 : tie.Need-length-requires-2
+length-requires-2 c κs = search needs
+
+keyed-requires : tie.Need-keyed-requires
+keyed-requires c κs = search needs
+
+head-requires : tie.Need-head-requires
+head-requires c κs = search needs
+
+array-share-prefix-starts : tie.Need-array-share-prefix-starts
+array-share-prefix-starts c = search needs
+
+slice-aggregate-check-lists : tie.Need-slice-aggregate-check-lists
+slice-aggregate-check-lists c = simp length-take (omega arith)
+
+array-share-prefix-rows : tie.Need-array-share-prefix-rows
+array-share-prefix-rows c = search needs
+
+slice-aggregate-check-lists-2 : tie.Need-slice-aggregate-check-lists-2
+slice-aggregate-check-lists-2 c = simp length-take (omega arith)
+
+array-share-prefix-bytes : tie.Need-array-share-prefix-bytes
+array-share-prefix-bytes c = search needs
+
+slice-aggregate-check-lists-3 : tie.Need-slice-aggregate-check-lists-3
+slice-aggregate-check-lists-3 c = simp length-take (omega arith)
+
+check-lists-requires : tie.Need-check-lists-requires
+check-lists-requires c κs = search needs
+
+returns : tie.Need-returns
+returns c = search needs
+
+pub check-spec : {M : Type 1} → statement M
+check-spec =
+    tie.close
+    (tie.spec
+    starts-of-requires
+    list-of-requires
+    length-requires
+    length-requires-2
+    keyed-requires
+    head-requires
+    array-share-prefix-starts
+    slice-aggregate-check-lists
+    array-share-prefix-rows
+    slice-aggregate-check-lists-2
+    array-share-prefix-bytes
+    slice-aggregate-check-lists-3
+    check-lists-requires
+    returns)

@@ -1,0 +1,67 @@
+-- A turn is safe whatever it finds. The measure is how many turns are left.
+-- Assumes nothing.
+use Prim.Native.Nat.{_-_}
+use native.Mathlib.Omega.{arith}
+use Rattle.checked_plans.proofs.write_starts.Statement.{statement}
+use Rattle.checked_plans.proofs.write_starts.Tie as tie
+
+abbrev Inv-loop : tie.InvT-loop
+Inv-loop case₀ list n i₀ case i = Unit {0}
+
+abbrev μ-loop : tie.MeasureT-loop
+μ-loop case₀ list n i₀ case i = 300 - i
+
+loop-holds : tie.Need-loop-holds Inv-loop μ-loop
+loop-holds c = tt
+
+mul-index64 : tie.Need-mul-index64 Inv-loop μ-loop
+mul-index64 c = omega arith
+
+element-copy-out-index64 : tie.Need-element-copy-out-index64 Inv-loop μ-loop
+element-copy-out-index64 c = omega arith
+
+index64-requires : tie.Need-index64-requires Inv-loop μ-loop
+index64-requires c κs = tt
+
+set-requires : tie.Need-set-requires Inv-loop μ-loop
+set-requires c κs = tt
+
+add-i : tie.Need-add-i Inv-loop μ-loop
+add-i c = omega arith
+
+loop-less : tie.Need-loop-less Inv-loop μ-loop
+loop-less c = omega arith
+
+loop-again : tie.Need-loop-again Inv-loop μ-loop
+loop-again c = tt
+
+add-requires : tie.Need-add-requires Inv-loop μ-loop
+add-requires c κs = tt
+
+add-requires-2 : tie.Need-add-requires-2 Inv-loop μ-loop
+add-requires-2 c κs = tt
+
+set-requires-2 : tie.Need-set-requires-2 Inv-loop μ-loop
+set-requires-2 c κs = tt
+
+returns : tie.Need-returns Inv-loop μ-loop
+returns c = tt
+
+pub write-starts-spec : {M : Type 1} → statement M
+write-starts-spec =
+    tie.close
+    (tie.spec
+    Inv-loop
+    μ-loop
+    loop-holds
+    mul-index64
+    element-copy-out-index64
+    index64-requires
+    set-requires
+    add-i
+    loop-less
+    loop-again
+    add-requires
+    add-requires-2
+    set-requires-2
+    returns)

@@ -1,0 +1,63 @@
+-- A turn is safe whatever it finds. The measure is how many turns are left.
+-- Assumes nothing.
+use Prim.Native.Nat.{_-_}
+use native.Mathlib.Omega.{arith}
+use Rattle.checked_plans.proofs.write_words.Statement.{statement}
+use Rattle.checked_plans.proofs.write_words.Tie as tie
+
+abbrev Inv-loop : tie.InvT-loop
+Inv-loop case₀ part list count i₀ case i = Unit {0}
+
+abbrev μ-loop : tie.MeasureT-loop
+μ-loop case₀ part list count i₀ case i = 300 - i
+
+loop-holds : tie.Need-loop-holds Inv-loop μ-loop
+loop-holds c = tt
+
+mul-index32 : tie.Need-mul-index32 Inv-loop μ-loop
+mul-index32 c = omega arith
+
+element-copy-out-index32 : tie.Need-element-copy-out-index32 Inv-loop μ-loop
+element-copy-out-index32 c = omega arith
+
+index32-requires : tie.Need-index32-requires Inv-loop μ-loop
+index32-requires c κs = tt
+
+set-requires : tie.Need-set-requires Inv-loop μ-loop
+set-requires c κs = tt
+
+add-i : tie.Need-add-i Inv-loop μ-loop
+add-i c = omega arith
+
+loop-less : tie.Need-loop-less Inv-loop μ-loop
+loop-less c = omega arith
+
+loop-again : tie.Need-loop-again Inv-loop μ-loop
+loop-again c = tt
+
+add-requires : tie.Need-add-requires Inv-loop μ-loop
+add-requires c κs = tt
+
+set-requires-2 : tie.Need-set-requires-2 Inv-loop μ-loop
+set-requires-2 c κs = tt
+
+returns : tie.Need-returns Inv-loop μ-loop
+returns c = tt
+
+pub write-words-spec : {M : Type 1} → statement M
+write-words-spec =
+    tie.close
+    (tie.spec
+    Inv-loop
+    μ-loop
+    loop-holds
+    mul-index32
+    element-copy-out-index32
+    index32-requires
+    set-requires
+    add-i
+    loop-less
+    loop-again
+    add-requires
+    set-requires-2
+    returns)
