@@ -67,7 +67,7 @@ module _ (key plan : List ℕ) where
             let c = parts .counted in
             call-fits _ (parts .whole) few (omega arith) ∙ sym (e ∙ rw (starts-stored, rows-stored))
 
-        pub answer-bounded : Within 27 (max programColumns (length plan + 1)) a
+        pub answer-bounded : Within 27 (2 ^ 20) a
         answer-bounded = rw (← is-answer) (call-bounded (record { key = key; plan = plan }))
 
         pub answer-called : a .number * 2 ^ 32 + a .place ≡ called key plan
