@@ -4,7 +4,6 @@
 use Prim.Native.Nat.{ℕ, zero, suc, _+_, _-_, _*_, _<_, _≤_}
 use mathlib.Core.Path.{_≡_, refl, ap}
 use mathlib.Core.Logic.{_≢_}
-use mathlib.Core.Bool.{Bool, true, false}
 use mathlib.Core.List.{List, [], _∷_}
 use native.Mathlib.Omega.{arith}
 use lib.Dec.{leb}
@@ -17,10 +16,9 @@ use Rattle.papers.specs.Lists.{flat}
 use Rattle.papers.specs.Numbers.{bytesOf, encode}
 use Rattle.papers.specs.Job.{Job, pattern}
 use Rattle.papers.specs.Key.{gapsOf, listNumbers, listsNumbers, listsOf, keyNumbers, keyOf}
-use Rattle.papers.specs.Conditions.{Stands, ended, too-long, not-shortest, value, Field, column, pops, count, gap, peak, nothing, low, high, fromList, fromGap, fromStep, following, Reaches, begin, next}
+use Rattle.papers.specs.Conditions.{Stands, ended, too-long, not-shortest, value, Field, column, pops, count, gap, peak, nothing, high, fromList, fromGap, fromStep, following, Reaches, begin, next}
 use Rattle.list_laws.proofs.Tests.{Test, passes, fails, test}
 use Rattle.bytes_laws.proofs.Numbers.{bytes-length}
-use Rattle.bytes_laws.proofs.NumberReading.{value-inj}
 use Rattle.job_laws.proofs.Starts.{Starts}
 use Rattle.job_laws.proofs.Laid.{length-lists, rows-laid}
 

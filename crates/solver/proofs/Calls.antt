@@ -1,7 +1,7 @@
 -- The lists of a key are read twice: once through, which tells that they are there and how many rows they have, and once into the buffers, whose
 -- first parts then are the job's two lists. So the check is that of the job whose key it is.
 -- Assumes nothing.
-use Prim.Native.Nat.{ℕ, _+_, _*_, _^_, _<_, _≤_, max}
+use Prim.Native.Nat.{ℕ, _+_, _*_, _^_, _<_, _≤_}
 use mathlib.Core.Path.{_≡_, sym, ap, subst, _∙_}
 use mathlib.Core.Logic.{_⊎_}
 use mathlib.Core.List.{List}
