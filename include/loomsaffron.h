@@ -4,7 +4,8 @@
    place and the count of the answer are stored through the last two pointers. docs/REFUSALS.md says when each number is answered, what place
    and count then say, and what the lent slices hold.
 
-   Two things the proofs take from the caller: the pointers are good for the lengths given, and no lent (non-const) list overlaps another.
+   Two things the proofs take from the caller: the pointers are good for the lengths given, and nothing that is lent to be written (a non-const list,
+   place, count) overlaps anything else.
 
    A job is n columns, n + 1 starts, the rows strictly below the diagonal column by column, a sibling mark (0, 1 or 2) and a room limit. */
 #ifndef LOOMSAFFRON_H

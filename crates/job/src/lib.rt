@@ -18,7 +18,7 @@ fn uncounted(number: u64, place: u64) -> Answer
     }
 }
 
-// 4: not n + 1 starts, or the first not 0; the first column whose start falls; the last start not the row count.
+// 4: not n + 1 starts, or the first not 0; the first column that would end before it begins; the last start not the row count.
 // One pass over the columns: no start of the first `done` columns falls.
 pub fn starts_fault(n: u64, starts: &[u64], rows: &[u32]) -> Answer
     requires few { ⌜ n ≤ maxColumns ⌝ }

@@ -6,15 +6,12 @@ ghost use Rattle.papers.specs.Refusals.{Outcome};
 ghost use Rattle.papers.specs.Text.{listed};
 use papers::Answer;
 
-// Bytes that any listing fits. The definitions have the same in the Bounds of papers.
-pub const LISTING_BYTES: usize = 24576;
-
 // What the program prints of a text, of which `more` says whether it goes on behind what is lent, into bytes, then zeros: the listing of its job, or the line
 // of a refusal. The count is the bytes printed; 7 where the slice is shorter than any listing may need.
 pub fn listing(text: &[u8], more: bool, bytes: &mut [u8]) -> Answer
     ensures { λ r. ⌜ _≡_ {A = Outcome (List ℕ)} (record { answer = r; lent = now (bytes .exit) }) (listed (record { text = now (text .entry); more = more }) (now (bytes .entry))) ⌝ }
 {
-    if bytes.len() < LISTING_BYTES {
+    if bytes.len() < program_sizes::LISTING_BYTES {
         return Answer {
             number: 7,
             place: 0,

@@ -15,6 +15,7 @@ use Rattle.papers.specs.Order.{alone, arranged, stepsOf, kidsOf, popsOf, W, ord
 use Rattle.list_laws.proofs.Counts.{distinct-length, same-length}
 use Rattle.list_laws.proofs.UpTo.{upTo-into, length-upTo}
 use Rattle.order_laws.specs.Subtrees.{Kin, inTurn, butLast, subtreeSteps, siblingsOf}
+use Rattle.order_laws.proofs.Triangles.{t-suc}
 use Rattle.order_laws.proofs.Trees.{under-range}
 use Rattle.order_laws.proofs.Subtrees.{children-are, subtree-is, subtree-distinct}
 use Rattle.order_laws.proofs.Forests.{SubtreeOrder}
@@ -60,6 +61,10 @@ module _ {n : ℕ} {A : Pattern} (below : Below n A) where
     pub W-children : W mark n A j ≡ max (inTurn (rowCount A) (W mark n A) 0 (siblingsOf mark n A j)) (butLast (rowCount A) (siblingsOf mark n A j) + t (suc (rowCount A j)))
     unfolding siblingsOf W arranged alone
     W-children = ap (peakOf (rowCount A) (popsOf n A)) deeper ∙ need-children mark (rowCount A) (kidsOf n A) kin-of n j l (omega arith)
+
+    -- so the entries of its update are part of it
+    pub W-update : t (rowCount A j) ≤ W mark n A j
+    W-update = rw W-children (omega (arith, t-suc (rowCount A j)))
 
     order-of : SubtreeOrder (parent A) j (stepsOf mark (rowCount A) (kidsOf n A) n j)
     order-of = steps-order (tree-of below) mark (rowCount A) n j l u

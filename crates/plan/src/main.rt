@@ -4,12 +4,13 @@ use libc::STDOUT_FILENO;
 
 // Reads as much as the buffer for input holds, and looks whether a byte follows.
 fn main() {
-    let mut input = [0u8; text_reader::INPUT_BYTES];
+    let mut input = [0u8; program_sizes::INPUT_BYTES];
     let mut behind = [0u8; 1];
     let read = io::read_full(STDIN_FILENO, &mut input);
     let more = io::read_full(STDIN_FILENO, &mut behind);
-    let mut output = [0u8; listing::LISTING_BYTES];
+    let mut output = [0u8; program_sizes::LISTING_BYTES];
     let answer = listing::listing(&input[..read], more != 0, &mut output);
+    // The contract has the count within the output; main is not told so, and asks.
     let printed = answer.count as usize;
     if printed <= output.len() {
         io::write_all(STDOUT_FILENO, &output[..printed]);

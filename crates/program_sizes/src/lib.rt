@@ -1,5 +1,14 @@
-// The sizes that the listing program and the solver's call have in common: the lengths of their fixed buffers. The definitions have the same in
-// the Bounds of papers.
+// The sizes of the listing program, of which the solver's call has those of its buffers. The definitions have the same in the Bounds of papers.
+
+// Bytes of a job text, digits of a decimal, and the sibling mark of a text that gives none.
+pub const INPUT_BYTES: usize = 8192;
+
+pub const MAX_DIGITS: usize = 13;
+
+pub const DEFAULT_MARK: u64 = 0;
+
+// Bytes of output, which any listing fits.
+pub const LISTING_BYTES: usize = 24576;
 
 // Columns, and one start more than columns.
 pub const COLUMNS: usize = 256;

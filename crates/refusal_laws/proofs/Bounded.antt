@@ -1,26 +1,26 @@
--- The answer of a check is a small number with a place inside the call: each condition says its number and its place, a column or a step of 1 to n or a
--- byte of the plan or the one behind it. Reading begins within the plan, since the bytes before it are the key's.
+-- The answer of a check is a small number with a place that n and the rows bound, however long the plan: each condition says its number and its place, a
+-- column or a step of 1 to n, a byte that the key reaches, or one that the reading behind it can reach.
 -- Assumes nothing.
-use Prim.Native.Nat.{ℕ, zero, suc, _+_, _<_, _≤_, max}
-use mathlib.Core.Path.{_≡_, refl, ap}
+use Prim.Native.Nat.{ℕ, zero, suc, _+_, _*_, _≤_}
+use mathlib.Core.Path.{_≡_, refl}
 use mathlib.Core.Logic.{_⊎_, inl, inr}
 use mathlib.Core.List.{List, [], _∷_}
 use native.Mathlib.Omega.{arith}
-use lib.ListN.{length, length-take}
+use lib.ListN.{length}
 use Rattle.papers.specs.declared.Answer.{Answer}
-use Rattle.papers.specs.declared.Number.the-variants.{Value}
+use Rattle.papers.specs.Bounds.{maxGroups}
 use Rattle.papers.specs.Job.{Job}
 use Rattle.papers.specs.Key.{keyOf}
 use Rattle.papers.specs.Plan.{Plan, columnsIn, Read, got, bad}
 use Rattle.papers.specs.Refusals.{answer, zeroed, allZero}
 use Rattle.papers.specs.Check.{CheckCall, planRead, checkDone, checked}
-use Rattle.papers.specs.Conditions.{Condition, Answered, Unrefused, RowLists, StartsFault, miscounted, not-zero, falls, last, BadRow, five, six, Agrees, KeyDiffers, Field, Reaches, begin, next, PlanFault, twelve, thirteen, fourteen, fifteen, Repeated, NotR, Faulty, PopsWrong, leastPlaced, checkConditions}
-use Rattle.bytes_laws.proofs.ShortestForm.{reads-inside}
-use Rattle.bytes_laws.proofs.Stands.{number-stands-iff}
-use Rattle.bytes_laws.proofs.Begins.{key-passed-iff}
+use Rattle.papers.specs.Conditions.{Condition, Answered, Unrefused, RowLists, jobLists, StartsFault, miscounted, not-zero, falls, last, BadStarts, BadRow, five, six, PlanFault, twelve, thirteen, fourteen, fifteen, Repeated, NotR, Faulty, PopsWrong, leastPlaced, checkConditions}
+use Rattle.job_laws.proofs.Starts.{starts-iff}
 use Rattle.refusal_laws.specs.Exactly.{Exactly}
 use Rattle.refusal_laws.proofs.Agreements.{_▸_, agree-passed-iff}
-use Rattle.refusal_laws.proofs.PlanBytes.{begins-agree, read-bad, read-agree}
+use Rattle.refusal_laws.proofs.PlanBytes.{read-bad, read-agree}
+use Rattle.refusal_laws.proofs.Job.{starts-agree}
+use Rattle.refusal_laws.proofs.Lengths.{mostOf, key-short, reaches-short}
 use Rattle.refusal_laws.proofs.Check.{check-exactly}
 
 -- number and place are at most these
@@ -60,35 +60,25 @@ row-within : {c : RowLists} {a : Answer} → BadRow c a → (a .number ≤ 6) ×
 row-within (five r fine o) = (omega arith, r .1)
 row-within (six r fine o f) = (omega arith, r .1)
 
--- the first byte that differs is one of the plan, or the one behind it
-differs-place : (key plan : List ℕ) (p : ℕ) → ((k : ℕ) → 1 ≤ k → k < p → Agrees key plan k) → p ≤ length plan + 1
-differs-place key plan zero same = omega arith
-differs-place key plan (suc zero) same = omega arith
-differs-place key plan (suc (suc p)) same = let h = same (suc p) (omega arith) (omega arith) .0 in omega arith
+plan-within : {n from : ℕ} {s : List ℕ} {a : Answer} → PlanFault n s from a → Within 15 (from + maxGroups * (2 * n + mostOf n n) + 1) a
+plan-within {n} (twelve r some e) = let h = reaches-short n r in record { number = omega arith; place = omega arith }
+plan-within {n} (thirteen r some e) = let h = reaches-short n r in record { number = omega arith; place = omega arith }
+plan-within {n} (fourteen r some e o) = let h = reaches-short n r in record { number = omega arith; place = omega arith }
+plan-within {n} (fifteen r l) = let h = reaches-short n r in record { number = omega arith; place = omega arith }
 
-module _ {n : ℕ} {s : List ℕ} {from : ℕ} (inside : from ≤ length s) where
-  -- reading that begins within the bytes stays there
-  reaches-inside : {x : Field} {at : ℕ} → Reaches n s from x at → at ≤ length s
-  reaches-inside begin = inside
-  reaches-inside (next {at = at} {v = v} {to = to} r some stands l h) = reads-inside s at v to (number-stands-iff s at (Value v to) .1 stands) .1
-
-  plan-within : {a : Answer} → PlanFault n s from a → Within 15 (length s + 1) a
-  plan-within (twelve r some e) = let h = reaches-inside r in record { number = omega arith; place = omega arith }
-  plan-within (thirteen r some e) = let h = reaches-inside r in record { number = omega arith; place = omega arith }
-  plan-within (fourteen r some e o) = let h = reaches-inside r in record { number = omega arith; place = omega arith }
-  plan-within (fifteen r l) = let h = reaches-inside r in record { number = omega arith; place = omega arith }
+-- the last place that a check of so many columns and rows can answer
+abbrev pub farthest : ℕ → ℕ → ℕ
+farthest n rows = maxGroups * (4 + n + rows + (2 * n + mostOf n n)) + 1
 
 -- ---- the check
 
 module _ (call : CheckCall) where
   abbrev Small : Answer → Type 0
-  Small = Within 20 (max (call .job .n) (length (call .plan) + 1))
+  Small = Within 20 (farthest (call .job .n) (length (call .job .rows)))
 
-  -- where no byte differs the plan is as long as the key
-  key-inside : ((b : Answer) → ¬ KeyDiffers call b) → length (keyOf (call .job)) ≤ length (call .plan)
-  key-inside none =
-      let same = key-passed-iff call .0 (agree-passed-iff _ _ (begins-agree call) .1 none) in
-      omega (arith, ap length same, length-take (length (keyOf (call .job))) (call .plan))
+  -- where 4 is not answered the key is short
+  key-within : ((b : Answer) → ¬ BadStarts (jobLists (call .job)) b) → length (keyOf (call .job)) ≤ maxGroups * (4 + call .job .n + length (call .job .rows))
+  key-within none = key-short (call .job) (starts-iff _ _ _ .0 (agree-passed-iff _ _ (starts-agree (jobLists (call .job))) .1 none))
 
   -- a refusal at the least column or step
   placed : (number : ℕ) → number ≤ 20 → (P : Job → Plan → ℕ → Type 0) (a : Answer) → leastPlaced number P call a → Small a
@@ -100,10 +90,10 @@ module _ (call : CheckCall) where
       ▸ λ n. (λ a (h, e). within 2 0 0 e (omega arith) (omega arith))
       ▸ λ n. (λ a (h, e). within 3 0 0 e (omega arith) (omega arith))
       ▸ λ n. (λ a (p, h, e). let l = starts-place h in within 4 p 0 e (omega arith) (omega arith))
-      ▸ λ n. (λ a h. let (l, k) = row-within h in record { number = omega arith; place = omega arith })
+      ▸ λ fine. (λ a h. let (l, k) = row-within h in record { number = omega arith; place = omega arith })
       ▸ λ n. (λ a (h, e). within 7 0 0 e (omega arith) (omega arith))
-      ▸ λ n. (λ a (p, r, d, same, e). let l = differs-place (keyOf (call .job)) (call .plan) p same in within 11 p 0 e (omega arith) (omega arith))
-      ▸ λ begins. (λ a h. let w = plan-within (key-inside begins) h in record { number = omega (arith, w .number); place = omega (arith, w .place) })
+      ▸ λ n. (λ a (p, r, d, same, e). let l = r .1 in within 11 p 0 e (omega arith) (omega (arith, key-within fine)))
+      ▸ λ n. (λ a h. let w = plan-within h in record { number = omega (arith, w .number); place = omega (arith, w .place, key-within fine) })
       ▸ λ n. (λ a (plan, at, read, (h, e)). within 8 0 _ e (omega arith) (omega arith))
       ▸ λ n. placed 16 (omega arith) (λ job plan. Repeated (columnsIn (plan .steps)))
       ▸ λ n. placed 17 (omega arith) NotR
@@ -122,8 +112,8 @@ module _ (call : CheckCall) where
       go (got plan at) e = rw (e, checkDone) (record { number = omega arith; place = omega arith })
       go (bad number place) e = absurd (u .1 .1 .1 .1 .1 .1 .1 .0 (answer number place 0) (read-agree call (answer number place 0) .0 (zeroed, read-bad call e)))
 
-  -- the number of a check is at most 20, its place at most n or the byte behind the plan
-  pub check-bounded : Within 20 (max (call .job .n) (length (call .plan) + 1)) (checked (call .job) (call .plan) (call .lent) .answer)
+  -- the number of a check is at most 20, its place at most the last that its columns and rows let it reach
+  pub check-bounded : Within 20 (farthest (call .job .n) (length (call .job .rows))) (checked (call .job) (call .plan) (call .lent) .answer)
   check-bounded = go (checked (call .job) (call .plan) (call .lent) .answer .number) refl
     where
       exact : Exactly checkConditions call (call .lent) (allZero (call .lent)) (checkDone call) (checked (call .job) (call .plan) (call .lent))

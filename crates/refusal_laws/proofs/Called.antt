@@ -1,7 +1,7 @@
--- The solver's call by what its key reads as, and its one number taken apart: the number is at most 27, and the place is a column, a step, a byte of the
--- plan or the one behind it, so for a plan of fewer than 2^32 - 1 bytes the place is what is left over.
+-- The solver's call by what its key reads as, and its one number taken apart: the number is at most 27, and the sizes keep the place below 2^32, so it is
+-- what is left over.
 -- Assumes nothing.
-use Prim.Native.Nat.{ℕ, _+_, _/_, _%_, _^_, _<_, _≤_, max}
+use Prim.Native.Nat.{ℕ, _/_, _%_, _^_, _<_, _≤_}
 use mathlib.Core.Path.{_≡_, refl, _∙_}
 use mathlib.Core.Logic.{_⊎_, inl, inr}
 use mathlib.Core.Bool.{Bool, true, false, _||_}
@@ -21,6 +21,7 @@ use Rattle.papers.specs.Call.{readKey, SolverCall, readableTest, sizesTest, cal
 use Rattle.list_laws.proofs.Tests.{below-or}
 use Rattle.job_laws.proofs.Firsts.{first-passes, first-refuses, first-passed-iff, refused-if, passed-if}
 use Rattle.refusal_laws.proofs.Bounded.{Within, within, check-bounded}
+use Rattle.refusal_laws.proofs.Lengths.{most-short}
 use Rattle.refusal_laws.proofs.Tests.{below-iff, either-iff}
 
 module _ (call : SolverCall) where
@@ -63,26 +64,27 @@ module _ (call : SolverCall) where
 
   -- ---- its bounds
 
-  pub call-bounded : Within 27 (max programColumns (length (call .plan) + 1)) (solverAnswer call)
+  -- above what the sizes let a check reach, and below 2^32
+  pub call-bounded : Within 27 (2 ^ 20) (solverAnswer call)
   call-bounded = go (readKey (call .key)) refl
     where
-      go : (x : Read Job) → readKey (call .key) ≡ x → Within 27 (max programColumns (length (call .plan) + 1)) (solverAnswer call)
+      go : (x : Read Job) → readKey (call .key) ≡ x → Within 27 (2 ^ 20) (solverAnswer call)
       go (bad number place) e = within 27 0 0 (call-unreadable e) (omega arith) (omega arith)
       go (got job at) e = sized (below-or programColumns (job .n)) (below-or programRows (length (job .rows)))
         where
           sized : (programColumns < job .n) ⊎ (job .n ≤ programColumns) → (programRows < length (job .rows)) ⊎ (length (job .rows) ≤ programRows)
-              → Within 27 (max programColumns (length (call .plan) + 1)) (solverAnswer call)
+              → Within 27 (2 ^ 20) (solverAnswer call)
           sized (inl h) r = within 26 0 0 (call-over e (inl h)) (omega arith) (omega arith)
           sized (inr h) (inl g) = within 26 0 0 (call-over e (inr g)) (omega arith) (omega arith)
           sized (inr h) (inr g) =
               let w = check-bounded (record { job = job; plan = call .plan; lent = buffers }) in
-              rw (call-fits e h g) (record { number = omega (arith, w .number); place = omega (arith, w .place) })
+              rw (call-fits e h g) (record { number = omega (arith, w .number); place = omega (arith, w .place, most-short (job .n) programColumns (job .n) h) })
 
 -- the one number gives back number and place
-pub called-decodes : (key plan : List ℕ) → length plan + 1 < 2 ^ 32
+pub called-decodes : (key plan : List ℕ)
     → (called key plan / 2 ^ 32 ≡ solverAnswer (record { key = key; plan = plan }) .number) × (called key plan % 2 ^ 32 ≡ solverAnswer (record { key = key; plan = plan }) .place)
 unfolding called
-called-decodes key plan h =
+called-decodes key plan =
     let w = call-bounded (record { key = key; plan = plan }) in
     let p = w .place in
     (omega arith, omega arith)

@@ -14,6 +14,7 @@ pub mod PlanTests
 pub mod Check
 pub mod Printed
 pub mod Program
+pub mod Lengths
 pub mod Bounded
 pub mod Called
 pub mod Call

@@ -1,7 +1,7 @@
 -- The lists of a key are read twice: once through, which tells that they are there and how many rows they have, and once into the buffers, whose
 -- first parts then are the job's two lists. So the check is that of the job whose key it is.
 -- Assumes nothing.
-use Prim.Native.Nat.{ℕ, _+_, _*_, _^_, _<_, _≤_, max}
+use Prim.Native.Nat.{ℕ, _+_, _*_, _^_, _<_, _≤_}
 use mathlib.Core.Path.{_≡_, sym, ap, subst, _∙_}
 use mathlib.Core.Logic.{_⊎_}
 use mathlib.Core.List.{List}
@@ -67,7 +67,7 @@ module _ (key plan : List ℕ) where
             let c = parts .counted in
             call-fits _ (parts .whole) few (omega arith) ∙ sym (e ∙ rw (starts-stored, rows-stored))
 
-        pub answer-bounded : Within 27 (max programColumns (length plan + 1)) a
+        pub answer-bounded : Within 27 (2 ^ 20) a
         answer-bounded = rw (← is-answer) (call-bounded (record { key = key; plan = plan }))
 
         pub answer-called : a .number * 2 ^ 32 + a .place ≡ called key plan

@@ -8,7 +8,7 @@ use key_reader::KeyReading;
 use papers::Answer;
 use papers::JobHead;
 
-// The number of an answer counts so many times, and the place is what is left over.
+// An answer is its number this many times, and its place.
 const PLACES: u64 = 4294967296;
 
 // The check of a plan's bytes for a job, in zeroed buffers of the program's sizes.

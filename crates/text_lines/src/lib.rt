@@ -1,5 +1,5 @@
 // The lines of a job text: the first line, and a line of rows, which are kept in a lent slice.
-// A line is read to its end whatever it holds, so that bad text in it is found before anything else is said of it.
+// A line is read to its end or to its first bad word, so that bad text in it is found before anything else is said of it.
 ghost use mathlib.Core.Path.{_≡_};
 ghost use mathlib.Core.List.{[], _∷_};
 ghost use Prim.Native.Nat.{_≤_};
@@ -7,9 +7,6 @@ ghost use lib.ListN.{length, set};
 ghost use Rattle.text_lines.specs.Lines.{narrowed, RowsTold, LineTold, HeadTold};
 use papers::JobHead;
 use text_words::Word;
-
-// The sibling mark of a text that gives none. The definitions have the same in Bounds.antt of papers.
-pub const DEFAULT_MARK: u64 = 0;
 
 // The greatest number of 32 bits.
 pub const MAX_NARROW: u64 = 4294967295;
@@ -135,7 +132,7 @@ fn read_limit(text: &[u8], at: usize, n: u64) -> Head
             return Head::Numbers {
                 head: JobHead {
                     n,
-                    mark: DEFAULT_MARK,
+                    mark: program_sizes::DEFAULT_MARK,
                     limit,
                 },
                 next,

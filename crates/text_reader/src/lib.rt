@@ -10,13 +10,6 @@ use papers::JobHead;
 use text_lines::Head;
 use text_lines::Line;
 
-// The program's sizes: input bytes, columns, pattern rows. The definitions have the same in Bounds.antt of papers.
-pub const INPUT_BYTES: usize = 8192;
-
-pub const COLUMNS: u64 = 256;
-
-pub const ROWS: usize = 2048;
-
 // What the lines of rows hold: how many rows in all; or a refusal's number and place.
 pub enum Lines {
     Rows { count: usize },
@@ -48,7 +41,7 @@ fn read_lines(text: &[u8], at: usize, n: u64, starts: &mut [u64], rows: &mut [u3
             }
             Line::Rows { count, next } => {
                 total += count;
-                if ROWS < total {
+                if program_sizes::PATTERN_ROWS < total {
                     return Lines::Refused {
                         number: 26,
                         place: j + 2,
@@ -80,7 +73,7 @@ pub fn read_job(text: &[u8], more: bool, starts: &mut [u64], rows: &mut [u32]) -
             place: 0,
         };
     }
-    if INPUT_BYTES < text.len() {
+    if program_sizes::INPUT_BYTES < text.len() {
         return JobRead::Refused {
             number: 26,
             place: 0,
@@ -94,7 +87,7 @@ pub fn read_job(text: &[u8], more: bool, starts: &mut [u64], rows: &mut [u32]) -
             };
         }
         Head::Numbers { head, next } => {
-            if COLUMNS < head.n {
+            if (program_sizes::COLUMNS as u64) < head.n {
                 return JobRead::Refused {
                     number: 26,
                     place: 1,

@@ -6,9 +6,6 @@ ghost use Rattle.papers.specs.Bounds.{maxDigits};
 ghost use Rattle.papers.specs.Text.{isDigit, isDecimal};
 ghost use Rattle.text_words.specs.Words.{DigitsAt, DigitsRead, Stop, WordRead};
 
-// The most digits of a decimal. The definitions have the same in Bounds.antt of papers.
-pub const MAX_DIGITS: usize = 13;
-
 // What stands at a place of a text: a number in front of a space, or of a newline, and the place behind that; or neither.
 pub enum Word {
     More { value: u64, next: usize },
@@ -40,10 +37,10 @@ fn wide(b: u8) -> u64
 fn most_digits(left: usize) -> usize
     ensures { λ r. ⌜ r ≡ min left maxDigits ⌝ }
 {
-    if left < MAX_DIGITS {
+    if left < program_sizes::MAX_DIGITS {
         return left;
     }
-    MAX_DIGITS
+    program_sizes::MAX_DIGITS
 }
 
 // The digits from `at` on, up to the first byte that is none, at most 13. The first i bytes are digits, of this value.

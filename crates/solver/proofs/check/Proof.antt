@@ -71,7 +71,6 @@ add-result c =
     let w = answer-bounded _ _ (told-whole (c .before .before .before .before .before .before .before .before .before .before .before .before .before .before .before .before .read-key .ensures) (c .before .before .before .before .before .before .before .before .before .before .before .before .before .before .head .given .1)) (c .before .before .before .before .before .before .before .before .before .before .before .if1 .left) (ltb-false _ _ (c .before .before .before .before .before .before .before .before .before .before .if2 .left)) (c .before .before .before .before .before .before .before .read-lists .ensures) (c .before .before .check-in-buffers .ensures) in
     let h = w .number in
     let p = w .place in
-    let l = c .before .before .before .before .before .before .before .before .before .before .before .before .before .before .before .before .before .before .before .good .1 .0 .1 in
     search needs
 
 returns-3 : tie.Need-returns-3
