@@ -6,7 +6,10 @@ out=$1
 mkdir -p "$out/jobs"
 cd "$(dirname "${BASH_SOURCE[0]}")"
 gcc -O2 -o "$out/gen" gen.c
-gcc -O2 -I/usr/include/suitesparse -o "$out/reorder" reorder.c -lamd -lmetis 2>/dev/null || { rm -f "$out/reorder"; echo "jobs: no libmetis-dev or libsuitesparse-dev: no renumbered patterns" >&2; }
+gcc -O2 -I/usr/include/suitesparse -o "$out/reorder" reorder.c -lamd -lmetis 2>/dev/null || {
+    rm -f "$out/reorder"
+    echo "jobs: no libmetis-dev or libsuitesparse-dev: no renumbered patterns" >&2
+}
 # Written beside and then moved, so that a job text that is there is whole.
 make_job() { [ -s "$out/jobs/$1.job" ] || { "${@:2}" >"$out/jobs/$1.part" && mv "$out/jobs/$1.part" "$out/jobs/$1.job"; }; }
 made() { make_job "$1" "$out/gen" "${@:2}"; }

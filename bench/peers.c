@@ -84,7 +84,8 @@ static void open_peers(const Case *c) {
     for (size_t k = 0; k <= n; k++) Ap[k] = (int)c->starts[k];
     for (size_t q = 0; q < c->nnz; q++) Ai[q] = (int)c->pattern[q] - 1;
     for (int k = 0; k < N; k++) same_order[k] = k;
-    lower = (cholmod_sparse){.nrow = n, .ncol = n, .nzmax = c->nnz, .p = Ap, .i = Ai, .stype = -1, .itype = CHOLMOD_INT, .xtype = CHOLMOD_PATTERN, .dtype = CHOLMOD_DOUBLE, .sorted = 1, .packed = 1};
+    lower = (cholmod_sparse){.nrow = n, .ncol = n, .nzmax = c->nnz, .p = Ap, .i = Ai, .stype = -1, .sorted = 1, .packed = 1,
+                             .itype = CHOLMOD_INT, .xtype = CHOLMOD_PATTERN, .dtype = CHOLMOD_DOUBLE};
     Cl = (cs_di){.nzmax = (int)c->nnz, .m = N, .n = N, .p = Ap, .i = Ai, .x = NULL, .nz = -1};
     graph = graph_of(); spooles_lists = NULL;
 }

@@ -4,7 +4,7 @@
 #include "../include/loomsaffron.h"
 #include "job.h"
 #include "ref_analyse.h"
-#include <string.h>
+#include "tools.h"
 #include <time.h>
 
 /* rows: the factor rows. The slices whose names begin with r are the reference's, which has 64-bit parents, order and pops. */
@@ -34,9 +34,6 @@ static inline uint64_t do_reference(Case *c, int how, uint64_t room) {
 static inline uint64_t do_joining(Case *c) { return do_reference(c, REF_MERGE, c->rows); }
 static inline uint64_t do_limit(Case *c) { return do_reference(c, REF_LIMIT, c->rows); }
 static inline uint64_t do_count(Case *c) { return do_reference(c, REF_ROWS, 0); }
-
-static inline void must(int good, const char *what) { if (!good) { fprintf(stderr, "%s\n", what); exit(1); } }
-static inline void *room_of(size_t count, size_t size) { void *p = calloc(count + 1, size); must(p != NULL, "no memory"); return p; }
 
 static inline Case open_case(const char *path) {
     Job j = job_open(path); Case v, *c = &v; memset(c, 0, sizeof v);
@@ -79,21 +76,5 @@ static inline double least(uint64_t (*f)(Case *), Case *c, uint64_t expect) {
     double best = 1e9; int calls = 1;
     for (int s = 0; s < 9; s++) { double t = sample(f, c, &calls); if (t < best) best = t; }
     return best;
-}
-
-/* A number with commas, as the tables have it; good until four more are made. */
-static inline const char *grouped(uint64_t v) {
-    static char all[4][32]; static int turn;
-    char *p = all[turn = (turn + 1) % 4] + 31; *p = 0;
-    for (int k = 0; k == 0 || v; k++, v /= 10) { if (k && k % 3 == 0) *--p = ','; *--p = (char)('0' + v % 10); }
-    return p;
-}
-
-/* An argument is FILE or TITLE=FILE; the title of a bare FILE is its name. */
-static inline const char *title_of(const char *argument, char *title, size_t size) {
-    const char *equals = strchr(argument, '='), *path = equals ? equals + 1 : argument, *name = strrchr(path, '/');
-    if (equals) snprintf(title, size, "%.*s", (int)(equals - argument), argument);
-    else { snprintf(title, size, "%s", name ? name + 1 : path); char *dot = strstr(title, ".job"); if (dot) *dot = 0; }
-    return path;
 }
 #endif
