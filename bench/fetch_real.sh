@@ -8,7 +8,7 @@ out=$(cd "$1" && pwd -P)
 cd "$(dirname "${BASH_SOURCE[0]}")"
 unpacked() { # PACKAGE: its files under OUT/deb/PACKAGE
     [ -d "$out/deb/$1" ] && return
-    (cd "$out/deb" && apt-get download "$1" >&2 && dpkg -x "$1"_*.deb "$1.part" && mv "$1.part" "$1") || { echo "fetch_real: no package $1" >&2; return 1; }
+    (cd "$out/deb" && apt-get -qq download "$1" >&2 && dpkg -x "$1"_*.deb "$1.part" && mv "$1.part" "$1") || { echo "fetch_real: no package $1" >&2; return 1; }
 }
 pattern() { # NAME FILE DOF
     [ -s "$out/jobs/$1.job" ] || { python3 pattern.py "$2" "$3" >"$out/jobs/$1.part" && mv "$out/jobs/$1.part" "$out/jobs/$1.job"; }
@@ -21,5 +21,5 @@ pattern bcsstk24 "$demos/bcsstk24.rsa" 1
 pattern ex14 "$demos/ex14.rua" 1
 unpacked calculix-ccx-test
 decks=$out/deb/calculix-ccx-test/usr/share/doc/calculix-ccx-test/examples/test
-pattern ccx_dam "$decks/dam.inp.gz" 2
+pattern ccx_bolt "$decks/bolt.inp.gz" 2
 for d in segment multistage ball; do pattern ccx_$d "$decks/$d.inp.gz" 3; done

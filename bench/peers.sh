@@ -10,7 +10,7 @@ cd "$(dirname "${BASH_SOURCE[0]}")"
 ./fetch_real.sh "$out" || echo "peers: without the larger real patterns" >&2
 ./own.sh "$out" c_api
 spooles=$out/deb/libspooles-dev
-[ -d "$spooles" ] || (cd "$out/deb" && apt-get download libspooles-dev >&2 && dpkg -x libspooles-dev_*.deb "$spooles")
+[ -d "$spooles" ] || (cd "$out/deb" && apt-get -qq download libspooles-dev >&2 && dpkg -x libspooles-dev_*.deb "$spooles")
 gcc -O2 -Wall -Wextra -I/usr/include/suitesparse -I"$spooles/usr/include" -I"$spooles/usr/include/spooles" -o "$out/peers" \
     peers.c ref_analyse.c "$out/c_api.o" "$(find "$spooles" -name libspooles.a)" -lcholmod -lcxsparse -lm -lpthread
 list=$out/peers.list
@@ -21,7 +21,7 @@ job grid 'bricks 11³, 3 unknowns, nested dissection' "$j/grid3-11-dof3-nd.job"
 job grid 'bricks 10³, 3 unknowns' "$j/grid3-10-dof3.job"
 job grid 'plane mesh 64², nested dissection' "$j/grid2-64-nd.job"
 job grid 'plane mesh 64²' "$j/grid2-64.job"
-for k in bcsstk24 ccx_multistage ccx_ball ccx_segment ccx_dam; do
+for k in bcsstk24 ccx_multistage ccx_ball ccx_segment ccx_bolt; do
     job stiffness "$k" "$j/$k.job"
     job stiffness "$k, minimum degree" "$j/$k-amd.job"
     job stiffness "$k, nested dissection" "$j/$k-nd.job"

@@ -18,7 +18,7 @@ args=()
 meshes=("bricks 11³, 3 unknowns, nested dissection=$j/grid3-11-dof3-nd.job" "plane mesh 64², nested dissection=$j/grid2-64-nd.job" "plane mesh 64²=$j/grid2-64.job"
     "bricks 10³, 3 unknowns=$j/grid3-10-dof3.job" "dense=$j/dense-4096.job" "random=$j/random-4096.job")
 larger=()
-for k in bcsstk24 ccx_multistage ccx_ball ccx_segment ccx_dam ex14; do larger+=("$k, minimum degree=$j/$k-amd.job" "$k, nested dissection=$j/$k-nd.job"); done
+for k in bcsstk24 ccx_multistage ccx_ball ccx_segment ccx_bolt ex14; do larger+=("$k, minimum degree=$j/$k-amd.job" "$k, nested dissection=$j/$k-nd.job"); done
 trees=("chain=$j/chain-4096.job" "star=$j/star-4096.job" "caterpillar=$j/caterpillar-4096.job" "binary=$j/binary-4096.job")
 echo "# $(uname -m), $(nproc) processors, $(date -u +%F)"
 there "${meshes[@]}" "${larger[@]}" real/*.job "${trees[@]}" "broom2, 3,000 leaves on a front of 1,000=$j/broom2-4001.job"
