@@ -2,8 +2,8 @@
    Every kind of change is made TIMES times, by turns on the plans of the jobs, each time on a fresh copy; the draws depend on the seed alone.
 
    Each spoilt plan goes through ls_check_plan and, where the job has the solver's sizes, through the solver's call; both must answer the same number and
-   place. A refusal must leave every lent slice zero. A plan that passes must have the lists of the analysis and every column once, and ls_run must do all its
-   steps with the declared peak as room and refuse it with one entry less. What is not so is a fault; one fault and the program exits with 1. */
+   place. A refusal must leave every lent slice zero. A plan that passes must have the lists of the analysis, its own steps and every column once, and ls_run must do
+   all of them with the declared peak as room and refuse them with one entry less. What is not so is a fault; one fault and the program exits with 1. */
 #include "slices.h"
 
 enum { SOLVER_COLUMNS = 256, SOLVER_ROWS = 2048, SOLVER_FACTOR_ROWS = 4096, NUMBERS = 28 };
@@ -117,11 +117,17 @@ static int each_once(const Case *c) {
     for (uint64_t k = 0; k < c->n; k++) { uint32_t j = c->order[k]; good = good && j >= 1 && j <= c->n && !seen[j]; if (good) seen[j] = 1; }
     free(seen); return good;
 }
+/* That the checked order and pops are the very steps of the bytes. */
+static int steps_of_bytes(const Subject *s) {
+    const Case *c = &s->own; uint8_t *again = room_of(8 * c->n, 1); size_t len = (size_t)(put_steps(again, c->order, c->pops, c->n) - again);
+    int same = s->key_len + len <= s->spoilt_len && !memcmp(again, s->spoilt + s->key_len, len);
+    free(again); return same;
+}
 static int runs(Subject *s) {
     Case *c = &s->own; c->peak = c->count;
     int same = !memcmp(c->fstarts, s->fstarts, 8 * (c->n + 1)) && !memcmp(c->frows, s->frows, 4 * c->rows) && !memcmp(c->parents, s->parents, 4 * c->n);
     int done = do_run(c) == LS_DONE && c->count == c->peak; c->peak--;
-    return same && each_once(c) && done && do_run(c) == LS_ROOM_EXCEEDED;
+    return same && steps_of_bytes(s) && each_once(c) && done && do_run(c) == LS_ROOM_EXCEEDED;
 }
 /* The number answered; *fault counts what must not be, *ran the plans that pass and run. */
 static uint64_t verdict(Subject *s, uint64_t *ran, uint64_t *fault) {
