@@ -143,28 +143,36 @@ static const struct { const char *name; int (*make)(Subject *); int may_pass; } 
     {"one bit flipped", one_bit, 0}, {"one byte changed", one_byte, 0}, {"cut off", cut, 0}, {"one byte put in", one_more, 0}, {"two steps swapped", steps_swapped, 1},
     {"two sibling subtrees swapped, peak kept", subtrees_swapped, 1}, {"two sibling subtrees swapped, with that order's peak", subtrees_and_peak, 1},
     {"plan of the job less one pattern row", other_job, 0}, {"the same under the whole job's key", other_job_this_key, 1}};
-static const int shown[] = {8, 9, 11, 12, 13, 14, 15, 16, 17, 18, 19, 20};
-enum { SHOWN = sizeof shown / sizeof *shown, CHANGES = sizeof changes / sizeof *changes };
+enum { CHANGES = sizeof changes / sizeof *changes };
+typedef struct { uint64_t made, number[NUMBERS], ran, faults; } Tally;
+
+static void tally(int h, uint64_t times, Subject *all, uint64_t jobs, Tally *t) {
+    for (uint64_t k = 0; t->made < times && k < 100 * times; k++) {
+        Subject *s = &all[k % jobs]; if (!changes[h].make(s)) continue;
+        uint64_t number = verdict(s, &t->ran, &t->faults); t->made++;
+        if (number < NUMBERS) t->number[number]++; else t->faults++;
+    }
+    if (!changes[h].may_pass) t->faults += t->number[LS_DONE];
+}
+/* One column for each number that occurs. */
+static void print_table(const Tally *t) {
+    int occurs[NUMBERS] = {0}, columns = 0;
+    for (int number = 1; number < NUMBERS; number++) { for (int h = 0; h < CHANGES; h++) occurs[number] |= t[h].number[number] != 0; columns += occurs[number]; }
+    printf("| change | made |"); for (int number = 1; number < NUMBERS; number++) if (occurs[number]) printf(" %d |", number);
+    printf(" passed | run at its peak | faults |\n|---|---:|"); for (int k = 0; k < columns + 3; k++) printf("---:|");
+    printf("\n");
+    for (int h = 0; h < CHANGES; h++) {
+        printf("| %s | %s |", changes[h].name, grouped(t[h].made)); for (int number = 1; number < NUMBERS; number++) if (occurs[number]) printf(" %s |", grouped(t[h].number[number]));
+        printf(" %s | %s | %s |\n", grouped(t[h].number[LS_DONE]), grouped(t[h].ran), grouped(t[h].faults));
+    }
+}
 
 int main(int argc, char **argv) {
     if (argc < 4) { fprintf(stderr, "usage: spoil TIMES SEED JOB...\n"); return 2; }
-    uint64_t times = strtoull(argv[1], NULL, 10), faults = 0; int jobs = argc - 3;
+    int jobs = argc - 3; uint64_t faults = 0; Tally t[CHANGES] = {0};
     Subject *all = room_of((size_t)jobs, sizeof *all);
-    for (int k = 0; k < jobs; k++) { char title[256]; all[k] = open_subject(title_of(argv[3 + k], title, sizeof title)); }
-    printf("| change | made |"); for (int k = 0; k < SHOWN; k++) printf(" %d |", shown[k]);
-    printf(" passed | run at its peak | faults |\n|---|---:|"); for (int k = 0; k < SHOWN + 3; k++) printf("---:|");
-    printf("\n");
-    for (int h = 0; h < CHANGES; h++) {
-        uint64_t count[NUMBERS] = {0}, ran = 0, fault = 0, made = 0;
-        sow(strtoull(argv[2], NULL, 10));
-        for (uint64_t k = 0; made < times && k < 100 * times; k++) {
-            Subject *s = &all[k % (uint64_t)jobs]; if (!changes[h].make(s)) continue;
-            uint64_t number = verdict(s, &ran, &fault); made++;
-            if (number < NUMBERS) count[number]++; else fault++;
-        }
-        if (!changes[h].may_pass) fault += count[0];
-        printf("| %s | %s |", changes[h].name, grouped(made)); for (int k = 0; k < SHOWN; k++) printf(" %s |", grouped(count[shown[k]]));
-        printf(" %s | %s | %s |\n", grouped(count[0]), grouped(ran), grouped(fault)); fflush(stdout); faults += fault;
-    }
+    for (int k = 0; k < jobs; k++) all[k] = open_subject(argv[3 + k]);
+    for (int h = 0; h < CHANGES; h++) { sow(strtoull(argv[2], NULL, 10)); tally(h, strtoull(argv[1], NULL, 10), all, (uint64_t)jobs, &t[h]); faults += t[h].faults; }
+    print_table(t);
     return faults != 0;
 }
