@@ -11,7 +11,9 @@
                                 put into the lists of its columns: all lists, in lent room
    CXSparse                     cs_transpose, cs_schol in the given numbering (tree, postorder, counts), then cs_ereach for each row: all lists, in lent room
    SPOOLES                      ETree_initFromGraphWithPerms, then SymbFac_initFromGraph: all lists, in its own memory; the graph is made beforehand
-   None of the peers tests its input or finds pops and peak. */
+   None of the three tests its input or finds pops and peak.
+   supernodes                   cholmod_analyze in the given numbering: tree, postorder, counts, and one list of rows for each group of columns, with rows that are
+                                not filled. Less than the lists, hence no peer for the goals; it is what CHOLMOD itself works with */
 #define _GNU_SOURCE
 #include "slices.h"
 #include <cholmod.h>
@@ -41,6 +43,14 @@ static uint64_t do_cholmod(Case *c) {
         for (int q = 0; q < many; q++) lists[at[columns[q]]++] = i;
     }
     cholmod_free_sparse(&row, &cc); cholmod_free_sparse(&upper, &cc); free(w);
+    return (uint64_t)bad;
+}
+
+static uint64_t do_supernodes(Case *c) {
+    (void)c;
+    cc.nmethods = 1; cc.method[0].ordering = CHOLMOD_NATURAL; cc.supernodal = CHOLMOD_SUPERNODAL;
+    cholmod_factor *f = cholmod_analyze(&lower, &cc);
+    int bad = f == NULL; cholmod_free_factor(&f, &cc);
     return (uint64_t)bad;
 }
 
@@ -108,8 +118,8 @@ static void spooles_agrees(const Case *c) {
     }
 }
 
-enum { BY_ANALYSE, BY_WRITE, BY_CHECK, BY_RUN, BY_JOINING, BY_LIMIT, BY_CHOLMOD, BY_CXSPARSE, BY_SPOOLES, WAYS };
-static uint64_t (*const ways[WAYS])(Case *) = {do_analyse, do_write, do_check, do_run, do_joining, do_limit, do_cholmod, do_cxsparse, do_spooles};
+enum { BY_ANALYSE, BY_WRITE, BY_CHECK, BY_RUN, BY_JOINING, BY_LIMIT, BY_CHOLMOD, BY_CXSPARSE, BY_SPOOLES, BY_SUPERNODES, WAYS };
+static uint64_t (*const ways[WAYS])(Case *) = {do_analyse, do_write, do_check, do_run, do_joining, do_limit, do_cholmod, do_cxsparse, do_spooles, do_supernodes};
 
 static void time_all(Case *c, double *best) {
     same_as_reference(c);
@@ -119,6 +129,7 @@ static void time_all(Case *c, double *best) {
     must(!do_cholmod(c), "CHOLMOD fails"); lists_agree(c, "CHOLMOD differs");
     must(!do_cxsparse(c), "CXSparse fails"); lists_agree(c, "CXSparse differs");
     must(!do_spooles(c), "SPOOLES fails"); spooles_agrees(c);
+    must(!do_supernodes(c), "CHOLMOD fails");
     int calls[WAYS];
     for (int w = 0; w < WAYS; w++) { calls[w] = 1; best[w] = 1e9; }
     for (int s = 0; s < 9; s++) for (int w = 0; w < WAYS; w++) { double t = sample(ways[w], c, &calls[w]); if (t < best[w]) best[w] = t; }
@@ -135,8 +146,8 @@ int main(void) {
     Goal slow = {.goal = "analyse over joining, at most", .bound = 1.5}, grids = {.goal = "fastest peer over analyse on the grids, at least", .bound = 3},
          stiff = {.goal = "fastest peer over analyse on the stiffness patterns, at least", .bound = 2};
     cholmod_start(&cc); cc.print = 0;
-    printf("| pattern | n | factor rows | analyse | write | check | run | joining | limit | CHOLMOD | CXSparse | SPOOLES | analyse / joining | fastest peer / analyse |\n");
-    printf("|---|---:|---:|---:|---:|---:|---:|---:|---:|---:|---:|---:|---:|---:|\n");
+    printf("| pattern | n | factor rows | analyse | write | check | run | joining | limit | CHOLMOD | CXSparse | SPOOLES | supernodes | analyse / joining | fastest peer / analyse |\n");
+    printf("|---|---:|---:|---:|---:|---:|---:|---:|---:|---:|---:|---:|---:|---:|---:|\n");
     char kind[32], title[128], path[1024];
     while (scanf(" %31[^\t]\t%127[^\t]\t%1023[^\n]", kind, title, path) == 3) {
         Case v = open_case(path), *c = &v; double t[WAYS];

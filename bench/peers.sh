@@ -3,8 +3,9 @@
 # Needs gcc, python3, libsuitesparse-dev, libmetis-dev; on a machine other than x86-64 also gcc-x86-64-linux-gnu and libc6-dev-amd64-cross. SPOOLES and the
 # larger real patterns are taken out of Debian packages that are downloaded into OUT and not installed: libspooles-dev pulls in an MPI that conflicts elsewhere.
 set -euo pipefail
-mkdir -p "${1:-$(dirname "${BASH_SOURCE[0]}")/../target/bench}"
-out=$(cd "${1:-$(dirname "${BASH_SOURCE[0]}")/../target/bench}" && pwd -P)
+out=${1:-$(dirname "${BASH_SOURCE[0]}")/../target/bench}
+mkdir -p "$out"
+out=$(cd "$out" && pwd -P)
 cd "$(dirname "${BASH_SOURCE[0]}")"
 ./jobs.sh "$out"
 ./fetch_real.sh "$out" || echo "peers: without the larger real patterns" >&2

@@ -4,8 +4,9 @@
 # Needs gcc and python3; on a machine other than x86-64 also gcc-x86-64-linux-gnu and libc6-dev-amd64-cross. Renumbered patterns need libmetis-dev and
 # libsuitesparse-dev, the larger real ones the network the first time; without them those lines are left out.
 set -euo pipefail
-mkdir -p "${1:-$(dirname "${BASH_SOURCE[0]}")/../target/bench}"
-out=$(cd "${1:-$(dirname "${BASH_SOURCE[0]}")/../target/bench}" && pwd -P)
+out=${1:-$(dirname "${BASH_SOURCE[0]}")/../target/bench}
+mkdir -p "$out"
+out=$(cd "$out" && pwd -P)
 cd "$(dirname "${BASH_SOURCE[0]}")"
 ./jobs.sh "$out"
 ./fetch_real.sh "$out" || echo "run: without the larger real patterns" >&2
