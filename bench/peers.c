@@ -163,7 +163,7 @@ int main(void) {
         close_peers(); close_case(c);
     }
     cholmod_finish(&cc);
-    printf("\n| goal | bound | worst here | of | lines that miss it |\n|---|---:|---:|---|---:|\n");
+    printf("\n<!-- figures: goals -->\n\n| goal | bound | worst here | of | lines that miss it |\n|---|---:|---:|---|---:|\n");
     Goal *all[] = {&slow, &grids, &stiff};
     for (int g = 0; g < 3; g++) printf("| %s | %.1f | %.2f | %s | %d of %d |\n", all[g]->goal, all[g]->bound, all[g]->worst, all[g]->where, all[g]->missed, all[g]->lines);
     return 0;

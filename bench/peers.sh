@@ -35,5 +35,5 @@ for k in bcspwr01 bcspwr03 can_24; do job other $k real/$k.job; done
 for k in dense random chain star; do job other $k "$j/$k-4096.job"; done
 job other 'broom2, 3,000 leaves on a front of 1,000' "$j/broom2-4001.job"
 echo "Nanoseconds a factor row; $(uname -m), $(nproc) processors, $(date -u +%F)."
-echo
+printf '\n<!-- figures: peers -->\n\n'
 "$out/peers" <"$list"

@@ -14,7 +14,7 @@ cd "$(dirname "${BASH_SOURCE[0]}")"
 gcc -O2 -Wall -Wextra -o "$out/measure" measure.c ref_analyse.c "$out/c_api.o" -lpthread
 j=$out/jobs
 there() { for a in "$@"; do [ ! -s "${a#*=}" ] || args+=("$a"); done; }
-table() { echo; echo "## $1"; echo; "$out/measure" "$2" "${args[@]}"; args=(); }
+table() { printf '\n## %s\n\n<!-- figures: %s -->\n\n' "$1" "${2#--}"; "$out/measure" "$2" "${args[@]}"; args=(); }
 args=()
 meshes=("bricks 11³, 3 unknowns, nested dissection=$j/grid3-11-dof3-nd.job" "plane mesh 64², nested dissection=$j/grid2-64-nd.job" "plane mesh 64²=$j/grid2-64.job"
     "bricks 10³, 3 unknowns=$j/grid3-10-dof3.job" "dense=$j/dense-4096.job" "random=$j/random-4096.job")
@@ -30,8 +30,7 @@ table "Sibling marks, microseconds of an analysis" --marks
 there "${trees[@]}"
 table "Stack, bytes of an analysis" --stack
 there "${meshes[@]}" "${larger[@]}"
-for n in 1024 2048 4096; do there "broom2, n $n=$j/broom2-$n.job" "plane mesh, n $n=$j/grid2-$n.job"; done
+for n in 1024 2048 4096; do there "broom2, n ${n:0:1},${n:1}=$j/broom2-$n.job" "plane mesh, n ${n:0:1},${n:1}=$j/grid2-$n.job"; done
 there real/*.job "${trees[@]}"
 table "Plans, nanoseconds a factor row" --plans
-echo; echo "## Run where lists hardly meet, nanoseconds a row"; echo
-"$out/measure" --gallop
+table "Run where lists hardly meet, nanoseconds a row" --gallop
