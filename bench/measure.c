@@ -1,115 +1,83 @@
-/* Times the entry points beside the C reference, on job texts.
-   usage: measure [--marks] [--stack] JOB...      one line a job; least processor time of several samples
-   The reference is mark 0 only and has 64-bit parents, order and pops; it is lent slices of its own. */
+/* Times the entry points beside the C reference, on job texts, and prints a Markdown table.
+   usage: measure --analysis | --plans | --marks | --stack JOB...      a line a job; JOB is FILE or TITLE=FILE
+          measure --gallop                                             a run over lists of every k-th row */
 #define _GNU_SOURCE
-#include "../include/loomsaffron.h"
-#include "job.h"
-#include "ref_analyse.h"
+#include "slices.h"
 #include <pthread.h>
-#include <string.h>
-#include <time.h>
 
-static double now(void) { struct timespec t; clock_gettime(CLOCK_PROCESS_CPUTIME_ID, &t); return (double)t.tv_sec + 1e-9 * (double)t.tv_nsec; }
-
-/* The slices of one job, ours and the reference's. */
-typedef struct {
-    uint64_t n, *starts, *fstarts, *work, place, count, rows, mark, peak;
-    uint32_t *pattern, *parents, *order, *pops, *frows, *stack;
-    size_t nnz, room, bytes_len, plan_len;
-    uint8_t *bytes;
-    uint64_t *rparents, *rorder, *rpops, *rstarts, *rwork;
-    uint32_t *rrows;
-} Case;
-
-#define JOB c->n, c->starts, c->n + 1, c->pattern, c->nnz, c->mark, (uint64_t)1 << 40
-#define LENT(rows) c->parents, c->n, c->order, c->n, c->pops, c->n, c->fstarts, c->n + 1, c->frows, rows, c->work, LS_WORK(c->n)
-
-static uint64_t do_analyse(Case *c) { return ls_analyse(JOB, LENT(c->room), &c->place, &c->count); }
-static uint64_t do_needed(Case *c) { return ls_analyse(JOB, LENT(0), &c->place, &c->count); }
-static uint64_t do_merge(Case *c) { return ref_analyse(REF_MERGE, c->n, c->starts, c->n + 1, c->pattern, c->nnz, (uint64_t)1 << 40, c->rparents, c->rorder, c->rpops, c->rstarts, c->rrows, c->room, c->rwork).number; }
-static uint64_t do_limit(Case *c) { return ref_analyse(REF_LIMIT, c->n, c->starts, c->n + 1, c->pattern, c->nnz, (uint64_t)1 << 40, c->rparents, c->rorder, c->rpops, c->rstarts, c->rrows, c->room, c->rwork).number; }
-static uint64_t do_count(Case *c) { return ref_analyse(REF_ROWS, c->n, c->starts, c->n + 1, c->pattern, c->nnz, (uint64_t)1 << 40, c->rparents, c->rorder, c->rpops, c->rstarts, c->rrows, 0, c->rwork).number; }
-#ifdef PLANS
-static uint64_t do_write(Case *c) { return ls_write_plan(JOB, LENT(c->room), c->bytes, c->bytes_len, &c->place, &c->count); }
-static uint64_t do_check(Case *c) { return ls_check_plan(JOB, c->bytes, c->plan_len, LENT(c->room), &c->place, &c->count); }
-#endif
-static uint64_t do_run(Case *c) { return ls_run(c->n, c->fstarts, c->n + 1, c->frows, c->rows, c->order, c->n, c->pops, c->n, c->peak, c->stack, c->n, &c->place, &c->count); }
-
-/* Least seconds of one call, of several samples that each last some milliseconds. */
-static double least(uint64_t (*f)(Case *), Case *c, uint64_t expect) {
-    if (f(c) != expect) { fprintf(stderr, "unexpected answer\n"); exit(1); }
-    double best = 1e9; int calls = 1;
-    for (int s = 0; s < 9; s++) {
-        double t = now(); for (int k = 0; k < calls; k++) f(c);
-        double d = now() - t;
-        if (d < 0.004) { calls *= 2; s--; continue; }
-        if (d / calls < best) best = d / calls;
-    }
-    return best;
+static void analysis(Case *c) {
+    double per = 1e9 / (double)(c->rows ? c->rows : 1);
+    uint64_t refusal = c->rows ? LS_ROWS_NEEDED : LS_DONE;
+    double ours = least(do_analyse, c, 0), joining = least(do_joining, c, 0), limit = least(do_limit, c, 0);
+    double needed = least(do_needed, c, refusal), count = least(do_count, c, refusal);
+    printf(" %.2f | %.2f | %.2f | %.2f | %.2f | %.2f | %.2f |\n", ours * per, joining * per, limit * per, ours / joining, needed * per, count * per, needed / count);
 }
-
-static Case open_case(const char *path) {
-    Job j = job_open(path); Case v, *c = &v; memset(c, 0, sizeof v);
-    c->n = (uint64_t)j.n; c->nnz = (size_t)j.nnz; c->starts = (uint64_t *)j.start; c->pattern = (uint32_t *)j.row;
-    size_t n = (size_t)c->n + 1;
-    c->parents = calloc(n, 4); c->order = calloc(n, 4); c->pops = calloc(n, 4); c->stack = calloc(n, 4); c->fstarts = calloc(n + 1, 8); c->work = calloc(LS_WORK(n), 8);
-    c->frows = malloc(4);
-    if (do_needed(c) == LS_ROWS_NEEDED) c->rows = c->count;
-    c->room = c->rows; c->frows = calloc(c->rows + 1, 4);
-    c->rparents = calloc(n, 8); c->rorder = calloc(n, 8); c->rpops = calloc(n, 8); c->rstarts = calloc(n + 1, 8); c->rwork = calloc(LS_WORK(n), 8); c->rrows = calloc(c->rows + 1, 4);
-    c->bytes_len = 64 + 4 * (size_t)c->n * 4 + 2 * (c->nnz + c->rows) + 16; c->bytes = calloc(c->bytes_len, 1);
-    return v;
+static void plans(Case *c) {
+    double per = 1e9 / (double)(c->rows ? c->rows : 1);
+    double run = least(do_run, c, 0), write = least(do_write, c, 0);
+    c->plan_len = c->count;
+    printf(" %.2f | %.2f | %.2f |\n", write * per, least(do_check, c, 0) * per, run * per);
 }
-
-static void same(Case *c) {
-    if (do_merge(c) || do_analyse(c)) { fprintf(stderr, "not done\n"); exit(1); }
-    c->peak = c->count;
-    for (uint64_t k = 0; k < c->n; k++) if (c->parents[k] != c->rparents[k] || c->order[k] != c->rorder[k] || c->pops[k] != c->rpops[k] || c->fstarts[k + 1] != c->rstarts[k + 1]) { fprintf(stderr, "differs from the reference\n"); exit(1); }
-    if (memcmp(c->frows, c->rrows, 4 * c->rows)) { fprintf(stderr, "lists differ from the reference\n"); exit(1); }
+static void marks(Case *c) {
+    double time[3]; uint64_t peak[3];
+    for (c->mark = 0; c->mark < 3; c->mark++) { time[c->mark] = 1e6 * least(do_analyse, c, 0); peak[c->mark] = c->count; }
+    printf(" %.1f | %.1f | %.1f | %s | %s | %s |\n", time[0], time[1], time[2], grouped(peak[0]), grouped(peak[1]), grouped(peak[2]));
 }
 
 /* Stack that an analysis takes, by painting a thread's stack. */
 static void *analysing(void *c) { do_analyse(c); return NULL; }
 static void *nothing(void *c) { (void)c; return NULL; }
 static size_t stack_of(void *(*f)(void *), Case *c) {
-    size_t size = 1 << 20; unsigned char *s; if (posix_memalign((void **)&s, 4096, size)) exit(1);
+    size_t size = 1 << 20; unsigned char *s; must(!posix_memalign((void **)&s, 4096, size), "no memory");
     memset(s, 0xA5, size);
     pthread_attr_t a; pthread_attr_init(&a); pthread_attr_setstack(&a, s, size);
-    pthread_t t; if (pthread_create(&t, &a, f, c)) exit(1);
+    pthread_t t; must(!pthread_create(&t, &a, f, c), "no thread");
     pthread_join(t, NULL); pthread_attr_destroy(&a);
     size_t k = 0; while (k < size && s[k] == 0xA5) k++;
     free(s); return size - k;
 }
+static void stacks(Case *c) { printf(" %zu |\n", stack_of(analysing, c) - stack_of(nothing, c)); }
+
+/* Lists that hardly meet: 2,048 leaves whose rows are a column and every k-th row behind it, and that column with all of them, which takes all the
+   leaves' updates off at once. Its own update stays, so the answer is 24; the work is the same. */
+static uint64_t do_gallop(Case *c) { return ls_run(c->n, c->fstarts, c->n + 1, c->frows, c->rows, c->order, c->n, c->pops, c->n, ~0ull, c->stack, c->n, &c->place, &c->count); }
+static void gallop(uint64_t k) {
+    Case v, *c = &v; memset(c, 0, sizeof v); c->n = 4096;
+    uint64_t leaves = 2048, top = leaves + 1, each = 1 + (c->n - top) / k;
+    c->order = room_of(c->n, 4); c->pops = room_of(c->n, 4); c->stack = room_of(c->n, 4); c->fstarts = room_of(c->n + 1, 8); c->frows = room_of(leaves * each + c->n, 4);
+    for (uint64_t j = 1; j <= c->n; j++) {
+        c->order[j - 1] = (uint32_t)j; c->fstarts[j - 1] = c->rows;
+        if (j < top) for (uint64_t r = top, m = 0; m < each; m++, r += k) c->frows[c->rows++] = (uint32_t)r;
+        if (j == top) for (uint64_t r = top + 1; r <= c->n; r++) c->frows[c->rows++] = (uint32_t)r;
+    }
+    c->fstarts[c->n] = c->rows; c->pops[top - 1] = (uint32_t)leaves;
+    printf("| %s | %.2f |\n", grouped(k), 1e9 * least(do_gallop, c, LS_UPDATES_LEFT) / (double)c->rows);
+}
+
+typedef struct { const char *flag, *head, *rule; void (*line)(Case *); } Table;
+static const Table tables[] = {
+    {"--analysis", " analyse | joining | limit | ratio | needed | count | ratio |", "---:|---:|---:|---:|---:|---:|---:|", analysis},
+    {"--plans", " write | check | run |", "---:|---:|---:|", plans},
+    {"--marks", " mark 0 | mark 1 | mark 2 | peak 0 | peak 1 | peak 2 |", "---:|---:|---:|---:|---:|---:|", marks},
+    {"--stack", " bytes |", "---:|", stacks},
+};
 
 int main(int argc, char **argv) {
-    int marks = 0, stacks = 0, first = 1;
-    while (first < argc && argv[first][0] == '-') { if (!strcmp(argv[first], "--marks")) marks = 1; if (!strcmp(argv[first], "--stack")) stacks = 1; first++; }
-    if (marks) printf("%-24s %6s %9s | %8s %8s %8s microseconds\n", "job", "n", "rows", "mark 0", "mark 1", "mark 2");
-    else if (stacks) printf("%-24s %6s %9s | stack bytes of an analysis\n", "job", "n", "rows");
-    else printf("%-24s %6s %9s | %7s %7s %7s %6s | %7s %7s %6s | %6s %6s %6s  nanoseconds a factor row\n", "job", "n", "rows", "analyse", "joining", "limit", "ratio", "needed", "count", "ratio", "write", "check", "run");
-    for (int a = first; a < argc; a++) {
-        Case v = open_case(argv[a]), *c = &v; const char *name = strrchr(argv[a], '/'); name = name ? name + 1 : argv[a];
-        double per = 1e9 / (double)(c->rows ? c->rows : 1);
-        same(c);
-        if (marks) {
-            printf("%-24s %6llu %9llu |", name, (unsigned long long)c->n, (unsigned long long)c->rows);
-            for (c->mark = 0; c->mark < 3; c->mark++) printf(" %8.1f", 1e6 * least(do_analyse, c, 0));
-            printf("\n"); continue;
-        }
-        if (stacks) {
-            printf("%-24s %6llu %9llu | %zu\n", name, (unsigned long long)c->n, (unsigned long long)c->rows, stack_of(analysing, c) - stack_of(nothing, c)); continue;
-        }
-        double us = least(do_analyse, c, 0), merge = least(do_merge, c, 0), limit = least(do_limit, c, 0);
-        uint64_t short8 = c->rows ? 8 : 0;
-        double needed = least(do_needed, c, short8), count = least(do_count, c, short8);
-        do_analyse(c); double run = least(do_run, c, 0);
-        double write = 0, check = 0;
-#ifdef PLANS
-        write = least(do_write, c, 0); do_write(c); c->plan_len = c->count; check = least(do_check, c, 0);
-#endif
-        printf("%-24s %6llu %9llu | %7.2f %7.2f %7.2f %6.2f | %7.2f %7.2f %6.2f | %6.2f %6.2f %6.2f\n", name, (unsigned long long)c->n, (unsigned long long)c->rows,
-               us * per, merge * per, limit * per, us / merge, needed * per, count * per, needed / count, write * per, check * per, run * per);
-        fflush(stdout);
+    if (argc == 2 && !strcmp(argv[1], "--gallop")) {
+        printf("| every k-th row | run |\n|---:|---:|\n");
+        const uint64_t every[] = {1, 2, 10, 64};
+        for (int e = 0; e < 4; e++) gallop(every[e]);
+        return 0;
+    }
+    const Table *t = tables, *end = tables + sizeof tables / sizeof *tables;
+    while (t < end && (argc < 3 || strcmp(argv[1], t->flag))) t++;
+    if (t == end) { fprintf(stderr, "usage: measure --analysis|--plans|--marks|--stack JOB... or measure --gallop\n"); return 2; }
+    printf("| pattern | n | factor rows |%s\n|---|---:|---:|%s\n", t->head, t->rule);
+    for (int a = 2; a < argc; a++) {
+        char title[256]; Case v = open_case(title_of(argv[a], title, sizeof title));
+        same_as_reference(&v);
+        printf("| %s | %s | %s |", title, grouped(v.n), grouped(v.rows));
+        t->line(&v); fflush(stdout); close_case(&v);
     }
     return 0;
 }
