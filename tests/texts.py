@@ -11,7 +11,8 @@ damaged. A draw depends on the seed alone, so the file comes out the same everyw
 standard error.
 
 A case is a head of 14 bytes, `ttttt m lllll` and a newline, then t bytes of text and l bytes that have to be printed. A text longer than
-the program's buffer is handed over as far as the buffer goes, with m 1, for more input; else m is 0.
+the program's buffer is handed over as far as the buffer goes, with m 1, for more input; else m is 0. One that is longer by a little comes
+a second time, as a whole.
 """
 import json
 import pathlib
@@ -24,6 +25,9 @@ from damage import Dice, pattern  # the draws; the rules are read anew below
 INPUT_BYTES, COLUMNS, PATTERN_ROWS, FACTOR_ROWS = 8192, 256, 2048, 4096
 DIGITS = 13
 MOST_ROOM = 2 ** 40
+
+# The longest text that the test program can hand over as a whole.
+LONGEST_TEXT = 8448
 
 
 # ---------------------------------------------------------------- The rules
@@ -632,15 +636,21 @@ def cases():
             yield family(dice)
 
 
-def main():
-    met, longest = {}, 0
+def records():
+    """The number, the bytes of text handed over, whether more follow, and what has to be printed."""
     for text in dict.fromkeys(cases()):
         number, printed = listing(text)
+        yield number, text[:INPUT_BYTES], len(text) > INPUT_BYTES, printed
+        if INPUT_BYTES < len(text) <= LONGEST_TEXT:
+            yield number, text, False, printed
+
+
+def main():
+    met, longest = {}, 0
+    for number, text, more, printed in records():
         met[number] = met.get(number, 0) + 1
         longest = max(longest, len(printed))
-        held = text[:INPUT_BYTES]
-        head = b"%05d %d %05d\n" % (len(held), len(text) > INPUT_BYTES, len(printed))
-        sys.stdout.buffer.write(head + held + printed)
+        sys.stdout.buffer.write(b"%05d %d %05d\n" % (len(text), more, len(printed)) + text + printed)
     print(sum(met.values()), "cases;", ", ".join(f"{count} of {number}" for number, count in sorted(met.items())), file=sys.stderr)
     print(longest, "bytes in the longest listing", file=sys.stderr)
 

@@ -5,8 +5,8 @@ ghost use Prim.Native.Nat.{_≤_, _<_};
 // The head of a case, `ttttt m lllll` and a newline: bytes of text, 1 if more input follows them, bytes that have to be printed.
 pub type Head = [u8; 14];
 
-// As much of a text as the program `plan` keeps.
-pub type Text = [u8; 8192];
+// More of a text than the program `plan` keeps.
+pub type Text = [u8; 8448];
 
 // A slice longer than any listing needs, as it has to be after a call: what is printed, then zeros.
 pub type Printed = [u8; 24600];
@@ -28,9 +28,9 @@ fn five_digits(head: &Head, first: usize) -> usize {
 }
 
 pub fn text_length(head: &Head) -> usize
-    ensures { λ r. ⌜ r ≤ 8192 ⌝ }
+    ensures { λ r. ⌜ r ≤ 8448 ⌝ }
 {
-    five_digits(head, 0) % 8193
+    five_digits(head, 0) % 8449
 }
 
 pub fn more(head: &Head) -> bool {

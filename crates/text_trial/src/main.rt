@@ -42,7 +42,7 @@ fn hold_next(tally: &mut Tally) -> bool {
     if io::read_full(0, &mut head) < 14 {
         return false;
     }
-    let mut text = [0u8; 8192];
+    let mut text = [0u8; 8448];
     let mut right = [0u8; 24600];
     let a = text_cases::text_length(&head);
     let b = text_cases::printed_length(&head);
