@@ -531,6 +531,16 @@ def draw_larger(dice):
     return text_of(columns + [[]], MOST_ROOM, draw_mark(dice))
 
 
+def draw_siblings(dice):
+    """A tree whose columns have rows of any of their ancestors, so that siblings differ in W as well as in their updates."""
+    n, columns = dice.between(6, 22), [[]]
+    for j in range(n - 1, 0, -1):
+        parent = min(j + dice.pick([1, 1, 2, 3, 5, 8]), n)
+        above = columns[n - parent] if dice.often(60) else []
+        columns.append([parent] + [row for row in above if dice.often(70)])
+    return text_of(columns[::-1], MOST_ROOM, dice.pick([1, 1, 1, 2]))
+
+
 def one_byte(dice, text):
     """One byte exchanged, left out, put in, or two neighbours exchanged."""
     at, way = dice.below(max(len(text), 1)), dice.below(5)
@@ -614,7 +624,7 @@ def draw_lines(dice):
 
 
 FAMILIES = [(600, draw_good), (24, draw_larger), (700, draw_damaged), (500, draw_faulty), (250, draw_words), (200, draw_lines),
-            (250, draw_unsorted), (120, draw_over), (50, draw_coupled)]
+            (250, draw_unsorted), (120, draw_over), (50, draw_coupled), (300, draw_siblings)]
 
 
 def cases():
