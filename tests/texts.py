@@ -12,7 +12,7 @@ standard error.
 
 A case is a head of 14 bytes, `ttttt m lllll` and a newline, then t bytes of text and l bytes that have to be printed. A text longer than
 the program's buffer is handed over as far as the buffer goes, with m 1, for more input; else m is 0. One that is longer by a little comes
-a second time, as a whole.
+a second time, as a whole. The last cases say m 1 of short texts: input of which there is more than was handed over is too long.
 """
 import json
 import pathlib
@@ -653,6 +653,9 @@ def records():
         yield number, text[:INPUT_BYTES], len(text) > INPUT_BYTES, printed
         if INPUT_BYTES < len(text) <= LONGEST_TEXT:
             yield number, text, False, printed
+    number, printed = listing(b"0" * (INPUT_BYTES + 1))
+    for text in BAD_TEXTS[::9] + [NINE_TEXT]:
+        yield number, text, True, printed
 
 
 def main():
