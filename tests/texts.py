@@ -4,15 +4,16 @@
     python3 tests/texts.py > crates/text_trial/stdin
 
 The program `text_trial` reads them and holds the proved listing against every one. The first half of this file is that reading: it takes a
-text apart line by line and word by word, fills by dense elimination, sorts siblings by the mark's key and sums up room on a stack. It was
-written from the paper alone and shares nothing with the product, neither code nor definitions. The second half makes the texts: each refusal
-that a text can meet, each size met exactly and passed by one, trees of many forms, real patterns, and texts drawn from a seed, whole and
-damaged. A draw depends on the seed alone, so the file comes out the same everywhere. How many cases there are of each number goes to
-standard error.
+text apart line by line and word by word, fills by dense elimination, sorts siblings by the mark's key and sums up room on a stack. It
+shares neither code nor definitions with the product. It is no second opinion on tests/damage.py, which stood beside it when it was written;
+the draws are taken from there. The second half makes the texts: each refusal that a text can meet, each size met exactly and passed by
+one, trees of many forms, real patterns, and texts drawn from a seed, whole and damaged. A draw depends on the seed alone, so the file comes
+out the same everywhere. How many cases there are of each number goes to standard error.
 
 A case is a head of 14 bytes, `ttttt m lllll` and a newline, then t bytes of text and l bytes that have to be printed. A text longer than
 the program's buffer is handed over as far as the buffer goes, with m 1, for more input; else m is 0. One that is longer by a little comes
-a second time, as a whole. The last cases say m 1 of short texts: input of which there is more than was handed over is too long.
+a second time, as a whole. The last cases say m 1 of short texts; that this is 26 is the word of
+`listing`, not of the paper, whose program never asks it.
 """
 import json
 import pathlib
