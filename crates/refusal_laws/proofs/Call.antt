@@ -1,7 +1,7 @@
 -- The solver's call answers exactly by its conditions. A key of bytes is readable just where it reads through, and then it is the key of one job only; so the
 -- tests, which go by the reading, agree with conditions that speak of any job whose key it is.
 -- Assumes nothing.
-use Prim.Native.Nat.{ℕ, _+_, _*_, _^_, _<_}
+use Prim.Native.Nat.{ℕ, _<_}
 use mathlib.Core.Path.{_≡_, refl, sym, ap, subst, _∙_}
 use mathlib.Core.Logic.{_↔_, _⊎_, inl, inr}
 use mathlib.Core.Bool.{_||_}
