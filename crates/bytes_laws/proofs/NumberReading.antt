@@ -1,18 +1,18 @@
 -- Reading takes a group more where the byte says so, and stops at the first that does not. So where a number's groups stand they are read
--- as that number, and two numbers, or two lists of them, do not have the same bytes.
+-- as that number.
 -- Assumes nothing.
 use Prim.Native.Nat.{ℕ, zero, suc, _+_, _-_, _*_, _/_, _%_, _^_, _<_, _≤_}
 use mathlib.Core.Path.{_≡_, refl, sym, ap, _∙_}
 use mathlib.Core.Bool.{Bool, true, false}
-use mathlib.Core.List.{List, [], _∷_, _++_, append-assoc}
+use mathlib.Core.List.{List, _∷_, _++_}
 use native.Mathlib.Omega.{arith}
-use lib.ListN.{length, getD, drop, length-append, length-drop}
+use lib.ListN.{length, getD, drop, length-drop}
 use lib.Seq.{getD-drop, drop-drop, drop-at}
 use borrow.Author.Tests.{lt-ltb, le-ltb}
 use Rattle.papers.specs.Bounds.{maxGroups}
-use Rattle.papers.specs.Numbers.{groupsOf, bytesOf, encode, over, lastGroup, readFrom, readNumber}
+use Rattle.papers.specs.Numbers.{groupsOf, bytesOf, over, lastGroup, readFrom, readNumber}
 use Rattle.papers.specs.declared.Number.the-variants.{Value, Ended, TooLong}
-use Rattle.bytes_laws.proofs.Numbers.{Within, Grouped, last, more, grouped, groups-small, groups-large, bytes-length}
+use Rattle.bytes_laws.proofs.Numbers.{Grouped, last, more, grouped, groups-small, groups-large}
 
 -- ---- what is found at each kind of byte
 
@@ -94,40 +94,6 @@ pub read-back : (s : List ℕ) (at x : ℕ) (rest : List ℕ) → x < 2 ^ (7 * m
 unfolding readNumber bytesOf
 read-back s at x rest h e = groups-back true s at rest (grouped (maxGroups - 1) x h) tt e
 
--- ---- two numbers do not have the same bytes
-
+-- what is read is a value and a place
 pub value-inj : {x y m n : ℕ} → Value x m ≡ Value y n → (x ≡ y) × (m ≡ n)
 value-inj e = (cc, cc)
-
--- whatever stands behind them
-pub bytes-inj-rest : (x y : ℕ) (u v : List ℕ) → x < 2 ^ (7 * maxGroups) → y < 2 ^ (7 * maxGroups) → bytesOf x ++ u ≡ bytesOf y ++ v → (x ≡ y) × (u ≡ v)
-bytes-inj-rest x y u v h k e =
-    let s = bytesOf x ++ u in
-    let (p, q) = value-inj (sym (read-back s 0 x u h refl) ∙ read-back s 0 y v k e) in
-    (p, sym (stands-behind s 0 (bytesOf x) u refl) ∙ ap (λ (n : ℕ). drop n s) q ∙ stands-behind s 0 (bytesOf y) v e)
-
-pub bytes-inj : (x y : ℕ) → x < 2 ^ (7 * maxGroups) → y < 2 ^ (7 * maxGroups) → bytesOf x ≡ bytesOf y → x ≡ y
-bytes-inj x y h k e = bytes-inj-rest x y [] [] h k (ap (λ (l : List ℕ). l ++ []) e) .0
-
--- nor two lists of as many numbers, whatever stands behind them
-pub encode-inj-rest : (xs ys u v : List ℕ) → Within (2 ^ (7 * maxGroups)) xs → Within (2 ^ (7 * maxGroups)) ys → length xs ≡ length ys
-    → encode xs ++ u ≡ encode ys ++ v → (xs ≡ ys) × (u ≡ v)
-unfolding encode
-encode-inj-rest [] [] u v h k n e = (refl, e)
-encode-inj-rest [] (y ∷ ys) u v h k n e = absurd (omega arith)
-encode-inj-rest (x ∷ xs) [] u v h k n e = absurd (omega arith)
-encode-inj-rest (x ∷ xs) (y ∷ ys) u v h k n e =
-    let (p, q) = bytes-inj-rest x y (encode xs ++ u) (encode ys ++ v) (h .0) (k .0) (simp append-assoc at e) in
-    let (r, t) = encode-inj-rest xs ys u v (h .1) (k .1) (omega arith) q in
-    (cc, t)
-
--- nor two lists of numbers
-pub encode-inj : (xs ys : List ℕ) → Within (2 ^ (7 * maxGroups)) xs → Within (2 ^ (7 * maxGroups)) ys → encode xs ≡ encode ys → xs ≡ ys
-unfolding encode
-encode-inj [] [] h k e = refl
-encode-inj [] (y ∷ ys) h k e = absurd (omega (arith, bytes-length y, ap length e, length-append (bytesOf y) (encode ys)))
-encode-inj (x ∷ xs) [] h k e = absurd (omega (arith, bytes-length x, ap length e, length-append (bytesOf x) (encode xs)))
-encode-inj (x ∷ xs) (y ∷ ys) h k e =
-    let (p, q) = bytes-inj-rest x y (encode xs) (encode ys) (h .0) (k .0) e in
-    let r = encode-inj xs ys (h .1) (k .1) q in
-    cc

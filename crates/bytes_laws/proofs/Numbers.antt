@@ -58,11 +58,6 @@ pub grouped-below : {f x : ℕ} → Grouped f x → x < 2 ^ (7 * suc f)
 grouped-below {f} (last l) = let p : 2 ^ 7 ≤ 2 ^ (7 * suc f) = pow-mono {i = 7} {j = 7 * suc f} (omega arith) in omega arith
 grouped-below (more {f = f} l g) = let i = grouped-below g in let e = seven-more f in omega arith
 
--- every group is a byte
-groups-are-bytes : {f x : ℕ} → Grouped f x → Within 256 (groupsOf f x)
-groups-are-bytes {f} {x} (last l) = rw (groups-small f x l) (omega arith, tt)
-groups-are-bytes {x = x} (more {f = f} l g) = rw (groups-large f x l) (omega arith, groups-are-bytes g)
-
 -- there is a group, and there are at most f after it
 pub groups-length : (f x : ℕ) → (0 < length (groupsOf f x)) × (length (groupsOf f x) ≤ suc f)
 groups-length zero x = unfold groupsOf in (omega arith, omega arith)
@@ -99,11 +94,6 @@ groups-of-digits {x = x} m (more {f = f} l r) h g =
     rw (groups-large f x l) (omega arith)
 
 -- ---- with the paper's bound on groups
-
--- a number is written in bytes
-pub bytes-are-bytes : (x : ℕ) → x < 2 ^ (7 * maxGroups) → Within 256 (bytesOf x)
-unfolding bytesOf
-bytes-are-bytes x h = groups-are-bytes (grouped (maxGroups - 1) x h)
 
 -- a number has a byte, and no more than the bound
 pub bytes-length : (x : ℕ) → (0 < length (bytesOf x)) × (length (bytesOf x) ≤ maxGroups)

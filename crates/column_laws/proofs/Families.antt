@@ -6,12 +6,12 @@ use mathlib.Core.Logic.{⊎-elim}
 use mathlib.Core.List.{List, [], _∷_, _++_, map, append-nil}
 use native.Mathlib.Omega.{arith}
 use native.Mathlib.Nat.{le-suc-iff}
-use lib.ListN.{length, take, drop, length-append, length-map}
+use lib.ListN.{length, take, drop, length-append}
 use lib.Seq.{take-all, take-append-le, take-take, take-add, drop-at}
 use Rattle.papers.specs.Lists.{upTo, flat, startsFrom}
 use Rattle.papers.specs.Key.{listsOf}
-use Rattle.list_laws.proofs.UpTo.{length-upTo}
 use Rattle.list_laws.proofs.Stores.{flat-append, starts-more}
+use Rattle.job_laws.proofs.Laid.{lists-more}
 use Rattle.column_laws.specs.Chains.{part}
 
 pub map-upTo {ℓ} : {B : Type ℓ} (f : ℕ → B) (m : ℕ) → map f (upTo (suc m)) ≡ map f (upTo m) ++ (f (suc m) ∷ [])
@@ -23,17 +23,9 @@ map-upTo f m = go (upTo m)
     go (x ∷ xs) = ap (λ t. f x ∷ t) (go xs)
 
 module _ (B : ℕ → List ℕ) where
-  pub lists-more : (m : ℕ) → listsOf (suc m) B ≡ listsOf m B ++ (B (suc m) ∷ [])
-  unfolding listsOf
-  lists-more m = map-upTo B m
-
-  pub length-lists : (m : ℕ) → length (listsOf m B) ≡ m
-  unfolding listsOf
-  length-lists m = length-map (upTo m) B ∙ length-upTo m
-
   pub flat-more : (m : ℕ) → flat (listsOf (suc m) B) ≡ flat (listsOf m B) ++ B (suc m)
   unfolding flat
-  flat-more m = rw (lists-more m, flat-append (listsOf m B) (B (suc m) ∷ []), append-nil (B (suc m)))
+  flat-more m = rw (lists-more B m, flat-append (listsOf m B) (B (suc m) ∷ []), append-nil (B (suc m)))
 
   pub length-more : (m : ℕ) → length (flat (listsOf (suc m) B)) ≡ length (flat (listsOf m B)) + length (B (suc m))
   length-more m = ap length (flat-more m) ∙ length-append (flat (listsOf m B)) (B (suc m))
@@ -41,7 +33,7 @@ module _ (B : ℕ → List ℕ) where
   pub starts-next : (m : ℕ) → startsFrom 0 (listsOf (suc m) B) ≡ startsFrom 0 (listsOf m B) ++ (length (flat (listsOf (suc m) B)) ∷ [])
   starts-next m =
       let e : 0 + length (flat (listsOf m B)) + length (B (suc m)) ≡ length (flat (listsOf (suc m) B)) = omega (arith, length-more m) in
-      rw (lists-more m, starts-more 0 (listsOf m B) (B (suc m)), ← lists-more m, e)
+      rw (lists-more B m, starts-more 0 (listsOf m B) (B (suc m)), ← lists-more B m, e)
 
   pub length-grows : (k m : ℕ) → k ≤ m → length (flat (listsOf k B)) ≤ length (flat (listsOf m B))
   length-grows k zero h = let e : k ≡ 0 = omega arith in rw e (omega arith)

@@ -2,21 +2,16 @@
 -- narrowed there; where it is one place, the row stands there or nowhere.
 -- Assumes nothing.
 use Prim.Native.Nat.{ℕ, zero, suc, _+_, _<_, _≤_}
-use mathlib.Core.Path.{_≡_, refl}
+use mathlib.Core.Path.{_≡_}
 use mathlib.Core.Logic.{_⊎_, inl, inr, _≢_}
-use mathlib.Core.List.{List, [], _∷_, List·Memᴰ·head, List·Memᴰ·tail, List·Memᴰ·not-nil, List·Memᴰ·cases-cons}
+use mathlib.Core.List.{List, [], _∷_, List·Memᴰ·not-nil, List·Memᴰ·cases-cons}
 use native.Mathlib.Omega.{arith}
 use lib.ListN.{length, getD}
 use Rattle.papers.specs.Lists.{_∈_, Asc}
 use Rattle.list_laws.proofs.Ascending.{asc-above}
 use Rattle.list_laws.proofs.Tests.{Compare, below, level, above, compare}
+use Rattle.list_laws.proofs.Members.{at-place}
 use Rattle.front.specs.Search.{Bracket}
-
--- the number at a place is one of the list
-at-place : (l : List ℕ) (k : ℕ) → k < length l → getD l k 0 ∈ l
-at-place [] k h = absurd (omega arith)
-at-place (y ∷ l) zero h = List·Memᴰ·head refl
-at-place (y ∷ l) (suc k) h = List·Memᴰ·tail (at-place l k (omega arith))
 
 -- a later place has a greater number
 pub places-ascend : (b : ℕ) (l : List ℕ) → Asc b l → (i k : ℕ) → i < k → k < length l → getD l i 0 < getD l k 0

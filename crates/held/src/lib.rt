@@ -1,6 +1,6 @@
 // The record that each step of a run updates: how it is stepped by value, and lent to one thin step.
 ghost use mathlib.Core.Path.{_≡_};
-ghost use Prim.Native.Nat.{ℕ, min, max};
+ghost use Prim.Native.Nat.{min, max};
 ghost use Rattle.held.specs.Record.{steppedOf, Takes};
 
 // The state of a run besides the lent stack list: how many updates are held, their entries, and the greatest room in use of the steps done.

@@ -2,7 +2,7 @@
 use papers::Answer;
 use papers::JobHead;
 ghost use mathlib.Core.Path.{_≡_};
-ghost use Prim.Native.Nat.{ℕ, _≤_};
+ghost use Prim.Native.Nat.{_≤_};
 ghost use Rattle.papers.specs.Bounds.{maxColumns};
 ghost use Rattle.papers.specs.Job.{jobOf};
 ghost use Rattle.papers.specs.Refusals.{answer, passed, answerOf, first, startsTest, rowFault, rowsTest, jobTests};

@@ -1,8 +1,7 @@
 // A key read from any bytes: the numbers of its job, how many pattern rows it lists and where its lists stand; or that it is not readable.
 // Nothing of the lists is kept, so a key is judged whatever its size; who has room for them reads them once more from where they stand.
 ghost use mathlib.Core.Path.{_≡_};
-ghost use Prim.Native.Nat.{ℕ, _≤_};
-ghost use mathlib.Core.List.{List};
+ghost use Prim.Native.Nat.{_≤_};
 ghost use lib.ListN.{length};
 ghost use Rattle.papers.specs.Bounds.{maxColumns};
 ghost use Rattle.papers.specs.Lists.{flat};

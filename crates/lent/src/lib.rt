@@ -1,7 +1,6 @@
 // The slices lent to an analysis or a check: whether they are long enough, and clearing them all.
 ghost use mathlib.Core.Path.{_≡_};
 ghost use Prim.Native.Nat.{_≤_};
-ghost use lib.ListN.{length};
 ghost use Rattle.papers.specs.Bounds.{maxColumns};
 ghost use Rattle.papers.specs.Refusals.{Lent, allZero};
 ghost use Rattle.lent.specs.Six.{six, isShort};

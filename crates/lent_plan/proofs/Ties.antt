@@ -15,7 +15,7 @@ use Rattle.papers.specs.Job.{Pattern, Below}
 use Rattle.papers.specs.Fill.{R}
 use Rattle.papers.specs.Tree.{parent, rowCount, children}
 use Rattle.papers.specs.Room.{peakOf}
-use Rattle.papers.specs.Order.{stepsOf, kidsOf, popsOf, orderOf, peak}
+use Rattle.papers.specs.Order.{stepsOf, childrenOf, popsOf, orderOf, peak}
 use Rattle.papers.specs.Key.{listsOf}
 use Rattle.list_laws.proofs.Tests.{below-or}
 use Rattle.list_laws.proofs.UpTo.{length-upTo}
@@ -89,7 +89,7 @@ module _ {n : ℕ} {A : Pattern} (good : Below n A) where
   same-rows : rowsIn (startsOf n A) ≡ rowCount A
   same-rows i j = rows-tie j i
 
-  same-kids : kidsIn (parentsOf n A) ≡ kidsOf n A
+  same-kids : kidsIn (parentsOf n A) ≡ childrenOf n A
   same-kids i j = children (same-parents i) (length-parents i) j
 
   pub same-order : (mark : ℕ) → orderIn mark (parentsOf n A) (startsOf n A) ≡ orderOf mark n A

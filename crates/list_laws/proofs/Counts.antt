@@ -9,8 +9,9 @@ use native.Mathlib.Omega.{arith}
 use lib.Dec.{eqb}
 use lib.ListN.{length}
 use borrow.Author.Tests.{eqb-true, eqb-false}
-use Rattle.papers.specs.Lists.{_∈_, Distinct}
-use Rattle.list_laws.proofs.Tests.{Test, passes, fails, test}
+use Rattle.papers.specs.Lists.{_∈_, Distinct, member}
+use Rattle.list_laws.proofs.Tests.{Test, passes, fails, test, true-false}
+use Rattle.list_laws.proofs.Members.{member-true, member-into}
 
 -- the list less one x
 without : ℕ → List ℕ → List ℕ
@@ -65,3 +66,15 @@ distinct-join (x ∷ xs) ys d e h = (λ m. go (List·Memᴰ·append-cases xs m),
     go : (x ∈ xs) ⊎ (x ∈ ys) → ⊥
     go (inl m) = d .0 m
     go (inr m) = h x (List·Memᴰ·head refl) m
+
+-- as many different numbers of a list as it has are all of it
+pub all-there : (xs ys : List ℕ) → Distinct xs → ((i : ℕ) → i ∈ xs → i ∈ ys) → length ys ≤ length xs → (y : ℕ) → y ∈ ys → y ∈ xs
+all-there xs ys d h l y m = go (test (member y xs))
+  where
+    go : Test (member y xs) → y ∈ xs
+    go (passes e) = member-true y xs e
+    go (fails e) = absurd (omega (arith, distinct-length (y ∷ xs) ys (λ k. true-false (member-into y xs k) e, d) (λ i k. more i (List·Memᴰ·cases-cons k))))
+      where
+        more : (i : ℕ) → (i ≡ y) ⊎ (i ∈ xs) → i ∈ ys
+        more i (inl q) = Memᴰ·cast q m
+        more i (inr k) = h i k

@@ -2,7 +2,7 @@
 -- where p + 1 is one of them, has f, and none before it has.
 -- Assumes nothing.
 use Prim.Native.Nat.{ℕ, zero, suc, _≤_}
-use mathlib.Core.Path.{_≡_, refl}
+use mathlib.Core.Path.{_≡_, refl, sym, _∙_}
 use mathlib.Core.Logic.{_⊎_, inl, inr, _↔_}
 use mathlib.Core.Bool.{Bool, true, false}
 use native.Mathlib.Omega.{arith}
@@ -74,3 +74,13 @@ module _ (f : ℕ → Bool) where
       there : least f n ≡ suc p → Found n → (suc p ≤ n) × (f (suc p) ≡ true) × ((k : ℕ) → 1 ≤ k → k ≤ p → f k ≡ false)
       there q (nowhere z h) = absurd (omega arith)
       there q (at r s l e h) = let d : r ≡ p = omega arith in rw (← d) (l, e, h)
+
+-- two tests that agree have one least place
+pub least-same : (f g : ℕ → Bool) (n : ℕ) → ((k : ℕ) → 1 ≤ k → k ≤ n → f k ≡ g k) → least f n ≡ least g n
+least-same f g n h = go (least g n) refl
+  where
+    go : (m : ℕ) → least g n ≡ m → least f n ≡ least g n
+    go zero e = least-zero-iff f n .1 (λ k a b. h k a b ∙ least-zero-iff g n .0 e k a b) ∙ sym e
+    go (suc p) e =
+        let (l, t, u) = least-found-iff g n p .0 e in
+        least-found-iff f n p .1 (l, h (suc p) (omega arith) l ∙ t, λ k a b. h k a (omega arith) ∙ u k a b) ∙ sym e

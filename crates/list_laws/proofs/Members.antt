@@ -1,11 +1,14 @@
--- The tests on lists: `member` passes just where the number stands in the list, `same` just where the lists are one.
+-- The tests on lists: `member` passes just where the number stands in the list, `same` just where the lists are one. And what
+-- stands at a place of a list is one of it.
 -- Assumes nothing.
-use Prim.Native.Nat.{ℕ}
+use Prim.Native.Nat.{ℕ, zero, suc, _<_}
 use mathlib.Core.Path.{_≡_, refl}
 use mathlib.Core.Logic.{_⊎_, inl, inr}
 use mathlib.Core.Bool.{true, false}
 use mathlib.Core.List.{List, [], _∷_, List·Memᴰ·head, List·Memᴰ·tail, List·Memᴰ·not-nil, List·Memᴰ·cases-cons}
+use native.Mathlib.Omega.{arith}
 use lib.Dec.{eqb}
+use lib.ListN.{length, getD}
 use borrow.Author.Tests.{eqb-true, eqb-false, eq-eqb}
 use Rattle.papers.specs.Lists.{_∈_, member, same}
 use Rattle.list_laws.proofs.Tests.{Test, passes, fails, test, true-false}
@@ -51,3 +54,9 @@ pub same-refl : (xs : List ℕ) → same xs xs ≡ true
 unfolding same
 same-refl [] = refl
 same-refl (x ∷ xs) = rw (eq-eqb x x refl, same) (same-refl xs)
+
+-- the number at a place is one of the list
+pub at-place : (l : List ℕ) (k : ℕ) → k < length l → getD l k 0 ∈ l
+at-place [] k h = absurd (omega arith)
+at-place (y ∷ l) zero h = List·Memᴰ·head refl
+at-place (y ∷ l) (suc k) h = List·Memᴰ·tail (at-place l k (omega arith))

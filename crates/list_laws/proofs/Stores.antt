@@ -2,11 +2,11 @@
 -- A run of stores is what it replaces (sets-eq), so each law is one about take, drop and ++.
 -- Assumes nothing.
 use Prim.Native.Nat.{ℕ, zero, suc, _+_, _-_, _≤_}
-use mathlib.Core.Path.{_≡_, refl, sym}
-use mathlib.Core.List.{List, [], _∷_, _++_, append-assoc}
+use mathlib.Core.Path.{_≡_, refl, sym, ap, _∙_}
+use mathlib.Core.List.{List, [], _∷_, _++_, append-assoc, append-nil}
 use native.Mathlib.Omega.{arith}
 use lib.ListN.{length, set, take, drop, replicate, length-append, length-replicate}
-use lib.Seq.{sets, sets-eq, take-at}
+use lib.Seq.{sets, sets-eq, set-set, take-at}
 use Rattle.papers.specs.Lists.{zeros, thenZeros, flat, startsFrom}
 
 -- one list stored behind another is both stored at once
@@ -49,7 +49,12 @@ unfolding flat
 flat-append [] b = refl
 flat-append (l ∷ a) b = rw (flat-append a b) (sym (append-assoc l (flat a) (flat b)))
 
--- one list more begins where the last one ended
+-- one list more
+pub flat-more : (a : List (List ℕ)) (l : List ℕ) → flat (a ++ (l ∷ [])) ≡ flat a ++ l
+unfolding flat
+flat-more a l = flat-append a (l ∷ []) ∙ ap (λ (k : List ℕ). flat a ++ k) (append-nil l)
+
+-- it begins where the last one ended
 pub starts-more : (t : ℕ) (a : List (List ℕ)) (l : List ℕ) → startsFrom t (a ++ (l ∷ [])) ≡ startsFrom t a ++ ((t + length (flat a) + length l) ∷ [])
 unfolding startsFrom flat
 starts-more t [] l = let e : t + 0 + length l ≡ t + length l = omega arith in rw e
@@ -62,3 +67,9 @@ pub length-starts : (t : ℕ) (a : List (List ℕ)) → length (startsFrom t a) 
 unfolding startsFrom
 length-starts t [] = refl
 length-starts t (k ∷ a) = let i = length-starts (t + length k) a in omega arith
+
+-- a first start of 0 is stored again with the others
+pub starts-again : (starts : List ℕ) (lists : List (List ℕ)) → sets (set starts 0 0) 0 (startsFrom 0 lists) ≡ sets starts 0 (startsFrom 0 lists)
+unfolding startsFrom
+starts-again starts [] = set-set starts 0 0 0
+starts-again starts (l ∷ lists) = ap (λ (s : List ℕ). sets s 1 (startsFrom (0 + length l) lists)) (set-set starts 0 0 0)

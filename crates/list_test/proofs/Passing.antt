@@ -1,7 +1,7 @@
 -- The loop over the lists of a plan: those of the columns up to m are right, so what is stored is what the columns' own lists would leave, and the
 -- next can be held against R(m + 1).
 -- Assumes nothing.
-use Prim.Native.Nat.{ℕ, zero, suc, _+_, _-_, _<_, _≤_}
+use Prim.Native.Nat.{ℕ, suc, _+_, _-_, _<_, _≤_}
 use mathlib.Core.Path.{_≡_, refl, sym, ap, _∙_}
 use mathlib.Core.Bool.{Bool, true, false, not}
 use mathlib.Core.List.{List, map}
@@ -15,7 +15,7 @@ use Rattle.papers.specs.Job.{Pattern, Below, columnOf}
 use Rattle.papers.specs.Key.{listsOf}
 use Rattle.papers.specs.Fill.{R}
 use Rattle.papers.specs.Tree.{parent}
-use Rattle.list_laws.proofs.Leasts.{least-none, least-here}
+use Rattle.list_laws.proofs.Leasts.{least-none, least-here, least-same}
 use Rattle.list_laws.proofs.Members.{same-true}
 use Rattle.list_laws.proofs.Stores.{sets-more}
 use Rattle.list_laws.proofs.UpTo.{length-upTo}
@@ -30,15 +30,6 @@ use Rattle.structure.proofs.Hanging.{hung-none}
 use Rattle.structure.proofs.Storing.{parent-is, stored-on}
 use Rattle.list_test.specs.Lists.{PlanLists, wrong, FirstWrong}
 use Rattle.list_test.proofs.Plans.{starts-long, first-start, plan-part, plan-list, stands-fits, stands}
-
--- two tests that agree have one least place
-least-same : (f g : ℕ → Bool) (n : ℕ) → ((k : ℕ) → 1 ≤ k → k ≤ n → f k ≡ g k) → least f n ≡ least g n
-unfolding least
-least-same f g zero h = refl
-least-same f g (suc n) h = ap (λ p. next p (f (suc n))) (least-same f g n (λ k a b. h k a (omega arith))) ∙ ap (next (least g n)) (h (suc n) (omega arith) (omega arith))
-  where
-    next : ℕ → Bool → ℕ
-    next p b = elim p [ zero ↦ elim b [ true ↦ suc n | false ↦ 0 ] | suc q ↦ suc q ]
 
 -- whether column j of two slices is another than R(j)
 abbrev wrongIn : Pattern → List ℕ → List ℕ → ℕ → Bool

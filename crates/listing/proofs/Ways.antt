@@ -6,7 +6,6 @@ use mathlib.Core.List.{List}
 use native.Mathlib.Omega.{arith}
 use lib.ListN.{length, length-replicate}
 use lib.Seq.{sets}
-use Rattle.papers.specs.declared.Answer.{Answer}
 use Rattle.papers.specs.Bounds.{listingBytes}
 use Rattle.papers.specs.Lists.{zeros}
 use Rattle.papers.specs.Refusals.{answer, untouched, Outcome}

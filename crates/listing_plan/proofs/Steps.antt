@@ -5,10 +5,10 @@ use Prim.Native.Nat.{ℕ, zero, suc, _+_, _*_, _<_, _≤_}
 use mathlib.Core.Path.{_≡_, refl, sym, ap, _∙_}
 use mathlib.Core.List.{List, [], _∷_, _++_, map, append-nil, append-assoc}
 use native.Mathlib.Omega.{arith}
-use lib.ListN.{length, getD, take, length-append}
+use lib.ListN.{length, getD, take}
 use lib.Seq.{take-suc, take-length}
 use Rattle.papers.specs.Bounds.{maxColumns, maxMark}
-use Rattle.papers.specs.Lists.{flat, startsFrom}
+use Rattle.papers.specs.Lists.{flat}
 use Rattle.papers.specs.Job.{Pattern, Below, columnOf}
 use Rattle.papers.specs.Fill.{R}
 use Rattle.papers.specs.Tree.{rowCount}
@@ -16,13 +16,13 @@ use Rattle.papers.specs.Room.{rooms, roomAt}
 use Rattle.papers.specs.Order.{popsOf, orderOf, roomsOf}
 use Rattle.papers.specs.Key.{listsOf}
 use Rattle.papers.specs.Text.{decimalOf, printed, stepLines}
+use Rattle.list_laws.proofs.Members.{at-place}
 use Rattle.job_laws.proofs.Starts.{start-at, start-within}
 use Rattle.job_laws.proofs.Laid.{length-lists, lists-at, laid-column, laid-starts}
 use Rattle.order_laws.specs.Held.{heldAfterAll}
 use Rattle.order_laws.proofs.Rooms.{rooms-nil, rooms-cons, rooms-append}
 use Rattle.order_laws.proofs.Steps.{column-at}
 use Rattle.order_laws.proofs.Patterns.{order-ordered, order-length}
-use Rattle.tree.proofs.Slices.{at-place}
 use Rattle.room.specs.Rows.{rowsIn}
 use Rattle.room.proofs.BySteps.{pops-here, held-by-steps}
 use Rattle.order.specs.Given.{Given}

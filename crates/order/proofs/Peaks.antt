@@ -8,8 +8,8 @@ use lib.ListN.{length, getD, take, length-map}
 use lib.Seq.{length-take-le}
 use Rattle.papers.specs.Lists.{_∈_, upTo}
 use Rattle.papers.specs.Room.{peakOf}
+use Rattle.list_laws.proofs.Members.{at-place}
 use Rattle.order_laws.proofs.Orders.{ordered-length, marked-ordered}
-use Rattle.tree.proofs.Slices.{at-place}
 use Rattle.room.specs.Rows.{countAt, rowsIn}
 use Rattle.room.specs.Steps.{rowsAt, popsAt, Stepped, Counted}
 use Rattle.room.proofs.BySteps.{peak-by-steps, enough-by-steps}

@@ -11,7 +11,6 @@ use lib.ListN.{length, getD, take, drop, drop-of-length-le}
 use lib.Seq.{sets, sets-eq, length-take-le, take-take, getD-take, length-slice}
 use Rattle.papers.specs.Bounds.{maxColumns}
 use Rattle.papers.specs.Lists.{_∈_}
-use Rattle.papers.specs.Order.{arranged}
 use Rattle.list_laws.proofs.Tests.{below-or}
 use Rattle.order_laws.proofs.Subtrees.{children-are}
 use Rattle.order_laws.proofs.Arranged.{arranged-elements}

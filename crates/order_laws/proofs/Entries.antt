@@ -5,19 +5,15 @@ use mathlib.Core.Path.{_≡_, refl, ap}
 use mathlib.Core.Logic.{_↔_, _≢_}
 use mathlib.Core.List.{List, [], _∷_, map}
 use native.Mathlib.Omega.{arith}
-use lib.ListN.{length, take, drop, getD, length-map}
+use lib.ListN.{length, take, drop, getD}
 use lib.Seq.{take-suc}
-use Rattle.papers.specs.Job.{Pattern, Below}
-use Rattle.papers.specs.Tree.{t, parent, rowCount}
+use Rattle.papers.specs.Tree.{t}
 use Rattle.papers.specs.Room.{roomAt, heldAfter, rooms}
-use Rattle.papers.specs.Order.{Ordered, popsOf}
-use Rattle.order_laws.specs.Held.{heldAfterAll, Enough}
+use Rattle.order_laws.specs.Held.{heldAfterAll}
 use Rattle.order_laws.specs.Stack.{pushedOn, heldColumns}
 use Rattle.order_laws.proofs.Rooms.{held-root, held-update, held-append}
 use Rattle.order_laws.proofs.Steps.{column-at}
-use Rattle.order_laws.proofs.Patterns.{tree-of, root-rows}
 use Rattle.order_laws.proofs.Waiting.{pushed-root, pushed-update}
-use Rattle.order_laws.proofs.Takes.{step-enough}
 
 drop-map : (f : ℕ → ℕ) (p : ℕ) (l : List ℕ) → drop p (map f l) ≡ map f (drop p l)
 drop-map f zero l = refl
@@ -32,12 +28,6 @@ module _ (size pops : ℕ → ℕ) where
   room-at-step held [] s h = absurd (omega arith)
   room-at-step held (j ∷ js) zero h = refl
   room-at-step held (j ∷ js) (suc s) h = room-at-step (heldAfter (pops j) (size j) held) js s (omega arith)
-
-  -- every step finds enough, if each finds it after the steps before it
-  enough-all : (held js : List ℕ) → ((s : ℕ) → s < length js → pops (getD js s 0) ≤ length (heldAfterAll size pops held (take s js))) → Enough size pops held js
-  unfolding heldAfterAll
-  enough-all held [] h = tt
-  enough-all held (j ∷ js) h = (h 0 (omega arith), enough-all (heldAfter (pops j) (size j) held) js (λ s k. h (suc s) (omega arith)))
 
   module _ (par : ℕ → ℕ) (roots : (j : ℕ) → (size j ≡ 0) ↔ (par j ≡ 0)) where
     entries-after : (j p : ℕ) (held : List ℕ) → heldAfter p (size j) (map (λ c. t (size c)) held) ≡ map (λ c. t (size c)) (pushedOn par j (drop p held))
@@ -58,9 +48,3 @@ module _ (size pops : ℕ → ℕ) where
     held-entries order (suc s) h =
         let j = getD order s 0 in
         rw (take-suc order s 0 (omega arith), held-append size pops [] (take s order) (j ∷ []), held-entries order s (omega arith), column-at order s) (entries-after j (pops j) (heldColumns par pops order s))
-
--- in an order no step takes off more updates than are held
-pub ordered-enough : {n : ℕ} {A : Pattern} → Below n A → (order : List ℕ) → Ordered (parent A) n order → Enough (rowCount A) (popsOf n A) [] order
-ordered-enough {n} {A} below order o =
-    enough-all (rowCount A) (popsOf n A) [] order
-    (λ s h. rw (held-entries (rowCount A) (popsOf n A) (parent A) (root-rows below) order s (omega arith)) (omega (arith, length-map (heldColumns (parent A) (popsOf n A) order s) (λ c. t (rowCount A c)), rw (column-at order s) at (step-enough (tree-of below) order o s h))))

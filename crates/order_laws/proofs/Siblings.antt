@@ -7,7 +7,7 @@ use lib.ListN.{length}
 use Rattle.papers.specs.Lists.{_∈_}
 use Rattle.papers.specs.Job.{Pattern}
 use Rattle.papers.specs.Tree.{parent, rowCount}
-use Rattle.papers.specs.Order.{siblingKey, kidsOf, popsOf, W}
+use Rattle.papers.specs.Order.{siblingKey, childrenOf, popsOf, W}
 use Rattle.list_laws.proofs.Sorts.{Sorted, sort-elements, sort-length, sort-sorted, sort-level}
 use Rattle.order_laws.specs.Subtrees.{siblingsOf}
 use Rattle.order_laws.proofs.Subtrees.{children-asc}
@@ -15,17 +15,17 @@ use Rattle.order_laws.proofs.Subtrees.{children-asc}
 -- siblings stand by descending key of the mark, and of one key the lower number first
 pub siblings-by-mark : (mark n : ℕ) (A : Pattern) (j : ℕ) → Sorted (λ c. siblingKey mark (rowCount A j) (rowCount A c) (W mark n A c)) (siblingsOf mark n A j)
 unfolding siblingsOf
-siblings-by-mark mark n A j = sort-sorted _ 0 (kidsOf n A j) (children-asc (parent A) n j)
+siblings-by-mark mark n A j = sort-sorted _ 0 (childrenOf n A j) (children-asc (parent A) n j)
 
 -- by mark 0 their numbers ascend
-pub siblings-ascend : (n : ℕ) (A : Pattern) (j : ℕ) → siblingsOf 0 n A j ≡ kidsOf n A j
+pub siblings-ascend : (n : ℕ) (A : Pattern) (j : ℕ) → siblingsOf 0 n A j ≡ childrenOf n A j
 unfolding siblingsOf siblingKey
-siblings-ascend n A j = sort-level _ (λ c. refl) (kidsOf n A j)
+siblings-ascend n A j = sort-level _ (λ c. refl) (childrenOf n A j)
 
-pub siblings-are : (mark n : ℕ) (A : Pattern) (j c : ℕ) → (c ∈ siblingsOf mark n A j) ↔ (c ∈ kidsOf n A j)
+pub siblings-are : (mark n : ℕ) (A : Pattern) (j c : ℕ) → (c ∈ siblingsOf mark n A j) ↔ (c ∈ childrenOf n A j)
 unfolding siblingsOf
-siblings-are mark n A j c = sort-elements _ c (kidsOf n A j)
+siblings-are mark n A j c = sort-elements _ c (childrenOf n A j)
 
 pub siblings-count : (mark n : ℕ) (A : Pattern) (j : ℕ) → length (siblingsOf mark n A j) ≡ popsOf n A j
 unfolding siblingsOf
-siblings-count mark n A j = sort-length _ (kidsOf n A j)
+siblings-count mark n A j = sort-length _ (childrenOf n A j)

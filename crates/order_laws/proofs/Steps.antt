@@ -3,13 +3,14 @@
 use Prim.Native.Nat.{ℕ, zero, suc, _+_, _-_, _<_, _≤_}
 use mathlib.Core.Path.{_≡_, refl, sym, ap, _∙_}
 use mathlib.Core.Logic.{_⊎_, inl, inr, _↔_}
-use mathlib.Core.List.{List, [], _∷_, List·Memᴰ·head, List·Memᴰ·tail, List·Memᴰ·not-nil, List·Memᴰ·cases-cons, Memᴰ·cast}
+use mathlib.Core.List.{List, [], _∷_, List·Memᴰ·not-nil, List·Memᴰ·cases-cons, Memᴰ·cast}
 use native.Mathlib.Omega.{arith}
 use lib.ListN.{length, getD, take, drop, take-append-drop}
 use lib.Seq.{slice, length-slice, getD-take, getD-drop, take-length}
 use Rattle.papers.specs.Lists.{_∈_, Distinct}
 use Rattle.papers.specs.Order.{columnAt}
 use Rattle.list_laws.proofs.Counts.{distinct-append}
+use Rattle.list_laws.proofs.Members.{at-place}
 
 -- places from 0
 place-of : (l : List ℕ) {x : ℕ} → x ∈ l → (k : ℕ) × (k < length l) × (getD l k 0 ≡ x)
@@ -19,11 +20,6 @@ place-of (y ∷ l) {x} m = go (List·Memᴰ·cases-cons m) (λ t. place-of l t)
     go : (x ≡ y) ⊎ (x ∈ l) → (x ∈ l → (k : ℕ) × (k < length l) × (getD l k 0 ≡ x)) → (k : ℕ) × (k < suc (length l)) × (getD (y ∷ l) k 0 ≡ x)
     go (inl e) ih = (0, omega arith, sym e)
     go (inr t) ih = let (k, h, e) = ih t in (suc k, omega arith, e)
-
-at-place : (l : List ℕ) (k : ℕ) → k < length l → getD l k 0 ∈ l
-at-place [] k h = absurd (omega arith)
-at-place (y ∷ l) zero h = List·Memᴰ·head refl
-at-place (y ∷ l) (suc k) h = List·Memᴰ·tail (at-place l k (omega arith))
 
 places-apart : (l : List ℕ) → Distinct l → (i k : ℕ) → i < length l → k < length l → getD l i 0 ≡ getD l k 0 → i ≡ k
 places-apart [] d i k a b e = absurd (omega arith)

@@ -13,7 +13,7 @@ use Rattle.papers.specs.Tree.{children, Under, top, up}
 use Rattle.papers.specs.Order.{columnAt, Ordered}
 use Rattle.list_laws.proofs.Counts.{distinct-append}
 use Rattle.order_laws.specs.Parents.{Tree}
-use Rattle.order_laws.specs.Stack.{waiting, pushedOn, heldColumns}
+use Rattle.order_laws.specs.Stack.{waiting, heldColumns}
 use Rattle.order_laws.proofs.Reversed.{reversed-mem, reverse-distinct}
 use Rattle.order_laws.proofs.Steps.{column-at, column-in, slice-steps}
 use Rattle.order_laws.proofs.Ordering.{ordered-ready}
@@ -26,12 +26,6 @@ no-elements (x ∷ l) h = absurd (h x (List·Memᴰ·head refl))
 -- the steps done, the last one first
 done-next : (order : List ℕ) (s : ℕ) → s < length order → reverse (take (suc s) order) ≡ columnAt order (suc s) ∷ reverse (take s order)
 done-next order s h = rw (column-at order s) (ap reverse (take-suc order s 0 h) ∙ reverse-append (take s order) _)
-
--- one step more
-pub held-next : (par pops : ℕ → ℕ) (order : List ℕ) (s : ℕ)
-    → heldColumns par pops order (suc s) ≡ pushedOn par (columnAt order (suc s)) (drop (pops (columnAt order (suc s))) (heldColumns par pops order s))
-unfolding heldColumns
-held-next par pops order s = refl
 
 module _ {par : ℕ → ℕ} {n : ℕ} (tree : Tree par n) (order : List ℕ) (o : Ordered par n order) where
   abbrev pops : ℕ → ℕ

@@ -5,19 +5,18 @@ use Prim.Native.Nat.{ℕ, _-_, _<_, _≤_}
 use mathlib.Core.Path.{_≡_, refl}
 use mathlib.Core.Logic.{_⊎_, inl, inr, _↔_}
 use mathlib.Core.Bool.{Bool, true, false, _&&_}
-use mathlib.Core.List.{List, [], _∷_, List·Memᴰ·head, List·Memᴰ·tail, List·Memᴰ·not-nil, List·Memᴰ·cases-cons, Memᴰ·cast}
+use mathlib.Core.List.{List, [], _∷_, List·Memᴰ·head, List·Memᴰ·tail, List·Memᴰ·not-nil, List·Memᴰ·cases-cons}
 use native.Mathlib.Omega.{arith}
 use lib.Dec.{leb}
 use lib.ListN.{length}
 use lib.Seq.{slice, length-slice}
 use borrow.Author.Tests.{leb-true, le-leb}
-use Rattle.papers.specs.Lists.{_∈_, Distinct, member, every}
+use Rattle.papers.specs.Lists.{_∈_, Distinct, every}
 use Rattle.papers.specs.Tree.{Under, top, isUnder, subtreeOf}
 use Rattle.papers.specs.Order.{columnAt, Together}
 use Rattle.papers.specs.Check.{scattered}
 use Rattle.list_laws.proofs.Tests.{Test, passes, fails, test, true-false, not-false, and-both}
-use Rattle.list_laws.proofs.Members.{member-true, member-into}
-use Rattle.list_laws.proofs.Counts.{distinct-length, same-length}
+use Rattle.list_laws.proofs.Counts.{same-length, all-there}
 use Rattle.order_laws.specs.Parents.{Tree}
 use Rattle.order_laws.proofs.Trees.{under-range}
 use Rattle.order_laws.proofs.Subtrees.{under-test, subtree-is, subtree-distinct}
@@ -36,18 +35,6 @@ every-all f (y ∷ l) = go (test (f y)) (every-all f l)
         at q x (inl p) = rw p e
         at q x (inr m) = ih .0 (rw (e, every) at q) x m
     go (fails e) ih = (λ q. absurd (true-false (rw (e, every) at q) refl), λ h. absurd (true-false (h y (List·Memᴰ·head refl)) e))
-
--- as many different numbers of a list as it has are all of it
-all-there : (xs ys : List ℕ) → Distinct xs → ((i : ℕ) → i ∈ xs → i ∈ ys) → length ys ≤ length xs → (y : ℕ) → y ∈ ys → y ∈ xs
-all-there xs ys d h l y m = go (test (member y xs))
-  where
-    go : Test (member y xs) → y ∈ xs
-    go (passes e) = member-true y xs e
-    go (fails e) = absurd (omega (arith, distinct-length (y ∷ xs) ys (λ k. true-false (member-into y xs k) e, d) (λ i k. more i (List·Memᴰ·cases-cons k))))
-      where
-        more : (i : ℕ) → (i ≡ y) ⊎ (i ∈ xs) → i ∈ ys
-        more i (inl q) = Memᴰ·cast q m
-        more i (inr k) = h i k
 
 module _ {par : ℕ → ℕ} {n : ℕ} (tree : Tree par n) (order : List ℕ) (each : (j : ℕ) → (j ∈ order) ↔ ((1 ≤ j) × (j ≤ n))) (once : Distinct order)
     (s : ℕ) (l : 1 ≤ s) (u : s ≤ length order) where

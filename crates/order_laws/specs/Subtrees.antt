@@ -5,7 +5,7 @@ use mathlib.Core.List.{List, [], _∷_}
 use Rattle.papers.specs.Lists.{_∈_, sort}
 use Rattle.papers.specs.Job.{Pattern}
 use Rattle.papers.specs.Tree.{t, rowCount}
-use Rattle.papers.specs.Order.{siblingKey, stepsOf, kidsOf, W}
+use Rattle.papers.specs.Order.{siblingKey, stepsOf, childrenOf, W}
 
 -- children are lower columns, and each leaves an update; 0 stands for no column
 pub record Kin (size : ℕ → ℕ) (kids : ℕ → List ℕ) : Type 0 where
@@ -27,8 +27,8 @@ butLast size (c ∷ d ∷ cs) = t (size c) + butLast size (d ∷ cs)
 
 -- the steps of j's subtree
 unfoldable pub subtreeSteps : ℕ → ℕ → Pattern → ℕ → List ℕ
-subtreeSteps mark n A j = stepsOf mark (rowCount A) (kidsOf n A) n j
+subtreeSteps mark n A j = stepsOf mark (rowCount A) (childrenOf n A) n j
 
 -- the children of j in the mark's order
 unfoldable pub siblingsOf : ℕ → ℕ → Pattern → ℕ → List ℕ
-siblingsOf mark n A j = sort (λ c. siblingKey mark (rowCount A j) (rowCount A c) (W mark n A c)) (kidsOf n A j)
+siblingsOf mark n A j = sort (λ c. siblingKey mark (rowCount A j) (rowCount A c) (W mark n A c)) (childrenOf n A j)

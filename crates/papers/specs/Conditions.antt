@@ -99,7 +99,7 @@ IsRow c j k = (1 ≤ j) × (j ≤ c .n) × (k < length (columnOf (c .starts) (c 
 abbrev pub Outside : RowLists → ℕ → ℕ → Type 0
 Outside c j k = (rowOf c j k ≤ j) ⊎ (c .n < rowOf c j k)
 
--- 6: a row before it in the column is as great
+-- 6: not above the row just before it in the column
 abbrev pub NotAbove : RowLists → ℕ → ℕ → Type 0
 NotAbove c j k = (0 < k) × (rowOf c j k ≤ rowOf c j (k - 1))
 

@@ -53,20 +53,20 @@ module _ (mark : ℕ) (size : ℕ → ℕ) (kids : ℕ → List ℕ) where
 -- ---- of a pattern of n columns
 
 -- the children of j; of 0, the roots
-abbrev pub kidsOf : ℕ → Pattern → ℕ → List ℕ
-kidsOf n A = children (parent A) n
+abbrev pub childrenOf : ℕ → Pattern → ℕ → List ℕ
+childrenOf n A = children (parent A) n
 
 -- pops: the number of children
 abbrev pub popsOf : ℕ → Pattern → ℕ → ℕ
-popsOf n A j = length (kidsOf n A j)
+popsOf n A j = length (childrenOf n A j)
 
 -- W(j): the peak of the steps of j's subtree, begun with nothing held
 unfoldable pub W : ℕ → ℕ → Pattern → ℕ → ℕ
-W mark n A j = alone (rowCount A) (kidsOf n A) (stepsOf mark (rowCount A) (kidsOf n A) n j)
+W mark n A j = alone (rowCount A) (childrenOf n A) (stepsOf mark (rowCount A) (childrenOf n A) n j)
 
 -- the order: the subtrees of the roots, ascending. A parent is above its children, so n columns are deep enough.
 unfoldable pub orderOf : ℕ → ℕ → Pattern → List ℕ
-orderOf mark n A = flatMap (stepsOf mark (rowCount A) (kidsOf n A) n) (kidsOf n A 0)
+orderOf mark n A = flatMap (stepsOf mark (rowCount A) (childrenOf n A) n) (childrenOf n A 0)
 
 -- the room in use at each step of an order
 unfoldable pub roomsOf : ℕ → Pattern → List ℕ → List ℕ

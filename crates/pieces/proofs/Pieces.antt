@@ -1,7 +1,7 @@
 -- The pieces of the paper's bench that are to be proved, and its other worked examples: ONE claim over a list, by computation, each piece
 -- through the definition of the entry point that it speaks of.
 -- Assumes nothing.
-use Prim.Native.Nat.{ℕ, suc, _+_}
+use Prim.Native.Nat.{ℕ, _+_}
 use mathlib.Core.Path.{_≡_, refl}
 use mathlib.Core.Bool.{Bool, true, false, _&&_}
 use mathlib.Core.List.{List, [], _∷_, _++_, flatMap}

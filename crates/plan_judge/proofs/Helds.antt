@@ -11,9 +11,9 @@ use Rattle.papers.specs.Job.{Job}
 use Rattle.papers.specs.Plan.{Plan, columnsIn}
 use Rattle.papers.specs.Refusals.{answer, passed, first}
 use Rattle.papers.specs.Check.{repeated, repeatTest}
+use Rattle.list_laws.proofs.Members.{at-place}
 use Rattle.refusal_laws.proofs.PlanTests.{Steps}
 use Rattle.plan_laws.proofs.Steps.{columns-within}
-use Rattle.tree.proofs.Slices.{at-place}
 use Rattle.step_tests.specs.Steps.{Within}
 use Rattle.plan_judge.specs.Judged.{PlanHeld, judgeTests, ruling}
 use Rattle.plan_judge.proofs.Rulings.{ruling-refused, decides, at-refuses, at-passes}

@@ -20,6 +20,7 @@ use Rattle.papers.specs.Order.{columnAt, Ordered, popsOf, peak}
 use Rattle.papers.specs.Plan.{Plan, columnsIn, popsIn}
 use Rattle.papers.specs.Refusals.{answer, zeroed, passed, first, peakTest}
 use Rattle.papers.specs.Check.{scattered, subtreeTest, popsTest, truePeak, declaredTest}
+use Rattle.list_laws.proofs.Members.{at-place}
 use Rattle.order_laws.specs.Stack.{heldColumns}
 use Rattle.order_laws.proofs.Steps.{column-at}
 use Rattle.order_laws.proofs.Takes.{step-enough}
@@ -30,7 +31,6 @@ use Rattle.job_laws.proofs.Passed.{passes-iff, passed-below}
 use Rattle.refusal_laws.proofs.PlanTests.{all}
 use Rattle.plan_laws.proofs.PlanSound.{repeat-iff, list-iff, pops-iff, subtree-iff}
 use Rattle.tree.specs.Parents.{parentIn, TreeIn}
-use Rattle.tree.proofs.Slices.{at-place}
 use Rattle.room.specs.Rows.{rowsIn, Column}
 use Rattle.room.specs.Steps.{rowsAt, popsAt, heldAt, Stepped}
 use Rattle.room.proofs.BySteps.{peak-by-steps, enough-by-steps}

@@ -8,7 +8,7 @@ use Rattle.papers.specs.Lists.{upTo}
 use Rattle.papers.specs.Job.{Job, Pattern, Below, pattern}
 use Rattle.papers.specs.Fill.{R}
 use Rattle.papers.specs.Tree.{parent}
-use Rattle.papers.specs.Order.{kidsOf, popsOf, orderOf, peak}
+use Rattle.papers.specs.Order.{childrenOf, popsOf, orderOf, peak}
 use Rattle.papers.specs.Plan.{Plan, columnsIn, planOf}
 use Rattle.papers.specs.Refusals.{passed, first, jobTests}
 use Rattle.papers.specs.Sound.{Sound}
@@ -31,7 +31,7 @@ pops-fit {n} {A} below j l u =
     omega (
       arith,
       length-upTo (n - 1),
-      distinct-length (kidsOf n A j) (upTo (n - 1)) (children-distinct (parent A) n j)
+      distinct-length (childrenOf n A j) (upTo (n - 1)) (children-distinct (parent A) n j)
           (λ i m. let (a, b, e) = children-are (parent A) n j i .0 m in upTo-into (n - 1) i a (omega (arith, tree-of below .above i (omega arith)))),
     )
 

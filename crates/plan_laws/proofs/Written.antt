@@ -3,7 +3,7 @@
 -- Assumes nothing.
 use Prim.Native.Nat.{_≤_}
 use mathlib.Core.Path.{_≡_, refl, ap}
-use lib.ListN.{length, take}
+use lib.ListN.{length}
 use Rattle.papers.specs.Sound.{writtenPart}
 use Rattle.papers.specs.Lists.{flat}
 use Rattle.papers.specs.Job.{Job}

@@ -3,7 +3,7 @@
 use Prim.Native.Nat.{ℕ, _+_, _≤_}
 use mathlib.Core.Path.{_≡_}
 use mathlib.Core.List.{List}
-use lib.ListN.{length, take}
+use lib.ListN.{length}
 use Rattle.papers.specs.Bounds.{workLength}
 use Rattle.papers.specs.Lists.{flat, thenZeros}
 use Rattle.papers.specs.Job.{Job}

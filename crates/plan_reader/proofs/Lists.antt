@@ -1,7 +1,7 @@
 -- The loop over the columns' lists: the lists left, put onto those read, are all lists; where they start, and their rows, are kept.
 -- Assumes nothing.
 use Prim.Native.Nat.{zero, suc, ℕ, _+_, _-_, _<_, _≤_}
-use mathlib.Core.List.{List, [], _∷_, _++_, append-nil}
+use mathlib.Core.List.{List, [], _∷_, _++_}
 use mathlib.Core.Path.{_≡_, refl, sym, ap, _∙_}
 use native.Mathlib.Numerals.{add-one}
 use native.Mathlib.Omega.{arith}
@@ -9,7 +9,7 @@ use lib.ListN.{length, set, length-append}
 use lib.Seq.{sets, length-sets, set-set}
 use Rattle.papers.specs.Lists.{flat, startsFrom}
 use Rattle.papers.specs.Plan.{got, bad, onto, readList, readLists}
-use Rattle.list_laws.proofs.Stores.{sets-append, sets-more, flat-append, starts-more, length-starts}
+use Rattle.list_laws.proofs.Stores.{sets-append, sets-more, starts-more, length-starts, flat-more, starts-again}
 use Rattle.bytes_laws.proofs.Fields.{then-got, then-bad}
 use Rattle.bytes_laws.proofs.Reaches.{list-reach}
 use Rattle.list_reader.proofs.Answers.{told-found, told-refused}
@@ -50,16 +50,6 @@ pub record Lists (n : ℕ) (s : List ℕ) (at : ℕ) (starts₀ rows₀ starts r
   pub paced : total ≤ k
   pub begins : starts ≡ sets starts₀ 0 (startsFrom 0 done)
   pub listed : rows ≡ sets rows₀ 0 (flat done)
-
-flat-more : (ls : List (List ℕ)) (l : List ℕ) → flat (ls ++ (l ∷ [])) ≡ flat ls ++ l
-unfolding flat
-flat-more ls l = flat-append ls (l ∷ []) ∙ ap (λ (r : List ℕ). flat ls ++ r) (append-nil l)
-
--- the first start is stored before the loop: storing it again changes nothing
-starts-again : (starts : List ℕ) (ls : List (List ℕ)) → sets (set starts 0 0) 0 (startsFrom 0 ls) ≡ sets starts 0 (startsFrom 0 ls)
-unfolding startsFrom
-starts-again starts [] = set-set starts 0 0 0
-starts-again starts (l ∷ ls) = ap (λ (x : List ℕ). sets x 1 (startsFrom (0 + length l) ls)) (set-set starts 0 0 0)
 
 pub lists-start : (n : ℕ) (s : List ℕ) (at : ℕ) (starts rows : List ℕ) → at ≤ length s → Lists n s at (set starts 0 0) rows (set starts 0 0) rows at 1 0
 unfolding startsFrom flat

@@ -7,9 +7,9 @@ use native.Mathlib.Omega.{arith}
 use lib.ListN.{length, getD, take}
 use lib.Seq.{take-suc, take-length}
 use Rattle.papers.specs.Lists.{greatest, upTo}
-use Rattle.papers.specs.Room.{heldAfter, rooms, peakOf}
+use Rattle.papers.specs.Room.{rooms, peakOf}
 use Rattle.papers.specs.Order.{columnAt}
-use Rattle.order_laws.specs.Held.{heldAfterAll, Enough}
+use Rattle.order_laws.specs.Held.{heldAfterAll}
 use Rattle.order_laws.proofs.Rooms.{rooms-nil, rooms-cons, rooms-append, held-append}
 use Rattle.order_laws.proofs.Steps.{column-at}
 

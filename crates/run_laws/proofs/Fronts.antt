@@ -13,7 +13,7 @@ use Rattle.papers.specs.Lists.{_∈_, Distinct}
 use Rattle.papers.specs.Job.{Pattern}
 use Rattle.papers.specs.Fill.{R}
 use Rattle.papers.specs.Tree.{parent}
-use Rattle.papers.specs.Order.{kidsOf, popsOf}
+use Rattle.papers.specs.Order.{childrenOf, popsOf}
 use Rattle.papers.specs.Run.{RunCall, rowsIn, popsAt, stateAfter, stepColumn, heldAt}
 use Rattle.papers.specs.Conditions.{Known, AllFit}
 use Rattle.list_laws.proofs.Ascending.{drop-head}
@@ -56,7 +56,7 @@ module _ {A : Pattern} {call : RunCall} (f : Follows A call) where
   pub step-once : (s : ℕ) → IsStep call s → Distinct (poppedAt call s)
   step-once s i =
       let j = stepColumn call s in
-      distinct-by-count (poppedAt call s) (kidsOf (call .n) A j) (children-distinct (parent A) (call .n) j)
+      distinct-by-count (poppedAt call s) (childrenOf (call .n) A j) (children-distinct (parent A) (call .n) j)
       (λ x m. step-popped s i x .1 (children-of (tree-of (f .below)) j x (step-known s i .0) .0 m))
       (omega (arith, length-take-le (popsAt call s) (heldAt call s) (step-held s i), step-pops s i))
 

@@ -12,7 +12,7 @@ use lib.Seq.{take-suc, take-all, take-set-le, getD-take, getD-drop, getD-set-sam
 use Rattle.papers.specs.Lists.{_∈_}
 use Rattle.papers.specs.Tree.{t}
 use Rattle.papers.specs.Order.{siblingKey}
-use Rattle.tree.proofs.Slices.{at-place}
+use Rattle.list_laws.proofs.Members.{at-place}
 use Rattle.tree.proofs.Children.{equal-or}
 use Rattle.tree.specs.Laid.{part}
 use Rattle.siblings.specs.Arranged.{Kids, Keyed}

@@ -11,11 +11,11 @@ use lib.Seq.{take-suc, take-all}
 use Rattle.papers.specs.Bounds.{maxColumns}
 use Rattle.papers.specs.Lists.{_∈_, sum}
 use Rattle.papers.specs.Tree.{t}
+use Rattle.list_laws.proofs.Members.{at-place}
 use Rattle.order_laws.specs.Subtrees.{inTurn, butLast}
 use Rattle.order_laws.proofs.Greatest.{sum-append}
 use Rattle.order_laws.proofs.Needs.{in-turn-next, but-last-next}
 use Rattle.tree.proofs.Sums.{sum-nil, sum-cons}
-use Rattle.tree.proofs.Slices.{at-place}
 use Rattle.room.specs.Rows.{rowsIn, Column, mostEntries}
 use Rattle.siblings.specs.Arranged.{needAt, Kids}
 
@@ -55,10 +55,6 @@ module _ (factor rooms kids : List ℕ) (j : ℕ) where
       -- the room of a child above the updates before it is no greater than so many fronts
       pub turned-light : held + getD rooms (getD kids i 0) 0 ≤ 2 * (maxColumns * mostEntries)
       turned-light = omega (arith, inv .light, pre .few, pre .light (getD kids i 0) child)
-
-      -- so are the updates with its own
-      pub turned-heavier : held + mostEntries ≤ maxColumns * mostEntries
-      turned-heavier = omega (arith, inv .light, pre .few)
 
       pub turned-turn : {m v : ℕ} → m ≡ max most (held + getD rooms (getD kids i 0) 0) → (v ≡ t (rowsIn factor (getD kids i 0))) × (v ≤ mostEntries)
           → Turned factor rooms kids m held (held + v) (i + 1)

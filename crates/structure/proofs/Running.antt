@@ -14,10 +14,11 @@ use Rattle.papers.specs.Fill.{R}
 use Rattle.papers.specs.Tree.{parent}
 use Rattle.list_laws.proofs.Ascending.{asc-length}
 use Rattle.list_laws.proofs.UpTo.{length-upTo}
-use Rattle.list_laws.proofs.Stores.{sets-append, length-starts}
+use Rattle.list_laws.proofs.Stores.{sets-append, length-starts, starts-again}
+use Rattle.job_laws.proofs.Laid.{length-lists}
 use Rattle.fill_laws.proofs.Fill.{R-asc, R-range}
 use Rattle.column_laws.proofs.Places.{zero-at}
-use Rattle.column_laws.proofs.Families.{map-upTo, flat-more, length-more, starts-next, length-lists}
+use Rattle.column_laws.proofs.Families.{map-upTo, flat-more, length-more, starts-next}
 use Rattle.child_lists.specs.Buffers.{held}
 use Rattle.structure.specs.Stored.{rowsTo, Stored, Next, Gathers, Storable, Stores, Lengths, Listed}
 use Rattle.structure.proofs.Hanging.{hung-none}
@@ -86,11 +87,6 @@ module _ {n m : ℕ} {A : Pattern} {p₀ s₀ f₀ w₀ x₀ y₀ p s f w x y : 
   pub run-end : (getD s m 0 ≤ length f) × (m < length s)
   run-end = (omega (arith, r .stored .starts-are m (omega arith), r .stored .rows-fit), omega (arith, r .stored .starts-long, r .most))
 
-  first-start : (s₁ : List ℕ) (ls : List (List ℕ)) → sets (set s₁ 0 0) 0 (startsFrom 0 ls) ≡ sets s₁ 0 (startsFrom 0 ls)
-  unfolding startsFrom
-  first-start s₁ [] = set-set s₁ 0 0 0
-  first-start s₁ (l ∷ ls) = ap (λ t. sets t 1 (startsFrom (0 + length l) ls)) (set-set s₁ 0 0 0)
-
   -- the lists of the columns done
   listed : (s₁ : List ℕ) → s₀ ≡ set s₁ 0 0 → (m < n → length f < length (rowsTo A (suc m))) → Listed n m A p₀ s₁ f₀ p s f
   listed s₁ e h =
@@ -99,7 +95,7 @@ module _ {n m : ℕ} {A : Pattern} {p₀ s₀ f₀ w₀ x₀ y₀ p s f w x y : 
         lacks = λ l. rw long-f at (h l);
         fits = rw long-f at (r .stored .rows-fit);
         parents-are = r .parents-are;
-        starts-are = r .starts-are ∙ rw e (first-start s₁ (listsOf m (R A)));
+        starts-are = r .starts-are ∙ rw e (starts-again s₁ (listsOf m (R A)));
         rows-are = r .rows-are;
       }
 

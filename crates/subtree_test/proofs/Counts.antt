@@ -2,16 +2,14 @@
 -- Assumes nothing.
 use Prim.Native.Nat.{ℕ, _+_, _≤_}
 use mathlib.Core.Path.{_≡_}
-use mathlib.Core.Logic.{_⊎_, inl, inr, _↔_}
-use mathlib.Core.List.{List, [], _∷_, List·Memᴰ·not-nil, List·Memᴰ·cases-cons, Memᴰ·cast}
+use mathlib.Core.Logic.{_↔_}
+use mathlib.Core.List.{List, [], List·Memᴰ·not-nil}
 use native.Mathlib.Omega.{arith}
 use lib.ListN.{length, getD}
-use Rattle.papers.specs.Lists.{_∈_, Distinct, member, upTo}
+use Rattle.papers.specs.Lists.{_∈_, Distinct, upTo}
 use Rattle.papers.specs.Tree.{subtreeOf}
 use Rattle.papers.specs.Order.{stepsOf}
-use Rattle.list_laws.proofs.Tests.{Test, passes, fails, test, true-false}
-use Rattle.list_laws.proofs.Members.{member-true, member-into}
-use Rattle.list_laws.proofs.Counts.{distinct-length, same-length}
+use Rattle.list_laws.proofs.Counts.{distinct-length, same-length, all-there}
 use Rattle.list_laws.proofs.UpTo.{upTo-into, length-upTo}
 use Rattle.order_laws.proofs.Trees.{under-range}
 use Rattle.order_laws.proofs.Subtrees.{subtree-is, subtree-distinct}
@@ -23,18 +21,6 @@ use Rattle.tree.specs.Laid.{Descendants}
 use Rattle.tree.proofs.Children.{kids-lower}
 use Rattle.tree.proofs.Blocks.{block-count}
 use Rattle.subtree_test.specs.Steps.{EachOnce}
-
--- as many different numbers of a list as it has are all of it
-pub all-there : (xs ys : List ℕ) → Distinct xs → ((i : ℕ) → i ∈ xs → i ∈ ys) → length ys ≤ length xs → (y : ℕ) → y ∈ ys → y ∈ xs
-all-there xs ys d h l y m = go (test (member y xs))
-  where
-    go : Test (member y xs) → y ∈ xs
-    go (passes e) = member-true y xs e
-    go (fails e) = absurd (omega (arith, distinct-length (y ∷ xs) ys (λ k. true-false (member-into y xs k) e, d) (λ i k. more i (List·Memᴰ·cases-cons k))))
-      where
-        more : (i : ℕ) → (i ≡ y) ⊎ (i ∈ xs) → i ∈ ys
-        more i (inl q) = Memᴰ·cast q m
-        more i (inr k) = h i k
 
 -- an order of n different columns of 1 to n has each of them
 pub order-has : {n : ℕ} {order : List ℕ} → EachOnce n order → length order ≡ n → (j : ℕ) → (j ∈ order) ↔ ((1 ≤ j) × (j ≤ n))

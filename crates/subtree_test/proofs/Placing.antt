@@ -10,9 +10,9 @@ use lib.ListN.{length, getD, set, length-set}
 use lib.Seq.{getD-set-same, getD-set-other}
 use Rattle.papers.specs.Bounds.{maxColumns}
 use Rattle.list_laws.proofs.Tests.{below-or}
+use Rattle.list_laws.proofs.Members.{at-place}
 use Rattle.order_laws.proofs.Steps.{column-at, one-step}
 use Rattle.tree.specs.Parents.{parentIn}
-use Rattle.tree.proofs.Slices.{at-place}
 use Rattle.tree.proofs.Children.{parent-is, parent-low}
 use Rattle.subtree_test.specs.Steps.{EachOnce, listed, StepsIn}
 use Rattle.subtree_test.specs.Strays.{strayStep, Placed}

@@ -11,13 +11,12 @@ use lib.Seq.{slice, length-slice}
 use Rattle.papers.specs.Lists.{_∈_, Distinct}
 use Rattle.papers.specs.Tree.{Under, subtreeOf}
 use Rattle.papers.specs.Order.{columnAt, Together}
-use Rattle.list_laws.proofs.Counts.{same-length}
+use Rattle.list_laws.proofs.Counts.{same-length, all-there}
 use Rattle.order_laws.specs.Parents.{Tree}
 use Rattle.order_laws.proofs.Trees.{under-range}
 use Rattle.order_laws.proofs.Subtrees.{subtree-is, subtree-distinct}
 use Rattle.order_laws.proofs.Steps.{slice-steps, step-of, slice-distinct}
 use Rattle.order_laws.proofs.Pieces.{Piece, together-piece, piece-together}
-use Rattle.subtree_test.proofs.Counts.{all-there}
 
 -- an order of the columns 1 to n with the step of each, and how many columns stand below each in its subtree
 pub record Listing (par : ℕ → ℕ) (n : ℕ) (order : List ℕ) (step below : ℕ → ℕ) : Type 0 where

@@ -12,7 +12,7 @@ use Rattle.list_laws.proofs.Tests.{Test, passes, fails, test}
 use Rattle.text_laws.specs.Grammar.{All, Digit, InWord, InLine, Short, spaced}
 use Rattle.text_laws.proofs.Parts.{and-iff, all-append, all-map}
 use Rattle.text_laws.proofs.Decimals.{decimal-digits, decimal-iff}
-use Rattle.text_laws.proofs.Lines.{cut-iff, after-line}
+use Rattle.text_laws.proofs.Lines.{cut-iff}
 use Rattle.text_laws.proofs.Words.{words-spaced, Line, line-words, printed-spaced}
 
 pub no-cons : {A : Type 0} {x : A} {xs : List A} → _≡_ {A = List A} [] (x ∷ xs) → ⊥
@@ -110,10 +110,6 @@ module _ (text : List ℕ) (q : ℕ) where
           let (rest, e, s) = h in
           let f = cut-iff (afterLines (q - 1) text) (spaced (decimalOf x) (map decimalOf xs)) rest .1 (e ∙ printed-line x xs rest, in-line (decimalOf x) xs (decimal-digits x)) in
           at-line f ∙ numbers-of-iff (spaced (decimalOf x) (map decimalOf xs)) x xs .1 (refl, s)
-
--- what follows the numbers is what follows the line
-pub printed-after : (x : ℕ) (xs rest : List ℕ) → afterLines 1 (printed (decimalOf x) xs ++ rest) ≡ rest
-printed-after x xs rest = rw (printed-line x xs rest) (after-line (spaced (decimalOf x) (map decimalOf xs)) rest (in-line (decimalOf x) xs (decimal-digits x)))
 
 -- a line is the first of what follows the lines before it
 pub numbers-later : (text : List ℕ) (q : ℕ) → numbersAt text (suc q) ≡ numbersAt (afterLines q text) 1

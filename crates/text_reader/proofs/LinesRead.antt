@@ -12,9 +12,8 @@ use lib.Seq.{sets, length-sets, set-set}
 use borrow.Author.Tests.{eq-eqb}
 use Rattle.papers.specs.Bounds.{programRows}
 use Rattle.papers.specs.Lists.{least, flat, startsFrom}
-use Rattle.papers.specs.Refusals.{answer}
 use Rattle.papers.specs.Text.{numbersAt, isRowLine, rowsOfLine, afterLines, textHead, textLists, lineFault}
-use Rattle.list_laws.proofs.Stores.{sets-append, sets-more, starts-more, length-starts}
+use Rattle.list_laws.proofs.Stores.{sets-append, sets-more, starts-more, length-starts, flat-more, starts-again}
 use Rattle.job_laws.proofs.Faults.{faulty, faults-next}
 use Rattle.text_laws.proofs.Lines.{after-next}
 use Rattle.text_laws.proofs.Numbers.{numbers-later}
@@ -24,7 +23,7 @@ use Rattle.text_lines.specs.Lines.{narrowed, LineTo, LineTold, row-line, bad-li
 use Rattle.text_reader.specs.declared.Lines.{Lines}
 use Rattle.text_reader.specs.declared.Lines.the-variants as lines
 use Rattle.text_reader.specs.Reading.{columnLists, LinesTold, all-lines, bad-lines}
-use Rattle.text_reader.proofs.Tests.{flat-more, lists-none, lists-more, length-lists, line-bad, line-over, line-fine, lines-refuse, end-refuses, end-passes}
+use Rattle.text_reader.proofs.Tests.{lists-none, lists-more, length-lists, line-bad, line-over, line-fine, lines-refuse, end-refuses, end-passes}
 
 -- ---- a line, from its answer
 
@@ -79,14 +78,8 @@ lines-start text n starts rows l =
       kept = rw (lists-none text);
     }
 
--- the first start is the same whether or not it is stored before
-first-start : (starts : List ℕ) (lists : List (List ℕ)) → sets (set starts 0 0) 0 (startsFrom 0 lists) ≡ sets starts 0 (startsFrom 0 lists)
-unfolding startsFrom
-first-start starts [] = set-set starts 0 0 0
-first-start starts (l ∷ lists) = ap (λ (s : List ℕ). sets s 1 (startsFrom (0 + length l) lists)) (set-set starts 0 0 0)
-
 pub told-first : {text starts₀ rows₀ starts rows : List ℕ} {r : Lines} → LinesTold text (set starts₀ 0 0) rows₀ starts rows r → LinesTold text starts₀ rows₀ starts rows r
-told-first {text} {starts₀} (all-lines e p s k) = all-lines e p (s ∙ first-start starts₀ (columnLists text)) k
+told-first {text} {starts₀} (all-lines e p s k) = all-lines e p (s ∙ starts-again starts₀ (columnLists text)) k
 told-first (bad-lines number place e p) = bad-lines number place e p
 
 module _ {text : List ℕ} {n : ℕ} {starts₀ rows₀ starts rows : List ℕ} {j total k : ℕ} (x : LinesRead text n starts₀ rows₀ starts rows j total k) where

@@ -4,7 +4,6 @@
 use Prim.Native.Nat.{ℕ, zero, suc, _+_, _<_, _≤_}
 use mathlib.Core.Path.{_≡_, refl, sym, ap, _∙_}
 use mathlib.Core.Logic.{_⊎_, inl, inr}
-use mathlib.Core.Bool.{Bool}
 use mathlib.Core.List.{List, [], _∷_, map, map-append, List·Memᴰ·head, List·Memᴰ·tail}
 use native.Mathlib.Omega.{arith}
 use lib.Dec.{ltb, eqb}
@@ -17,8 +16,9 @@ use Rattle.papers.specs.Refusals.{answer, Leaves, untouched, Verdict, passed, r
 use Rattle.papers.specs.Analysis.{AnalysisCall, analysisTests, analysed}
 use Rattle.papers.specs.Key.{listsOf}
 use Rattle.papers.specs.Text.{jobPrinted}
-use Rattle.list_laws.proofs.Leasts.{least-zero-iff, least-found-iff}
+use Rattle.list_laws.proofs.Leasts.{least-found-iff, least-same}
 use Rattle.list_laws.proofs.Tests.{below-or, Test, passes, fails, test}
+use Rattle.list_laws.proofs.Stores.{flat-more}
 use Rattle.job_laws.proofs.Firsts.{first-passes, first-refuses, over-refuses}
 use Rattle.job_laws.proofs.Laid.{lists-none, lists-more, rows-laid}
 use Rattle.job_laws.proofs.Outcomes.{outcome-untouched, job-refuses}
@@ -27,7 +27,6 @@ use Rattle.job_laws.proofs.Passed.{PassedLists, passes-iff}
 use Rattle.job_laws.proofs.Rows.{row-over, rows-fault, rows-next}
 use Rattle.text_lines.specs.Lines.{narrowed}
 use Rattle.text_reader.specs.Reading.{keptJob}
-use Rattle.text_reader.proofs.Tests.{flat-more}
 
 -- ---- the rows of a column
 
@@ -64,15 +63,6 @@ unfolding columnOf
 column-kept starts rows j = rw (take-map (start starts (suc j)) rows) (drop-map (start starts j) (take (start starts (suc j)) rows))
 
 -- ---- the tests of a job
-
-least-same : (f g : ℕ → Bool) (n : ℕ) → ((k : ℕ) → 1 ≤ k → k ≤ n → f k ≡ g k) → least f n ≡ least g n
-least-same f g n h = go (least g n) refl
-  where
-    go : (m : ℕ) → least g n ≡ m → least f n ≡ least g n
-    go zero e = least-zero-iff f n .1 (λ k a b. h k a b ∙ least-zero-iff g n .0 e k a b) ∙ sym e
-    go (suc p) e =
-        let (l, t, u) = least-found-iff g n p .0 e in
-        least-found-iff f n p .1 (l, h (suc p) (omega arith) l ∙ t, λ k a b. h k a (omega arith) ∙ u k a b) ∙ sym e
 
 module _ (n : ℕ) (starts rows : List ℕ) (few : n ≤ maxColumns) where
   fault-same : (j : ℕ) → j ≤ n → columnFault n starts (map narrowed rows) j ≡ columnFault n starts rows j

@@ -1,9 +1,9 @@
 -- The tests of a text's lines, one by one: the line of a column by its numbers and the rows so far, the lines by the first at fault, the end by what is left.
 -- Assumes nothing.
 use Prim.Native.Nat.{ℕ, suc, _+_, _<_, _≤_}
-use mathlib.Core.Path.{_≡_, refl, ap, _∙_}
+use mathlib.Core.Path.{_≡_, refl, _∙_}
 use mathlib.Core.Bool.{true, false}
-use mathlib.Core.List.{List, [], _∷_, _++_, append-nil, map-append}
+use mathlib.Core.List.{List, [], _∷_, _++_, map-append}
 use native.Mathlib.Omega.{arith}
 use native.Mathlib.Numerals.{add-two}
 use lib.ListN.{length, length-map}
@@ -13,17 +13,12 @@ use Rattle.papers.specs.Lists.{least, upTo, flat}
 use Rattle.papers.specs.Refusals.{answer, untouched, passed, refused, first}
 use Rattle.papers.specs.Text.{numbersAt, isRowLine, rowsOfLine, afterLines, textHead, textLists, lineFault, rowLinesTest, endTest}
 use Rattle.list_laws.proofs.Leasts.{least-here}
-use Rattle.list_laws.proofs.Stores.{flat-append}
 use Rattle.list_laws.proofs.UpTo.{length-upTo}
 use Rattle.job_laws.proofs.Faults.{faulty}
 use Rattle.job_laws.proofs.Firsts.{first-passes, first-refuses, first-last, over-refuses, over-passes-iff}
 use Rattle.text_reader.specs.Reading.{whole}
 
 -- ---- the lists of the columns
-
-pub flat-more : (a : List (List ℕ)) (l : List ℕ) → flat (a ++ (l ∷ [])) ≡ flat a ++ l
-unfolding flat
-flat-more a l = flat-append a (l ∷ []) ∙ ap (λ (k : List ℕ). flat a ++ k) (append-nil l)
 
 module _ (text : List ℕ) where
   pub lists-none : textLists text 0 ≡ []

@@ -4,7 +4,7 @@
 use Prim.Native.Nat.{ℕ, _+_, _<_, _≤_}
 use mathlib.Core.Path.{_≡_, refl, sym, ap, _∙_}
 use mathlib.Core.Logic.{_≢_, inl, inr, ⊎-elim}
-use mathlib.Core.Bool.{true, false, not}
+use mathlib.Core.Bool.{true, false}
 use mathlib.Core.List.{List, [], _∷_, _++_, append-nil}
 use native.Mathlib.Omega.{arith}
 use native.Mathlib.Numerals.{add-one}
@@ -16,7 +16,7 @@ use Rattle.text_laws.specs.Grammar.{Digit, Short, Ends}
 use Rattle.text_laws.proofs.Parts.{all-back, within}
 use Rattle.text_laws.proofs.Decimals.{decimal-digits, decimal-is, decimal-iff, decimal-word-iff}
 use Rattle.text_laws.proofs.ByWords.{no-digit, first-number}
-use Rattle.text_words.specs.Words.{DigitsRead, Stop, Number, more}
+use Rattle.text_words.specs.Words.{DigitsRead, Stop, Number}
 use Rattle.text_words.proofs.Scan.{digits-long}
 
 first-behind : (text : List ℕ) (n : ℕ) {c : ℕ} {rest : List ℕ} → drop n text ≡ c ∷ rest → (n < length text) × (getD text n 0 ≡ c)

@@ -7,7 +7,7 @@ use mathlib.Core.List.{List, [], _∷_, List·Memᴰ·head, List·Memᴰ·tail}
 use native.Mathlib.Omega.{arith}
 use native.Mathlib.Numerals.{add-one}
 use lib.ListN.{length, getD, set, take, drop, length-set, length-take, drop-of-length-le}
-use lib.Seq.{slice, slice-cons, take-length, take-set-le, take-set-lt, drop-set-lt, getD-set-same}
+use lib.Seq.{slice, slice-cons, take-set-le, take-set-lt, drop-set-lt, getD-set-same}
 use Rattle.papers.specs.Lists.{_∈_}
 use Rattle.list_laws.proofs.Tests.{below-or}
 
@@ -21,9 +21,6 @@ into (suc k) a e i l h q b = rw (slice-cons a e l 0 (omega arith) h) (List·Mem�
 -- what stands at a place from a on and before e stands in the slice
 pub slice-into : (a e i : ℕ) (l : List ℕ) → e ≤ length l → a ≤ i → i < e → getD l i 0 ∈ slice a e l
 slice-into a e i l h lo hi = into (i - a) a e i l h (omega arith) hi
-
-pub at-place : (l : List ℕ) (i : ℕ) → i < length l → getD l i 0 ∈ l
-at-place l i h = rw (take-length l) at (slice-into 0 (length l) i l (omega arith) (omega arith) h)
 
 -- ---- after a store
 

@@ -1,7 +1,7 @@
 -- How often a number can be halved.
 -- Assumes nothing.
 use Prim.Native.Nat.{ℕ, zero, suc, _/_}
-use mathlib.Core.Bool.{Bool, true, false}
+use mathlib.Core.Bool.{true, false}
 use lib.Dec.{eqb}
 
 -- the binary digits of x, at most f of them

@@ -6,11 +6,11 @@ use native.Mathlib.Omega.{arith}
 use lib.ListN.{length}
 use borrow.Author.Needs.{needs}
 use Rattle.siblings.proofs.Keys.{same-key, keying-places, Keying, keying-start, keying-stop, keying-reads, keying-turn}
-use Rattle.tree.proofs.Slices.{at-place}
 use Rattle.tree.specs.Laid.{part}
 use Rattle.siblings.specs.Arranged.{keyAt}
 use Rattle.siblings.proofs.store_keys.Statement.{statement}
 use Rattle.siblings.proofs.store_keys.Tie as tie
+use Rattle.list_laws.proofs.Members.{at-place}
 
 abbrev Inv-loop : tie.InvT-loop
 Inv-loop mark factor kids j work₀ w k above i₀ work i = Keying k (keyAt mark factor (part w k work₀) j) kids work₀ work i
