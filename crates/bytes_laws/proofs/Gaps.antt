@@ -34,6 +34,12 @@ rows-fit-cons {n} {x = x} {xs = xs} l h f = ((l, f .0), within)
     within i (List·Memᴰ·head e) = omega arith
     within i (List·Memᴰ·tail m) = f .1 i m
 
+-- a gap for each row
+pub length-gaps : (b : ℕ) (l : List ℕ) → length (gapsOf b l) ≡ length l
+unfolding gapsOf
+length-gaps b [] = refl
+length-gaps b (x ∷ l) = ap suc (length-gaps x l)
+
 -- ---- what stands there is read
 
 module _ (n : ℕ) (fits : n < 2 ^ (7 * maxGroups)) (s : List ℕ) where

@@ -15,9 +15,10 @@ use Rattle.papers.specs.Bounds.{maxGroups}
 use Rattle.papers.specs.Lists.{flat}
 use Rattle.papers.specs.Numbers.{bytesOf, encode}
 use Rattle.papers.specs.Job.{Job, pattern}
-use Rattle.papers.specs.Key.{gapsOf, listNumbers, listsNumbers, listsOf, keyNumbers, keyOf}
+use Rattle.papers.specs.Key.{listNumbers, listsNumbers, listsOf, keyNumbers, keyOf}
 use Rattle.papers.specs.Conditions.{Stands, ended, too-long, not-shortest, value, Field, column, pops, count, gap, peak, nothing, high, fromList, fromGap, fromStep, following, Reaches, begin, next}
 use Rattle.list_laws.proofs.Tests.{Test, passes, fails, test}
+use Rattle.bytes_laws.proofs.Gaps.{length-gaps}
 use Rattle.bytes_laws.proofs.Numbers.{bytes-length}
 use Rattle.job_laws.proofs.Starts.{Starts}
 use Rattle.job_laws.proofs.Laid.{length-lists, rows-laid}
@@ -28,11 +29,6 @@ encode-short : (xs : List ℕ) → length (encode xs) ≤ maxGroups * length xs
 unfolding encode
 encode-short [] = omega arith
 encode-short (x ∷ xs) = let b = bytes-length x .1 in omega (arith, encode-short xs, length-append (bytesOf x) (encode xs))
-
-length-gaps : (b : ℕ) (l : List ℕ) → length (gapsOf b l) ≡ length l
-unfolding gapsOf
-length-gaps b [] = refl
-length-gaps b (x ∷ l) = ap suc (length-gaps x l)
 
 count-numbers : (j : ℕ) (ls : List (List ℕ)) → length (listsNumbers j ls) ≡ length ls + length (flat ls)
 unfolding listsNumbers listNumbers flat
