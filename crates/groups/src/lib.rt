@@ -1,6 +1,6 @@
 // Numbers in groups of seven bits: their length, their bytes, and reading one.
 ghost use mathlib.Core.Path.{_≡_};
-ghost use Prim.Native.Nat.{_+_, _≤_, _<_};
+ghost use Prim.Native.Nat.{_+_, _^_, _≤_, _<_};
 ghost use lib.ListN.{length, replicate};
 ghost use lib.Seq.{sets};
 ghost use Rattle.papers.specs.Bounds.{maxGroups};
@@ -14,16 +14,34 @@ pub struct Groups {
     pub count: usize,
 }
 
-// How many groups of seven bits x has: its bits, which follow from its leading zeros, by sevens; 0 has one.
+// How many groups of seven bits x has: one below 128; else its bits, which follow from its leading zeros, by sevens.
 pub fn length(x: u64) -> usize
     requires { ⌜ Fits x ⌝ }
     ensures { λ r. ⌜ r ≡ length (bytesOf x) ⌝ }
 {
-    let bits = 64 - u64::leading_zeros(x);
-    if bits == 0 {
+    if x < 128 {
         return 1;
     }
+    let bits = 64 - u64::leading_zeros(x);
     ((bits + 6) / 7) as usize
+}
+
+// 1 where x is at or over a bound, else 0.
+fn at_or_over(x: u32, bound: u32) -> u32
+    ensures { λ r. ⌜ (x < bound → r ≡ 0) × (bound ≤ x → r ≡ 1) ⌝ }
+{
+    if x < bound {
+        return 0;
+    }
+    1
+}
+
+// How many groups of seven bits x has after the first: two at most. Without a jump, for loops over many numbers.
+pub fn further(x: u32) -> u32
+    requires { ⌜ x < 2 ^ 21 ⌝ }
+    ensures { λ r. ⌜ r + 1 ≡ length (bytesOf x) ⌝ }
+{
+    at_or_over(x, 128) + at_or_over(x, 16384)
 }
 
 // The bytes of x. The groups before count are stored, and v is what is left of x.
@@ -46,11 +64,16 @@ pub fn number(x: u64) -> Groups
     }
 }
 
-// Writes the bytes of x into dst from `at` on, and answers the place behind them. The first i of the little array are written.
+// Writes the bytes of x into dst from `at` on, and answers the place behind them. One byte is stored at once; of more the first i of the
+// little array are written.
 pub fn put(dst: &mut [u8], at: usize, x: u64) -> usize
     requires { ⌜ Fits x × (at + length (bytesOf x) ≤ length (now dst)) ⌝ }
     ensures { λ r. ⌜ (r ≡ at + length (bytesOf x)) × (now (dst .exit) ≡ sets (now (dst .entry)) at (bytesOf x)) ⌝ }
 {
+    if x < 128 {
+        dst[at] = x as u8;
+        return at + 1;
+    }
     let groups = number(x);
     let bytes = groups.bytes;
     let count = groups.count;
