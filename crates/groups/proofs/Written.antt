@@ -18,6 +18,11 @@ pub bytes-small : (x : ℕ) → x < 128 → bytesOf x ≡ x ∷ []
 unfolding bytesOf
 bytes-small x h = groups-small (maxGroups - 1) x h
 
+-- below 128 times 128 it is two
+pub bytes-two : (x : ℕ) → 128 ≤ x → x < 16384 → bytesOf x ≡ (x % 128 + 128) ∷ (x / 128) ∷ []
+unfolding bytesOf
+bytes-two x l h = rw (groups-large (maxGroups - 2) x l, groups-small (maxGroups - 2) (x / 128) (omega arith))
+
 -- from 128 on it has more than one
 pub bytes-large : (x : ℕ) → 128 ≤ x → 1 < length (bytesOf x)
 unfolding bytesOf

@@ -64,8 +64,8 @@ pub fn number(x: u64) -> Groups
     }
 }
 
-// Writes the bytes of x into dst from `at` on, and answers the place behind them. One byte is stored at once; of more the first i of the
-// little array are written.
+// Writes the bytes of x into dst from `at` on, and answers the place behind them. One byte or two, which most numbers have, are stored at once; of more
+// the first i of the little array are written.
 pub fn put(dst: &mut [u8], at: usize, x: u64) -> usize
     requires { ⌜ Fits x × (at + length (bytesOf x) ≤ length (now dst)) ⌝ }
     ensures { λ r. ⌜ (r ≡ at + length (bytesOf x)) × (now (dst .exit) ≡ sets (now (dst .entry)) at (bytesOf x)) ⌝ }
@@ -73,6 +73,11 @@ pub fn put(dst: &mut [u8], at: usize, x: u64) -> usize
     if x < 128 {
         dst[at] = x as u8;
         return at + 1;
+    }
+    if x < 16384 {
+        dst[at] = (x % 128 + 128) as u8;
+        dst[at + 1] = (x / 128) as u8;
+        return at + 2;
     }
     let groups = number(x);
     let bytes = groups.bytes;

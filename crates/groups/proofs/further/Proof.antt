@@ -10,12 +10,9 @@ use Rattle.list_laws.proofs.Tests.{below-or}
 use Rattle.papers.specs.Bounds.{maxGroups}
 use Rattle.papers.specs.Numbers.{bytesOf, groupsOf}
 use Rattle.bytes_laws.proofs.Numbers.{groups-small, groups-large}
-use Rattle.groups.proofs.Written.{bytes-small}
+use Rattle.groups.proofs.Written.{bytes-small, bytes-two}
 use Rattle.groups.proofs.further.Statement.{statement}
 use Rattle.groups.proofs.further.Tie as tie
-
-two-groups : (f x : ℕ) → 128 ≤ x → x < 16384 → length (groupsOf (suc (suc f)) x) ≡ 2
-two-groups f x l h = rw (groups-large (suc f) x l, groups-small (suc f) (x / 128) (omega arith))
 
 three-groups : (f x : ℕ) → 16384 ≤ x → x < 2 ^ 21 → length (groupsOf (suc (suc f)) x) ≡ 3
 three-groups f x l h =
@@ -30,11 +27,11 @@ counted x {second} {third} h s t = go (below-or x 128) (below-or x 16384)
     go (inl a) _ =
         let p = s .0 a in
         let q = t .0 (omega arith) in
-        (omega arith, rw (groups-small (maxGroups - 1) x a) (omega arith))
+        (omega arith, rw (bytes-small x a) (omega arith))
     go (inr a) (inl b) =
         let p = s .1 a in
         let q = t .0 b in
-        (omega arith, omega (arith, two-groups (maxGroups - 3) x a b))
+        (omega arith, rw (bytes-two x a b) (omega arith))
     go (inr a) (inr b) =
         let p = s .1 a in
         let q = t .1 b in
