@@ -44,6 +44,7 @@ module _ {n : ℕ} {starts rows : List ℕ} (few : n ≤ maxColumns) (p : Passed
           inside = omega (arith, start-within (p .whole) (suc (suc k)) (omega arith) (omega arith));
           ascending = rw (column-at starts rows k) at (p .ascending (suc k) (omega arith) h);
           few = omega arith;
+          within = λ row m. let q = p .within (suc k) (omega arith) h row (rw (column-at starts rows k) m) in omega arith;
         })
 
     -- its numbers come next
