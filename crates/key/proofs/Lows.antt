@@ -17,18 +17,19 @@ use Rattle.key.specs.ListAt.{ListAt}
 use Rattle.key.specs.LowBytes.{lowBytes}
 use Rattle.key.proofs.Rows.{RowsLeft, rows-all, rows-next, gaps-next, gaps-none, length-gaps}
 
-pub length-lows : (xs : List ℕ) → length (lowBytes xs) ≡ length xs
+length-lows : (xs : List ℕ) → length (lowBytes xs) ≡ length xs
 unfolding lowBytes
 length-lows [] = refl
 length-lows (x ∷ xs) = ap suc (length-lows xs)
 
 -- numbers have a byte each at least
-pub encode-long : (xs : List ℕ) → length xs ≤ length (encode xs)
+encode-long : (xs : List ℕ) → length xs ≤ length (encode xs)
 unfolding encode
 encode-long [] = omega arith
 encode-long (x ∷ xs) = omega (arith, encode-long xs, bytes-length x .0, length-append (bytesOf x) (encode xs))
 
-pub lows-small : (xs : List ℕ) → greatest xs < 128 → lowBytes xs ≡ encode xs
+-- below 128 a number is its low byte
+lows-small : (xs : List ℕ) → greatest xs < 128 → lowBytes xs ≡ encode xs
 unfolding lowBytes greatest encode
 lows-small [] h = refl
 lows-small (x ∷ xs) h =
@@ -43,7 +44,7 @@ set-sets [] l i v k h = refl
 set-sets (w ∷ ws) l i v k h = set-sets ws (set l k w) i v (suc k) (omega arith) ∙ ap (λ (m : List ℕ). sets m (suc k) ws) (set-comm l k i w v (λ e. omega arith))
 
 -- a run stored over one that is no longer
-pub sets-over : (ws vs l : List ℕ) (i : ℕ) → length ws ≤ length vs → sets (sets l i ws) i vs ≡ sets l i vs
+sets-over : (ws vs l : List ℕ) (i : ℕ) → length ws ≤ length vs → sets (sets l i ws) i vs ≡ sets l i vs
 sets-over [] vs l i h = refl
 sets-over (w ∷ ws) [] l i h = absurd (omega arith)
 sets-over (w ∷ ws) (v ∷ vs) l i h =
@@ -97,7 +98,8 @@ module _ {b : ℕ} {rows : List ℕ} {from to : ℕ} (l : ListAt b rows from to)
   pub run-fits : (d : List ℕ) (at : ℕ) → at + length (encode (gapsOf b (slice from to rows))) ≤ length d → at + (to - from) ≤ length d
   run-fits d at h = omega (arith, run-length, encode-long (gapsOf b (slice from to rows)))
 
-  module _ (d₀ : List ℕ) (at : ℕ) {d : List ℕ} {widest : ℕ} (low : (widest ≡ greatest (gapsOf b (slice from to rows))) × (d ≡ sets d₀ at (lowBytes (gapsOf b (slice from to rows))))) where
+  module _ (d₀ : List ℕ) (at : ℕ) {d : List ℕ} {widest : ℕ}
+      (low : (widest ≡ greatest (gapsOf b (slice from to rows))) × (d ≡ sets d₀ at (lowBytes (gapsOf b (slice from to rows))))) where
     -- each gap has one byte
     pub run-short : widest < 128 → (at + (to - from) ≡ at + length (encode (gapsOf b (slice from to rows)))) × (d ≡ sets d₀ at (encode (gapsOf b (slice from to rows))))
     run-short h =

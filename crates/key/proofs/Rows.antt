@@ -108,7 +108,8 @@ pub gaps-start : {b : ℕ} {rows : List ℕ} {from to : ℕ} {d : List ℕ} {at 
     → WritesRows b rows from to d at d at b from
 gaps-start l h = record { rows-left = rows-all l; written = writes-all; room = h }
 
-pub gaps-stop : {b : ℕ} {rows : List ℕ} {from to : ℕ} {d₀ : List ℕ} {at : ℕ} {d : List ℕ} {next before i : ℕ} → WritesRows b rows from to d₀ at d next before i → to ≤ i
+pub gaps-stop : {b : ℕ} {rows : List ℕ} {from to : ℕ} {d₀ : List ℕ} {at : ℕ} {d : List ℕ} {next before i : ℕ}
+    → WritesRows b rows from to d₀ at d next before i → to ≤ i
     → (next ≡ at + length (encode (gapsOf b (slice from to rows)))) × (d ≡ sets d₀ at (encode (gapsOf b (slice from to rows))))
 gaps-stop w h = writes-none (w .written) (gaps-none (w .rows-left) h)
 

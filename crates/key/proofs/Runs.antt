@@ -19,10 +19,12 @@ abbrev lastOf : ℕ → List ℕ → ℕ
 lastOf b [] = b
 lastOf b (x ∷ xs) = lastOf x xs
 
+-- where the last row stands
 last-at : (b x : ℕ) (xs : List ℕ) → lastOf b (x ∷ xs) ≡ getD (x ∷ xs) (length xs) 0
 last-at b x [] = refl
 last-at b x (y ∷ ys) = last-at x y ys
 
+-- the gaps, the order and the rows of two lists, one behind the other
 gaps-append : (b : ℕ) (xs ys : List ℕ) → gapsOf b (xs ++ ys) ≡ gapsOf b xs ++ gapsOf (lastOf b xs) ys
 unfolding gapsOf
 gaps-append b [] ys = refl

@@ -31,7 +31,9 @@ further-requires : tie.Need-further-requires Inv-loop μ-loop
 further-requires c κs = omega (arith, row-within (c .before .before .loop .inv .rows-left) (c .before .loop-test .taken) refl)
 
 add-more : tie.Need-add-more Inv-loop μ-loop
-add-more c = omega (arith, count-short (count-turn (c .before .before .before .loop .inv) (c .before .before .loop-test .taken) refl _ (c .further .ensures)) (c .before .before .before .before .before .pre))
+add-more c =
+    let counted = count-turn (c .before .before .before .loop .inv) (c .before .before .loop-test .taken) refl _ (c .further .ensures) in
+    omega (arith, count-short counted (c .before .before .before .before .before .pre))
 
 add-i : tie.Need-add-i Inv-loop μ-loop
 add-i c = search needs
@@ -52,13 +54,19 @@ sub-result : tie.Need-sub-result Inv-loop μ-loop
 sub-result c = search needs
 
 add-result : tie.Need-add-result Inv-loop μ-loop
-add-result c = let one = bytes-length (c .before .before .before .before .args .to - c .before .before .before .before .args .from) in let few = c .before .before .before .before .pre .few in omega (arith, c .length .ensures)
+add-result c =
+    let one = bytes-length (c .before .before .before .before .args .to - c .before .before .before .before .args .from) in
+    let few = c .before .before .before .before .pre .few in
+    omega (arith, c .length .ensures)
 
 cast-result : tie.Need-cast-result Inv-loop μ-loop
 cast-result c = omega (arith, count-short (c .before .before .loop .inv) (c .before .before .before .before .pre))
 
 add-result-2 : tie.Need-add-result-2 Inv-loop μ-loop
-add-result-2 c = let one = bytes-length (c .before .before .before .before .args .to - c .before .before .before .before .args .from) in let few = c .before .before .before .before .pre .few in omega (arith, c .length .ensures, count-short (c .before .before .loop .inv) (c .before .before .before .before .pre))
+add-result-2 c =
+    let one = bytes-length (c .before .before .before .before .args .to - c .before .before .before .before .args .from) in
+    let few = c .before .before .before .before .pre .few in
+    omega (arith, c .length .ensures, count-short (c .before .before .loop .inv) (c .before .before .before .before .pre))
 
 returns : tie.Need-returns Inv-loop μ-loop
 returns c = count-stop (c .before .before .loop .inv) (c .before .before .before .before .pre) (c .before .loop-test .left) (c .length .ensures)

@@ -30,7 +30,10 @@ cast-put : tie.Need-cast-put Inv-loop μ-loop
 cast-put c = omega (arith, row-within (c .before .before .before .loop .inv .rows-left) (c .before .before .loop-test .taken) refl)
 
 put-requires : tie.Need-put-requires Inv-loop μ-loop
-put-requires c κs = (omega (arith, row-within (c .before .before .before .loop .inv .rows-left) (c .before .before .loop-test .taken) refl), write-room (c .before .before .before .loop .inv) (c .before .before .loop-test .taken) refl)
+put-requires c κs =
+    let loop = c .before .before .before .loop in
+    let there = c .before .before .loop-test .taken in
+    (omega (arith, row-within (loop .inv .rows-left) there refl), write-room (loop .inv) there refl)
 
 add-i : tie.Need-add-i Inv-loop μ-loop
 add-i c = search needs
@@ -39,7 +42,9 @@ loop-less : tie.Need-loop-less Inv-loop μ-loop
 loop-less c = search needs
 
 loop-again : tie.Need-loop-again Inv-loop μ-loop
-loop-again c = write-turn (c .before .before .before .before .before .before .loop .inv) (c .before .before .before .before .before .loop-test .taken) refl (c .before .before .put .ensures .0) (c .before .before .put .ensures .1)
+loop-again c =
+    let put = c .before .before .put in
+    write-turn (c .before .before .before .before .before .before .loop .inv) (c .before .before .before .before .before .loop-test .taken) refl (put .ensures .0) (put .ensures .1)
 
 same-length : tie.Need-same-length Inv-loop μ-loop
 same-length c = search needs

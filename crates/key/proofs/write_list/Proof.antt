@@ -20,16 +20,24 @@ sub-put : tie.Need-sub-put Inv-loop μ-loop
 sub-put c = search needs
 
 put-requires : tie.Need-put-requires Inv-loop μ-loop
-put-requires c κs = (let few = c .before .before .before .pre .0 .few in omega arith, count-room (c .before .before .before .args .bytes .now) (c .before .before .before .args .at) (c .before .before .before .pre .0) (c .before .before .before .pre .1))
+put-requires c κs =
+    let entry = c .before .before .before .pre in
+    (let few = entry .0 .few in omega arith, count-room (c .before .before .before .args .bytes .now) (c .before .before .before .args .at) (entry .0) (entry .1))
 
 loop-holds : tie.Need-loop-holds Inv-loop μ-loop
-loop-holds c = write-start _ _ (c .before .before .before .before .before .before .pre .0) (c .before .before .put .ensures .0) (c .before .before .put .ensures .1) (c .before .before .before .before .before .before .pre .1)
+loop-holds c =
+    let entry = c .before .before .before .before .before .before .pre in
+    let put = c .before .before .put in
+    write-start _ _ (entry .0) (put .ensures .0) (put .ensures .1) (entry .1)
 
 run-end-requires : tie.Need-run-end-requires Inv-loop μ-loop
 run-end-requires c κs = search needs
 
 write-run-requires : tie.Need-write-run-requires Inv-loop μ-loop
-write-run-requires c κs = (run-list (c .before .before .before .loop .inv .rows-left) _ (c .before .run-end .ensures .0) (c .before .run-end .ensures .1), run-room (c .before .before .before .loop .inv) (c .before .run-end .ensures .0) (c .before .run-end .ensures .1))
+write-run-requires c κs =
+    let loop = c .before .before .before .loop in
+    let end = c .before .run-end in
+    (run-list (loop .inv .rows-left) _ (end .ensures .0) (end .ensures .1), run-room (loop .inv) (end .ensures .0) (end .ensures .1))
 
 sub-before : tie.Need-sub-before Inv-loop μ-loop
 sub-before c = search needs
@@ -44,13 +52,18 @@ loop-less : tie.Need-loop-less Inv-loop μ-loop
 loop-less c = search needs
 
 loop-again : tie.Need-loop-again Inv-loop μ-loop
-loop-again c = run-turn (c .before .before .before .before .before .before .before .loop .inv) (c .before .before .before .before .before .run-end .ensures .0) (c .before .before .before .before .before .run-end .ensures .1) refl (c .before .before .before .write-run .ensures .0) (c .before .before .before .write-run .ensures .1)
+loop-again c =
+    let end = c .before .before .before .before .before .run-end in
+    let run = c .before .before .before .write-run in
+    run-turn (c .before .before .before .before .before .before .before .loop .inv) (end .ensures .0) (end .ensures .1) refl (run .ensures .0) (run .ensures .1)
 
 same-length : tie.Need-same-length Inv-loop μ-loop
 same-length c = search needs
 
 returns : tie.Need-returns Inv-loop μ-loop
-returns c = write-stop _ _ (c .before .before .before .before .before .before .before .before .pre .0) (c .before .before .before .before .put .ensures .0) (c .before .before .before .before .put .ensures .1) (c .before .loop .inv) (c .loop-test .left)
+returns c =
+    let put = c .before .before .before .before .put in
+    write-stop _ _ (c .before .before .before .before .before .before .before .before .pre .0) (put .ensures .0) (put .ensures .1) (c .before .loop .inv) (c .loop-test .left)
 
 pub write-list-spec : {M : Type 1} → statement M
 write-list-spec =

@@ -42,7 +42,10 @@ shared-slice-read-write-list-2 : tie.Need-shared-slice-read-write-list-2 Inv-loo
 shared-slice-read-write-list-2 c = search needs
 
 write-list-requires : tie.Need-write-list-requires Inv-loop μ-loop
-write-list-requires c κs = (column-list (c .before .before .before .before .loop .inv .few) (c .before .before .before .before .loop .inv .lists) (c .before .before .before .loop-test .taken), column-room (c .before .before .before .before .loop .inv) (c .before .before .before .loop-test .taken))
+write-list-requires c κs =
+    let loop = c .before .before .before .before .loop in
+    let there = c .before .before .before .loop-test .taken in
+    (column-list (loop .inv .few) (loop .inv .lists) there, column-room (loop .inv) there)
 
 add-done : tie.Need-add-done Inv-loop μ-loop
 add-done c = search needs
@@ -51,7 +54,9 @@ loop-less : tie.Need-loop-less Inv-loop μ-loop
 loop-less c = search needs
 
 loop-again : tie.Need-loop-again Inv-loop μ-loop
-loop-again c = lists-turn (c .before .before .before .before .before .before .before .loop .inv) (c .before .before .before .before .before .before .loop-test .taken) (c .before .before .write-list .ensures .0) (c .before .before .write-list .ensures .1)
+loop-again c =
+    let list = c .before .before .write-list in
+    lists-turn (c .before .before .before .before .before .before .before .loop .inv) (c .before .before .before .before .before .before .loop-test .taken) (list .ensures .0) (list .ensures .1)
 
 same-length : tie.Need-same-length Inv-loop μ-loop
 same-length c = search needs

@@ -6,7 +6,9 @@ use Rattle.key.proofs.write_run.Statement.{statement}
 use Rattle.key.proofs.write_run.Tie as tie
 
 low-bytes-requires : tie.Need-low-bytes-requires
-low-bytes-requires c κs = (c .before .before .before .pre .0, run-fits (c .before .before .before .pre .0) (c .before .before .before .args .bytes .now) (c .before .before .before .args .at) (c .before .before .before .pre .1))
+low-bytes-requires c κs =
+    let entry = c .before .before .before .pre in
+    (entry .0, run-fits (entry .0) (c .before .before .before .args .bytes .now) (c .before .before .before .args .at) (entry .1))
 
 sub-result : tie.Need-sub-result
 sub-result c = search needs
@@ -27,7 +29,9 @@ same-length-2 : tie.Need-same-length-2
 same-length-2 c = search needs
 
 returns-2 : tie.Need-returns-2
-returns-2 c = (c .before .before .write-gaps .ensures .0, run-over (c .before .before .before .before .before .before .before .before .before .before .before .pre .0) _ _ (c .before .before .before .before .before .before .before .low-bytes .ensures) (c .before .before .write-gaps .ensures .1))
+returns-2 c =
+    let gaps = c .before .before .write-gaps in
+    (gaps .ensures .0, run-over (c .before .before .before .before .before .before .before .before .before .before .before .pre .0) _ _ (c .before .before .before .before .before .before .before .low-bytes .ensures) (gaps .ensures .1))
 
 pub write-run-spec : {M : Type 1} → statement M
 write-run-spec =

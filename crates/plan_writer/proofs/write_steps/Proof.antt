@@ -28,7 +28,9 @@ cast-put : tie.Need-cast-put Inv-loop μ-loop
 cast-put c = omega (arith, c .shared-slice-known3 .given (c .before .before .before .loop .done))
 
 put-requires : tie.Need-put-requires Inv-loop μ-loop
-put-requires c κs = (omega (arith, c .shared-slice-known3 .given (c .before .before .before .loop .done)), column-room (c .before .before .before .loop .inv) (c .before .before .loop-test .taken))
+put-requires c κs =
+    let loop = c .before .before .before .loop in
+    (omega (arith, c .shared-slice-known3 .given (loop .done)), column-room (loop .inv) (c .before .before .loop-test .taken))
 
 mul-put-2 : tie.Need-mul-put-2 Inv-loop μ-loop
 mul-put-2 c = search needs
@@ -40,7 +42,11 @@ cast-put-2 : tie.Need-cast-put-2 Inv-loop μ-loop
 cast-put-2 c = omega (arith, c .shared-slice-known4 .given (c .before .before .before .before .before .before .before .before .loop .done))
 
 put-requires-2 : tie.Need-put-requires-2 Inv-loop μ-loop
-put-requires-2 c κs = (omega (arith, c .shared-slice-known4 .given (c .before .before .before .before .before .before .before .before .loop .done)), pops-room (c .before .before .before .before .before .before .before .before .loop .inv) (c .before .before .before .before .before .before .before .loop-test .taken) (c .before .before .before .before .put .ensures .0) (c .before .before .before .before .put .ensures .1))
+put-requires-2 c κs =
+    let loop = c .before .before .before .before .before .before .before .before .loop in
+    let column = c .before .before .before .before .put in
+    let there = c .before .before .before .before .before .before .before .loop-test .taken in
+    (omega (arith, c .shared-slice-known4 .given (loop .done)), pops-room (loop .inv) there (column .ensures .0) (column .ensures .1))
 
 add-done : tie.Need-add-done Inv-loop μ-loop
 add-done c = search needs
@@ -49,7 +55,12 @@ loop-less : tie.Need-loop-less Inv-loop μ-loop
 loop-less c = search needs
 
 loop-again : tie.Need-loop-again Inv-loop μ-loop
-loop-again c = write-turn (c .before .before .before .before .before .before .before .before .before .before .before .loop .inv) (c .before .before .before .before .before .before .before .before .before .before .loop-test .taken) (c .before .before .before .before .before .before .before .put .ensures .0) (c .before .before .before .before .before .before .before .put .ensures .1) (c .before .before .put2 .ensures .0) (c .before .before .put2 .ensures .1)
+loop-again c =
+    let column = c .before .before .before .before .before .before .before .put in
+    let taken = c .before .before .put2 in
+    let there = c .before .before .before .before .before .before .before .before .before .before .loop-test .taken in
+    let inv = c .before .before .before .before .before .before .before .before .before .before .before .loop .inv in
+    write-turn inv there (column .ensures .0) (column .ensures .1) (taken .ensures .0) (taken .ensures .1)
 
 same-length : tie.Need-same-length Inv-loop μ-loop
 same-length c = search needs
