@@ -100,13 +100,21 @@ pub bytes-length : (x : ℕ) → (0 < length (bytesOf x)) × (length (bytesOf x)
 unfolding bytesOf
 bytes-length x = groups-length (maxGroups - 1) x
 
--- the byte count follows from the leading zeros of 64 bits
-pub count-of-zeros : (x z : ℕ) → x < 2 ^ (7 * maxGroups) → z ≡ leadingZeros 64 x → (z ≤ 64) × (length (bytesOf x) ≡ max 1 ((64 - z + 6) / 7))
+-- the byte count follows from the leading zeros of w bits
+pub count-of-zeros : (w x z : ℕ) → x < 2 ^ w → x < 2 ^ (7 * maxGroups) → z ≡ leadingZeros w x → (z ≤ w) × (length (bytesOf x) ≡ max 1 ((w - z + 6) / 7))
 unfolding bytesOf
-count-of-zeros x z h e =
-    let (m, d, u, l) = leading-length 64 x (omega arith) in
+count-of-zeros w x z f h e =
+    let (m, d, u, l) = leading-length w x f in
     let c = groups-of-digits m (grouped (maxGroups - 1) x h) u l in
     (omega arith, omega arith)
+
+-- a number above 0 has fewer of them than bits
+pub some-bit : (w x : ℕ) → 0 < x → x < 2 ^ w → leadingZeros w x < w
+some-bit w x p f = let (m, d, u, l) = leading-length w x f in go m d u
+  where
+    go : (m : ℕ) → leadingZeros w x + m ≡ w → x < 2 ^ m → leadingZeros w x < w
+    go zero d u = absurd (omega arith)
+    go (suc m) d u = omega arith
 
 -- ---- numbers one after the other
 

@@ -3,7 +3,7 @@
 -- Assumes nothing.
 use Prim.Native.Nat.{ℕ, suc, _+_, _-_, _/_, _%_, _<_, _≤_}
 use mathlib.Core.Path.{_≡_, refl}
-use mathlib.Core.List.{List}
+use mathlib.Core.List.{List, [], _∷_}
 use native.Mathlib.Omega.{arith}
 use native.Mathlib.Numerals.{add-one}
 use lib.ListN.{length, set, length-set}
@@ -12,6 +12,21 @@ use Rattle.papers.specs.Bounds.{maxGroups}
 use Rattle.papers.specs.Numbers.{bytesOf, groupsOf}
 use Rattle.bytes_laws.proofs.Numbers.{Grouped, last, more, grouped, groups-small, groups-large, groups-length}
 use Rattle.groups.specs.Fits.{Fits}
+
+-- below 128 a number is its one byte
+pub bytes-small : (x : ℕ) → x < 128 → bytesOf x ≡ x ∷ []
+unfolding bytesOf
+bytes-small x h = groups-small (maxGroups - 1) x h
+
+-- below 128 times 128 it is two
+pub bytes-two : (x : ℕ) → 128 ≤ x → x < 16384 → bytesOf x ≡ (x % 128 + 128) ∷ (x / 128) ∷ []
+unfolding bytesOf
+bytes-two x l h = rw (groups-large (maxGroups - 2) x l, groups-small (maxGroups - 2) (x / 128) (omega arith))
+
+-- from 128 on it has more than one
+pub bytes-large : (x : ℕ) → 128 ≤ x → 1 < length (bytesOf x)
+unfolding bytesOf
+bytes-large x h = rw (groups-large (maxGroups - 2) x h) (omega (arith, groups-length (maxGroups - 2) (x / 128)))
 
 -- of x, whose bytes go into d₀ from `at` on, v is left, and its groups go into d from i on
 pub record Left (d₀ : List ℕ) (at x : ℕ) (d : List ℕ) (v i : ℕ) : Type 0 where

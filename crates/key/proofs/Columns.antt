@@ -13,14 +13,13 @@ use Rattle.papers.specs.Numbers.{encode}
 use Rattle.papers.specs.Job.{columnOf}
 use Rattle.papers.specs.Key.{listNumbers, listsNumbers, listsOf}
 use Rattle.list_laws.proofs.Ascending.{asc-length}
-use Rattle.bytes_laws.proofs.Gaps.{ListsFit}
+use Rattle.bytes_laws.proofs.Gaps.{ListsFit, length-gaps}
 use Rattle.bytes_laws.proofs.Writing.{encode-short, Left, left-numbers, left-none, left-short, Writes, writes-numbers, room-numbers, writes-none}
 use Rattle.job_laws.proofs.Starts.{start-at, start-within, column-at}
 use Rattle.job_laws.proofs.Passed.{PassedLists, lists-below}
 use Rattle.job_laws.proofs.Laid.{length-lists, lists-at, column-length}
 use Rattle.job_laws.proofs.Keys.{lists-fit}
 use Rattle.key.specs.ListAt.{ListAt}
-use Rattle.key.proofs.Rows.{length-gaps}
 
 -- the numbers of the columns behind the first k
 abbrev pub numbersFrom : ℕ → List ℕ → List ℕ → ℕ → List ℕ
@@ -44,6 +43,7 @@ module _ {n : ℕ} {starts rows : List ℕ} (few : n ≤ maxColumns) (p : Passed
           inside = omega (arith, start-within (p .whole) (suc (suc k)) (omega arith) (omega arith));
           ascending = rw (column-at starts rows k) at (p .ascending (suc k) (omega arith) h);
           few = omega arith;
+          within = λ row m. let q = p .within (suc k) (omega arith) h row (rw (column-at starts rows k) m) in omega arith;
         })
 
     -- its numbers come next

@@ -1,17 +1,18 @@
 -- The numbers of one list, row by row: the rows from i on ascend above the one before them, so the next gap is the next row less that one. They are
 -- counted and written alike, so the two loops share what is said of the rows.
 -- Assumes nothing.
-use Prim.Native.Nat.{ℕ, suc, _+_, _-_, _*_, _<_, _≤_}
+use Prim.Native.Nat.{ℕ, _+_, _-_, _*_, _<_, _≤_}
 use mathlib.Core.Path.{_≡_, refl, ap}
-use mathlib.Core.List.{List, [], _∷_}
+use mathlib.Core.List.{List, [], _∷_, List·Memᴰ·head, List·Memᴰ·tail}
 use native.Mathlib.Omega.{arith}
 use native.Mathlib.Numerals.{add-one}
 use lib.ListN.{length, getD, take, length-take, drop-of-length-le}
 use lib.Seq.{slice, slice-cons, length-slice, sets}
 use Rattle.papers.specs.Bounds.{maxColumns, maxGroups}
-use Rattle.papers.specs.Lists.{Asc}
+use Rattle.papers.specs.Lists.{_∈_, Asc}
 use Rattle.papers.specs.Numbers.{bytesOf, encode}
 use Rattle.papers.specs.Key.{gapsOf, listNumbers}
+use Rattle.bytes_laws.proofs.Gaps.{length-gaps}
 use Rattle.bytes_laws.proofs.Writing.{Left, left-all, left-number, left-none, left-short, Writes, writes-all, writes-number, room-number, writes-none, writes-last}
 use Rattle.key.specs.ListAt.{ListAt}
 
@@ -20,9 +21,11 @@ pub record RowsLeft (rows : List ℕ) (to before i : ℕ) : Type 0 where
   pub inside : to ≤ length rows
   pub high : i ≤ to
   pub ascending : Asc before (slice i to rows)
+  pub few : to - i ≤ maxColumns
+  pub within : (row : ℕ) → row ∈ slice i to rows → row ≤ maxColumns
 
 pub rows-all : {j : ℕ} {rows : List ℕ} {from to : ℕ} → ListAt j rows from to → RowsLeft rows to j from
-rows-all l = record { inside = l .inside; high = l .rises; ascending = l .ascending }
+rows-all l = record { inside = l .inside; high = l .rises; ascending = l .ascending; few = l .few; within = l .within }
 
 module _ {rows : List ℕ} {to before i row : ℕ} (l : RowsLeft rows to before i) (h : i < to) (e : row ≡ getD rows i 0) where
   next-row : slice i to rows ≡ row ∷ slice (i + 1) to rows
@@ -38,19 +41,19 @@ module _ {rows : List ℕ} {to before i row : ℕ} (l : RowsLeft rows to before 
   pub row-above : before < row
   row-above = ascends .0
 
+  pub row-within : row ≤ maxColumns
+  row-within = l .within row (rw next-row (List·Memᴰ·head refl))
+
   pub rows-next : RowsLeft rows to row (i + 1)
-  rows-next = record { inside = l .inside; high = omega arith; ascending = ascends .1 }
+  rows-next =
+      let few = l .few in
+      record { inside = l .inside; high = omega arith; ascending = ascends .1; few = omega arith; within = λ k m. l .within k (rw next-row (List·Memᴰ·tail m)) }
 
 pub gaps-none : {rows : List ℕ} {to before i : ℕ} → RowsLeft rows to before i → to ≤ i → gapsOf before (slice i to rows) ≡ []
 unfolding gapsOf
 gaps-none {rows} {to} {i = i} l h =
     let d : length (take to rows) ≤ i = rw length-take (omega arith) in
     rw (drop-of-length-le (take to rows) d)
-
-pub length-gaps : (b : ℕ) (l : List ℕ) → length (gapsOf b l) ≡ length l
-unfolding gapsOf
-length-gaps b [] = refl
-length-gaps b (x ∷ xs) = ap suc (length-gaps x xs)
 
 -- the numbers of a list: its count, and its gaps
 pub list-is : {j : ℕ} {rows : List ℕ} {from to : ℕ} → ListAt j rows from to → listNumbers j (slice from to rows) ≡ (to - from) ∷ gapsOf j (slice from to rows)
@@ -59,28 +62,35 @@ list-is {j} {rows} {from} {to} l = ap (λ (n : ℕ). n ∷ gapsOf j (slice from 
 
 -- ---- counted
 
-pub record CountsRows (j : ℕ) (rows : List ℕ) (from to first total before i : ℕ) : Type 0 where
+-- the rows before i have a byte each, and `more`
+pub record CountsRows (j : ℕ) (rows : List ℕ) (from to more before i : ℕ) : Type 0 where
   pub rows-left : RowsLeft rows to before i
-  pub counted : Left (gapsOf j (slice from to rows)) first (gapsOf before (slice i to rows)) total
+  pub low : from ≤ i
+  pub counted : Left (gapsOf j (slice from to rows)) 0 (gapsOf before (slice i to rows)) (i - from + more)
 
-module _ {j : ℕ} {rows : List ℕ} {from to first total before i : ℕ} where
-  pub count-turn : {row m : ℕ} → CountsRows j rows from to first total before i → i < to → row ≡ getD rows i 0 → m ≡ length (bytesOf (row - before))
-      → CountsRows j rows from to first (total + m) row (i + 1)
-  count-turn c h e f =
-      record { rows-left = rows-next (c .rows-left) h e; counted = left-number (c .counted) (gaps-next (c .rows-left) h e) f }
+pub count-start : {j : ℕ} {rows : List ℕ} {from to : ℕ} → ListAt j rows from to → CountsRows j rows from to 0 j from
+count-start l = record { rows-left = rows-all l; low = omega arith; counted = record { place = omega arith } }
 
-  -- the count stays small
-  pub count-short : ListAt j rows from to → CountsRows j rows from to first total before i → total ≤ first + maxGroups * maxColumns
-  count-short l c =
-      let few = l .few in
-      omega (arith, left-short (c .counted), length-gaps j (slice from to rows), length-slice from to rows (l .inside))
+module _ {j : ℕ} {rows : List ℕ} {from to more before i : ℕ} (c : CountsRows j rows from to more before i) where
+  pub count-turn : i < to → {row : ℕ} → row ≡ getD rows i 0 → (m : ℕ) → m + 1 ≡ length (bytesOf (row - before)) → CountsRows j rows from to (more + m) row (i + 1)
+  count-turn h e m f =
+      let low = c .low in
+      let next = left-number (c .counted) (gaps-next (c .rows-left) h e) refl .place in
+      record { rows-left = rows-next (c .rows-left) h e; low = omega arith; counted = record { place = omega arith } }
 
-  pub count-stop : ListAt j rows from to → CountsRows j rows from to first total before i → to ≤ i → first ≡ length (bytesOf (to - from))
-      → total ≡ length (encode (listNumbers j (slice from to rows)))
-  count-stop l c h e =
-      let whole : Left (listNumbers j (slice from to rows)) 0 (gapsOf j (slice from to rows)) (0 + first) = left-number left-all (list-is l) e in
-      let p = whole .place in
-      omega (arith, left-none (c .counted) (gaps-none (c .rows-left) h))
+  module _ (l : ListAt j rows from to) where
+    -- the count stays small
+    pub count-short : more ≤ maxGroups * maxColumns
+    count-short =
+        let few = l .few in
+        omega (arith, left-short (c .counted), length-gaps j (slice from to rows), length-slice from to rows (l .inside))
+
+    pub count-stop : to ≤ i → {first : ℕ} → first ≡ length (bytesOf (to - from)) → first + (to - from) + more ≡ length (encode (listNumbers j (slice from to rows)))
+    count-stop h {first} e =
+        let high = c .rows-left .high in
+        let whole : Left (listNumbers j (slice from to rows)) 0 (gapsOf j (slice from to rows)) (0 + first) = left-number left-all (list-is l) e in
+        let p = whole .place in
+        omega (arith, left-none (c .counted) (gaps-none (c .rows-left) h))
 
 -- ---- written
 
@@ -88,6 +98,16 @@ pub record WritesRows (j : ℕ) (rows : List ℕ) (from to : ℕ) (d₀ : List �
   pub rows-left : RowsLeft rows to before i
   pub written : Writes (gapsOf j (slice from to rows)) d₀ first (gapsOf before (slice i to rows)) d next
   pub room : first + length (encode (gapsOf j (slice from to rows))) ≤ length d₀
+
+-- the gaps alone
+pub gaps-start : {b : ℕ} {rows : List ℕ} {from to : ℕ} {d : List ℕ} {at : ℕ} → ListAt b rows from to → at + length (encode (gapsOf b (slice from to rows))) ≤ length d
+    → WritesRows b rows from to d at d at b from
+gaps-start l h = record { rows-left = rows-all l; written = writes-all; room = h }
+
+pub gaps-stop : {b : ℕ} {rows : List ℕ} {from to : ℕ} {d₀ : List ℕ} {at : ℕ} {d : List ℕ} {next before i : ℕ}
+    → WritesRows b rows from to d₀ at d next before i → to ≤ i
+    → (next ≡ at + length (encode (gapsOf b (slice from to rows)))) × (d ≡ sets d₀ at (encode (gapsOf b (slice from to rows))))
+gaps-stop w h = writes-none (w .written) (gaps-none (w .rows-left) h)
 
 -- there is room for the count
 pub count-room : (entry : List ℕ) (at : ℕ) {j : ℕ} {rows : List ℕ} {from to : ℕ} → ListAt j rows from to
@@ -108,7 +128,7 @@ module _ (entry : List ℕ) (at : ℕ) {j : ℕ} {rows : List ℕ} {from to firs
 
   pub write-stop : {d : List ℕ} {next before i : ℕ} → WritesRows j rows from to d₀ first d next before i → to ≤ i
       → (next ≡ at + length (encode (listNumbers j (slice from to rows)))) × (d ≡ sets entry at (encode (listNumbers j (slice from to rows))))
-  write-stop w h = let (p, q) = writes-none (w .written) (gaps-none (w .rows-left) h) in writes-last behind-count p q
+  write-stop w h = let (p, q) = gaps-stop w h in writes-last behind-count p q
 
 module _ {j : ℕ} {rows : List ℕ} {from to : ℕ} {d₀ : List ℕ} {first : ℕ} {d : List ℕ} {next before i : ℕ} (w : WritesRows j rows from to d₀ first d next before i)
     (h : i < to) {row : ℕ} (e : row ≡ getD rows i 0) where

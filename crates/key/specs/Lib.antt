@@ -1,1 +1,2 @@
 pub mod ListAt
+pub mod LowBytes

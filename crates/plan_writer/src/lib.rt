@@ -28,7 +28,7 @@ pub fn steps_length(order: &[u32], pops: &[u32]) -> usize
     total
 }
 
-// Writes the steps from `at` on, and answers the place behind them. The first i are written up to next.
+// Writes the steps from `at` on, and answers the place behind them. The first `done` are written up to next.
 pub fn write_steps(order: &[u32], pops: &[u32], bytes: &mut [u8], at: usize) -> usize
     requires paired { ⌜ length (now order) ≤ length (now pops) ⌝ }
     requires room { ⌜ at + length (encode (stepNumbers (stepsIn (now order) (now pops)))) ≤ length (now bytes) ⌝ }
@@ -36,11 +36,11 @@ pub fn write_steps(order: &[u32], pops: &[u32], bytes: &mut [u8], at: usize) -> 
     ensures writes { λ r. ⌜ now (bytes .exit) ≡ sets (now (bytes .entry)) at (encode (stepNumbers (stepsIn (now (order .entry)) (now (pops .entry))))) ⌝ }
 {
     let mut next = at;
-    let mut i = 0;
-    while i < order.len() {
-        next = groups::put(bytes, next, order[i] as u64);
-        next = groups::put(bytes, next, pops[i] as u64);
-        i += 1;
+    let mut done = 0;
+    while done < order.len() {
+        next = groups::put(bytes, next, order[done] as u64);
+        next = groups::put(bytes, next, pops[done] as u64);
+        done += 1;
     }
     next
 }

@@ -1,17 +1,18 @@
--- A number of m binary digits has m / 7 groups, rounded up, and at least one; 64 less the leading zeros is m.
+-- Below 128 a number is its one byte. A number of m binary digits has m / 7 groups, rounded up, and at least one; 64 less the leading zeros is m.
 -- Assumes nothing.
 use mathlib.Core.Path.{refl}
 use native.Mathlib.Omega.{arith}
 use borrow.Author.Needs.{needs}
 use Rattle.bytes_laws.proofs.Numbers.{count-of-zeros}
+use Rattle.groups.proofs.Written.{bytes-small, bytes-large}
 use Rattle.groups.proofs.length.Statement.{statement}
 use Rattle.groups.proofs.length.Tie as tie
 
-sub-bits : tie.Need-sub-bits
-sub-bits c = omega (arith, count-of-zeros (c .args .x) _ (c .pre) refl)
-
 returns : tie.Need-returns
-returns c = omega (arith, count-of-zeros (c .before .args .x) _ (c .before .pre) refl)
+returns c = rw (bytes-small (c .before .args .x) (c .if1 .taken)) refl
+
+sub-bits : tie.Need-sub-bits
+sub-bits c = omega (arith, count-of-zeros 64 (c .before .args .x) _ (omega (arith, c .before .pre)) (c .before .pre) refl)
 
 add-result : tie.Need-add-result
 add-result c = search needs
@@ -20,7 +21,7 @@ cast-result : tie.Need-cast-result
 cast-result c = search needs
 
 returns-2 : tie.Need-returns-2
-returns-2 c = omega (arith, count-of-zeros (c .before .args .x) _ (c .before .pre) refl)
+returns-2 c = omega (arith, count-of-zeros 64 (c .before .args .x) _ (omega (arith, c .before .pre)) (c .before .pre) refl, bytes-large (c .before .args .x) (c .if1 .left))
 
 pub length-spec : {M : Type 1} → statement M
-length-spec = tie.close (tie.spec sub-bits returns add-result cast-result returns-2)
+length-spec = tie.close (tie.spec returns sub-bits add-result cast-result returns-2)

@@ -17,8 +17,14 @@ abbrev μ-loop : tie.MeasureT-loop
 
 loop-holds : tie.Need-loop-holds Inv-loop μ-loop
 loop-holds c =
-    let entry = c .before .before in
-    record { few = entry .pre .0; lists = lists-iff _ _ _ .0 (entry .pre .1 .0, entry .pre .1 .1); high = omega arith; counted = left-all }
+    let entry = c .before .before .pre in
+    record { few = entry .0; lists = lists-iff _ _ _ .0 (entry .1 .0, entry .1 .1); high = omega arith; counted = left-all }
+
+add-j : tie.Need-add-j Inv-loop μ-loop
+add-j c = search needs
+
+cast-j : tie.Need-cast-j Inv-loop μ-loop
+cast-j c = search needs
 
 mul-list-length : tie.Need-mul-list-length Inv-loop μ-loop
 mul-list-length c = search needs
@@ -34,9 +40,6 @@ mul-list-length-2 c = search needs
 
 shared-slice-read-list-length-2 : tie.Need-shared-slice-read-list-length-2 Inv-loop μ-loop
 shared-slice-read-list-length-2 c = search needs
-
-add-list-length-2 : tie.Need-add-list-length-2 Inv-loop μ-loop
-add-list-length-2 c = search needs
 
 list-length-requires : tie.Need-list-length-requires Inv-loop μ-loop
 list-length-requires c κs = column-list (c .before .before .before .loop .inv .few) (c .before .before .before .loop .inv .lists) (c .before .before .loop-test .taken)
@@ -63,12 +66,13 @@ lists-length-spec =
     Inv-loop
     μ-loop
     loop-holds
+    add-j
+    cast-j
     mul-list-length
     shared-slice-read-list-length
     add-list-length
     mul-list-length-2
     shared-slice-read-list-length-2
-    add-list-length-2
     list-length-requires
     add-total
     add-done

@@ -1,9 +1,12 @@
--- The invariant: storing the gaps of the rows from i on at next leaves what storing all of them behind the count leaves. The measure is the rows left.
+-- The invariant: storing the gaps of the rows from i on at next leaves what storing all of them behind the count leaves. A turn writes a run of rows.
+-- The measure is the rows left.
 -- Assumes nothing.
 use Prim.Native.Nat.{_-_}
+use mathlib.Core.Path.{refl}
 use native.Mathlib.Omega.{arith}
 use borrow.Author.Needs.{needs}
-use Rattle.key.proofs.Rows.{count-room, WritesRows, row-above, write-start, write-room, write-turn, write-stop}
+use Rattle.key.proofs.Rows.{count-room, WritesRows, write-start, write-stop}
+use Rattle.key.proofs.Runs.{run-list, run-room, run-turn}
 use Rattle.key.proofs.write_list.Statement.{statement}
 use Rattle.key.proofs.write_list.Tie as tie
 
@@ -18,43 +21,49 @@ sub-put c = search needs
 
 put-requires : tie.Need-put-requires Inv-loop μ-loop
 put-requires c κs =
-    let entry = c .before .before .before in
-    (let few = entry .pre .0 .few in omega arith, count-room (entry .args .bytes .now) (entry .args .at) (entry .pre .0) (entry .pre .1))
+    let entry = c .before .before .before .pre in
+    (let few = entry .0 .few in omega arith, count-room (c .before .before .before .args .bytes .now) (c .before .before .before .args .at) (entry .0) (entry .1))
 
 loop-holds : tie.Need-loop-holds Inv-loop μ-loop
 loop-holds c =
-    let entry = c .before .before .before .before .before .before in
-    write-start _ _ (entry .pre .0) (c .before .before .put .ensures .0) (c .before .before .put .ensures .1) (entry .pre .1)
+    let entry = c .before .before .before .before .before .before .pre in
+    let put = c .before .before .put in
+    write-start _ _ (entry .0) (put .ensures .0) (put .ensures .1) (entry .1)
 
-mul-wide : tie.Need-mul-wide Inv-loop μ-loop
-mul-wide c = search needs
+run-end-requires : tie.Need-run-end-requires Inv-loop μ-loop
+run-end-requires c κs = search needs
 
-shared-slice-read-wide : tie.Need-shared-slice-read-wide Inv-loop μ-loop
-shared-slice-read-wide c = search needs
+write-run-requires : tie.Need-write-run-requires Inv-loop μ-loop
+write-run-requires c κs =
+    let loop = c .before .before .before .loop in
+    let end = c .before .run-end in
+    (run-list (loop .inv .rows-left) _ (end .ensures .0) (end .ensures .1), run-room (loop .inv) (end .ensures .0) (end .ensures .1))
 
-wide-requires : tie.Need-wide-requires Inv-loop μ-loop
-wide-requires c κs = search needs
+sub-before : tie.Need-sub-before Inv-loop μ-loop
+sub-before c = search needs
 
-sub-put-2 : tie.Need-sub-put-2 Inv-loop μ-loop
-sub-put-2 c = omega (arith, row-above (c .before .before .before .before .loop .inv .rows-left) (c .before .before .before .loop-test .taken) (c .before .wide .ensures .0))
+mul-before : tie.Need-mul-before Inv-loop μ-loop
+mul-before c = search needs
 
-put-requires-2 : tie.Need-put-requires-2 Inv-loop μ-loop
-put-requires-2 c κs = (search needs, write-room (c .before .before .before .before .loop .inv) (c .before .before .before .loop-test .taken) (c .before .wide .ensures .0))
-
-add-i : tie.Need-add-i Inv-loop μ-loop
-add-i c = search needs
+shared-slice-read-before : tie.Need-shared-slice-read-before Inv-loop μ-loop
+shared-slice-read-before c = search needs
 
 loop-less : tie.Need-loop-less Inv-loop μ-loop
 loop-less c = search needs
 
 loop-again : tie.Need-loop-again Inv-loop μ-loop
-loop-again c = write-turn (c .before .before .before .before .before .before .before .loop .inv) (c .before .before .before .before .before .before .loop-test .taken) (c .before .before .before .before .wide .ensures .0) (c .before .before .put2 .ensures .0) (c .before .before .put2 .ensures .1)
+loop-again c =
+    let end = c .before .before .before .before .before .run-end in
+    let run = c .before .before .before .write-run in
+    run-turn (c .before .before .before .before .before .before .before .loop .inv) (end .ensures .0) (end .ensures .1) refl (run .ensures .0) (run .ensures .1)
 
 same-length : tie.Need-same-length Inv-loop μ-loop
 same-length c = search needs
 
 returns : tie.Need-returns Inv-loop μ-loop
-returns c = write-stop _ _ (c .before .before .before .before .before .before .before .before .pre .0) (c .before .before .before .before .put .ensures .0) (c .before .before .before .before .put .ensures .1) (c .before .loop .inv) (c .loop-test .left)
+returns c =
+    let put = c .before .before .before .before .put in
+    write-stop _ _ (c .before .before .before .before .before .before .before .before .pre .0) (put .ensures .0) (put .ensures .1) (c .before .loop .inv) (c .loop-test .left)
 
 pub write-list-spec : {M : Type 1} → statement M
 write-list-spec =
@@ -65,12 +74,11 @@ write-list-spec =
     sub-put
     put-requires
     loop-holds
-    mul-wide
-    shared-slice-read-wide
-    wide-requires
-    sub-put-2
-    put-requires-2
-    add-i
+    run-end-requires
+    write-run-requires
+    sub-before
+    mul-before
+    shared-slice-read-before
     loop-less
     loop-again
     same-length

@@ -17,8 +17,14 @@ abbrev μ-loop : tie.MeasureT-loop
 
 loop-holds : tie.Need-loop-holds Inv-loop μ-loop
 loop-holds c =
-    let entry = c .before .before .before in
-    record { few = entry .pre .0; lists = lists-iff _ _ _ .0 (entry .pre .1 .0, entry .pre .1 .1 .0); high = omega arith; written = writes-all; room = entry .pre .1 .1 .1 }
+    let entry = c .before .before .before .pre in
+    record { few = entry .0; lists = lists-iff _ _ _ .0 (entry .1 .0, entry .1 .1 .0); high = omega arith; written = writes-all; room = entry .1 .1 .1 }
+
+add-j : tie.Need-add-j Inv-loop μ-loop
+add-j c = search needs
+
+cast-j : tie.Need-cast-j Inv-loop μ-loop
+cast-j c = search needs
 
 mul-write-list : tie.Need-mul-write-list Inv-loop μ-loop
 mul-write-list c = search needs
@@ -35,11 +41,11 @@ mul-write-list-2 c = search needs
 shared-slice-read-write-list-2 : tie.Need-shared-slice-read-write-list-2 Inv-loop μ-loop
 shared-slice-read-write-list-2 c = search needs
 
-add-write-list-2 : tie.Need-add-write-list-2 Inv-loop μ-loop
-add-write-list-2 c = search needs
-
 write-list-requires : tie.Need-write-list-requires Inv-loop μ-loop
-write-list-requires c κs = (column-list (c .before .before .before .before .loop .inv .few) (c .before .before .before .before .loop .inv .lists) (c .before .before .before .loop-test .taken), column-room (c .before .before .before .before .loop .inv) (c .before .before .before .loop-test .taken))
+write-list-requires c κs =
+    let loop = c .before .before .before .before .loop in
+    let there = c .before .before .before .loop-test .taken in
+    (column-list (loop .inv .few) (loop .inv .lists) there, column-room (loop .inv) there)
 
 add-done : tie.Need-add-done Inv-loop μ-loop
 add-done c = search needs
@@ -48,7 +54,9 @@ loop-less : tie.Need-loop-less Inv-loop μ-loop
 loop-less c = search needs
 
 loop-again : tie.Need-loop-again Inv-loop μ-loop
-loop-again c = lists-turn (c .before .before .before .before .before .before .before .loop .inv) (c .before .before .before .before .before .before .loop-test .taken) (c .before .before .write-list .ensures .0) (c .before .before .write-list .ensures .1)
+loop-again c =
+    let list = c .before .before .write-list in
+    lists-turn (c .before .before .before .before .before .before .before .loop .inv) (c .before .before .before .before .before .before .loop-test .taken) (list .ensures .0) (list .ensures .1)
 
 same-length : tie.Need-same-length Inv-loop μ-loop
 same-length c = search needs
@@ -63,12 +71,13 @@ write-lists-spec =
     Inv-loop
     μ-loop
     loop-holds
+    add-j
+    cast-j
     mul-write-list
     shared-slice-read-write-list
     add-write-list
     mul-write-list-2
     shared-slice-read-write-list-2
-    add-write-list-2
     write-list-requires
     add-done
     loop-less

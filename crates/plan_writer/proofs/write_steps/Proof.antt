@@ -1,4 +1,4 @@
--- The invariant: storing the steps from i on at next leaves what storing all of them leaves. The measure is the steps left.
+-- The invariant: storing the steps behind the first `done` at next leaves what storing all of them leaves. The measure is the steps left.
 -- Assumes nothing.
 use Prim.Native.Nat.{_-_}
 use native.Mathlib.Omega.{arith}
@@ -10,10 +10,10 @@ use Rattle.plan_writer.proofs.write_steps.Statement.{statement}
 use Rattle.plan_writer.proofs.write_steps.Tie as tie
 
 abbrev Inv-loop : tie.InvT-loop
-Inv-loop order pops bytes₀ at next₀ i₀ bytes next i = WritesSteps order pops bytes₀ next₀ bytes next i
+Inv-loop order pops bytes₀ at next₀ done₀ bytes next done = WritesSteps order pops bytes₀ next₀ bytes next done
 
 abbrev μ-loop : tie.MeasureT-loop
-μ-loop order pops bytes₀ at next₀ i₀ bytes next i = length order - i
+μ-loop order pops bytes₀ at next₀ done₀ bytes next done = length order - done
 
 loop-holds : tie.Need-loop-holds Inv-loop μ-loop
 loop-holds c = record { paired = c .before .before .before .pre .0; written = writes-all; room = c .before .before .before .pre .1 }
@@ -25,10 +25,12 @@ shared-slice-read-put : tie.Need-shared-slice-read-put Inv-loop μ-loop
 shared-slice-read-put c = search needs
 
 cast-put : tie.Need-cast-put Inv-loop μ-loop
-cast-put c = omega (arith, c .shared-slice-known3 .given (c .before .before .before .loop .i))
+cast-put c = omega (arith, c .shared-slice-known3 .given (c .before .before .before .loop .done))
 
 put-requires : tie.Need-put-requires Inv-loop μ-loop
-put-requires c κs = (omega (arith, c .shared-slice-known3 .given (c .before .before .before .loop .i)), column-room (c .before .before .before .loop .inv) (c .before .before .loop-test .taken))
+put-requires c κs =
+    let loop = c .before .before .before .loop in
+    (omega (arith, c .shared-slice-known3 .given (loop .done)), column-room (loop .inv) (c .before .before .loop-test .taken))
 
 mul-put-2 : tie.Need-mul-put-2 Inv-loop μ-loop
 mul-put-2 c = search needs
@@ -37,19 +39,28 @@ shared-slice-read-put-2 : tie.Need-shared-slice-read-put-2 Inv-loop μ-loop
 shared-slice-read-put-2 c = search needs
 
 cast-put-2 : tie.Need-cast-put-2 Inv-loop μ-loop
-cast-put-2 c = omega (arith, c .shared-slice-known4 .given (c .before .before .before .before .before .before .before .before .loop .i))
+cast-put-2 c = omega (arith, c .shared-slice-known4 .given (c .before .before .before .before .before .before .before .before .loop .done))
 
 put-requires-2 : tie.Need-put-requires-2 Inv-loop μ-loop
-put-requires-2 c κs = (omega (arith, c .shared-slice-known4 .given (c .before .before .before .before .before .before .before .before .loop .i)), pops-room (c .before .before .before .before .before .before .before .before .loop .inv) (c .before .before .before .before .before .before .before .loop-test .taken) (c .before .before .before .before .put .ensures .0) (c .before .before .before .before .put .ensures .1))
+put-requires-2 c κs =
+    let loop = c .before .before .before .before .before .before .before .before .loop in
+    let column = c .before .before .before .before .put in
+    let there = c .before .before .before .before .before .before .before .loop-test .taken in
+    (omega (arith, c .shared-slice-known4 .given (loop .done)), pops-room (loop .inv) there (column .ensures .0) (column .ensures .1))
 
-add-i : tie.Need-add-i Inv-loop μ-loop
-add-i c = search needs
+add-done : tie.Need-add-done Inv-loop μ-loop
+add-done c = search needs
 
 loop-less : tie.Need-loop-less Inv-loop μ-loop
 loop-less c = search needs
 
 loop-again : tie.Need-loop-again Inv-loop μ-loop
-loop-again c = write-turn (c .before .before .before .before .before .before .before .before .before .before .before .loop .inv) (c .before .before .before .before .before .before .before .before .before .before .loop-test .taken) (c .before .before .before .before .before .before .before .put .ensures .0) (c .before .before .before .before .before .before .before .put .ensures .1) (c .before .before .put2 .ensures .0) (c .before .before .put2 .ensures .1)
+loop-again c =
+    let column = c .before .before .before .before .before .before .before .put in
+    let taken = c .before .before .put2 in
+    let there = c .before .before .before .before .before .before .before .before .before .before .loop-test .taken in
+    let inv = c .before .before .before .before .before .before .before .before .before .before .before .loop .inv in
+    write-turn inv there (column .ensures .0) (column .ensures .1) (taken .ensures .0) (taken .ensures .1)
 
 same-length : tie.Need-same-length Inv-loop μ-loop
 same-length c = search needs
@@ -72,7 +83,7 @@ write-steps-spec =
     shared-slice-read-put-2
     cast-put-2
     put-requires-2
-    add-i
+    add-done
     loop-less
     loop-again
     same-length
