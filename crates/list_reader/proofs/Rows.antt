@@ -4,14 +4,20 @@
 use Prim.Native.Nat.{zero, suc, ℕ, _+_, _-_, _<_, _≤_}
 use mathlib.Core.List.{List, [], _∷_, _++_}
 use mathlib.Core.Path.{_≡_, refl, sym, ap, _∙_}
+use mathlib.Core.Logic.{_≢_}
+use mathlib.Core.Bool.{false}
 use native.Mathlib.Omega.{arith}
+use lib.Dec.{leb}
 use lib.ListN.{length, getD, set, length-append}
-use lib.Seq.{length-sets}
+use lib.Seq.{sets, length-sets, set-set, set-comm}
+use borrow.Author.Tests.{leb-false}
 use Rattle.papers.specs.Plan.{onto, readList, got, bad, field, readRows}
 use Rattle.list_laws.proofs.Stores.{sets-append}
 use Rattle.bytes_laws.proofs.Fields as fields
 use Rattle.bytes_laws.proofs.Fields.{then-got, then-bad}
-use Rattle.list_reader.specs.Reading.{Told, finds, RowsRead, RowsIn}
+use Rattle.bytes_laws.proofs.Reaches.{rows-reach}
+use Rattle.list_reader.specs.Reading.{Told, finds, refuses, RowsRead, QuickRead, RowsIn}
+use Rattle.list_reader.specs.declared.Reading.{Reading}
 use Rattle.list_reader.specs.declared.Reading.the-variants.{Found}
 use Rattle.list_reader.proofs.Answers.{in-range, field-by-number, one-group, field-found}
 use Rattle.list_reader.proofs.Onto.{onto-nil, more, fails, ends}
@@ -124,3 +130,55 @@ short-turn {n} {s} {b} {left} {at} {t} {rows = rows} {i = i} {last = last} {gap 
     let u : t + (i + 1) ≡ t + i + 1 = omega arith in
     let found = field-found 1 (n - last) s (at + i) (field-by-number 1 (n - last) s (at + i) (one-group s (at + i) there e short) (in-range 1 (n - last) (at + i) gap (at + i + 1) low high)) refl in
     rw (k, o, u) (rows-both x (rows-one n s last (left - i) (at + i) (t + i) rows (omega arith) (x .high) found kept))
+
+-- ---- rows read quickly
+
+module _ {n : ℕ} {s : List ℕ} {j count at t : ℕ} {rows₀ rows : List ℕ} {k last left total : ℕ} (x : RowsRead n s j count at t rows₀ rows k last left total) where
+  pub quick-room : leb (length rows) total ≡ false → total < length rows₀
+  quick-room e = let l = rows-long x in omega (arith, leb-false (length rows) total e)
+
+  -- one more, whose gap has two groups
+  pub quick-turn : {gap row : ℕ} → 0 < left → field 1 (n - last) s k ≡ got gap (k + 2) → row ≡ last + gap
+      → RowsRead n s j count at t rows₀ (set rows total row) (k + 2) (last + gap) (left - 1) (total + 1)
+  quick-turn {gap} h f e = rows-both x (rows-one n s last left k total rows h (x .high) (f, fields.field-got 1 (n - last) s k gap (k + 2) f) (ap (set rows total) e))
+
+  -- all are read
+  pub quick-stop : left ≡ 0 → QuickRead n s j count at t rows₀ rows k
+  quick-stop z =
+      let a = x .counted in
+      record { list = x .list; few = omega arith; kept = x .kept; whole = λ h. (ends (x .list) (x .whole) (rows-none n last s k left z), omega arith) }
+
+  -- the rest is left to the other reader
+  pub quick-part : QuickRead n s j count at t rows₀ rows 0
+  quick-part = let a = x .counted in record { list = x .list; few = omega arith; kept = x .kept; whole = λ h. absurd (h refl) }
+
+-- a store before what is stored further on may come first
+set-sets : (xs l : List ℕ) (i j y : ℕ) → i < j → set (sets l j xs) i y ≡ sets (set l i y) j xs
+set-sets [] l i j y h = refl
+set-sets (x ∷ xs) l i j y h = set-sets xs (set l j x) i (suc j) y (omega arith) ∙ ap (λ (m : List ℕ). sets m (suc j) xs) (set-comm l j i x y (λ e. omega arith))
+
+-- what is stored over no more than it covers is as if stored at once
+sets-over : (xs ys l : List ℕ) (i : ℕ) → length xs ≤ length ys → sets (sets l i xs) i ys ≡ sets l i ys
+sets-over [] ys l i h = refl
+sets-over (x ∷ xs) [] l i h = absurd (omega arith)
+sets-over (x ∷ xs) (y ∷ ys) l i h =
+    ap (λ (m : List ℕ). sets m (suc i) ys) (set-sets xs (set l i x) i (suc i) y (omega arith))
+    ∙ ap (λ (m : List ℕ). sets (sets m (suc i) xs) (suc i) ys) (set-set l i x y)
+    ∙ sets-over xs ys (set l i y) (suc i) (omega arith)
+
+module _ {n : ℕ} {s : List ℕ} {j count at t : ℕ} {rows₀ rows : List ℕ} {r : ℕ} (q : QuickRead n s j count at t rows₀ rows r) where
+  pub quick-long : length rows ≡ length rows₀
+  quick-long = ap length (q .kept) ∙ length-sets rows₀ t (q .list)
+
+  pub quick-told : r ≢ 0 → Told (λ list. t + length list) (RowsIn t rows₀ rows) (readRows n j count s at) (Found (t + count) r)
+  quick-told h =
+      let (e, l) = q .whole h in
+      finds (q .list) r e (ap (λ (v : ℕ). Found (t + v) r) (sym l)) (q .kept)
+
+  -- what the other reader keeps covers what was kept
+  pub quick-again : {rows′ : List ℕ} {a : Reading} → Told (λ list. t + length list) (RowsIn t rows rows′) (readRows n j count s at) a → Told (λ list. t + length list) (RowsIn t rows₀ rows′) (readRows n j count s at) a
+  quick-again (refuses number place e g) = refuses number place e g
+  quick-again (finds list next e g k) =
+      let l = rows-reach n s j count at list next e .0 in
+      let f = q .few in
+      finds list next e g (k ∙ ap (λ (m : List ℕ). sets m t list) (q .kept) ∙ sets-over (q .list) list rows₀ t (omega arith))

@@ -3,6 +3,7 @@
 -- Assumes nothing.
 use Prim.Native.Nat.{ℕ, _+_, _≤_}
 use mathlib.Core.Path.{_≡_}
+use mathlib.Core.Logic.{_≢_}
 use mathlib.Core.List.{List}
 use lib.ListN.{length}
 use lib.Seq.{sets}
@@ -31,6 +32,13 @@ pub record RowsRead (n : ℕ) (s : List ℕ) (j count at t : ℕ) (rows₀ rows 
   pub inside : k ≤ length s
   pub high : last ≤ n
   pub kept : rows ≡ sets rows₀ t list
+
+-- Rows read quickly: as many as there are places for in the list are kept, and where r is not 0 they are the whole list, and r is the place behind it.
+pub record QuickRead (n : ℕ) (s : List ℕ) (j count at t : ℕ) (rows₀ rows : List ℕ) (r : ℕ) : Type 0 where
+  pub list : List ℕ
+  pub few : length list ≤ count
+  pub kept : rows ≡ sets rows₀ t list
+  pub whole : r ≢ 0 → (readRows n j count s at ≡ got list r) × (length list ≡ count)
 
 -- rows from place t on
 abbrev pub RowsIn : ℕ → List ℕ → List ℕ → List ℕ → Type 0

@@ -1,13 +1,14 @@
 // A field, and the list of a column, read from any bytes.
 // Nothing of the bytes is believed before its range is tested, and a row that finds no room is counted all the same.
 ghost use mathlib.Core.Path.{_≡_};
+ghost use mathlib.Core.Logic.{_≢_};
 ghost use Prim.Native.Nat.{ℕ, _+_, _-_, _^_, _≤_, _<_};
 ghost use mathlib.Core.List.{List};
 ghost use lib.ListN.{length, set};
 ghost use Rattle.papers.specs.Bounds.{maxColumns};
-ghost use Rattle.papers.specs.Plan.{inField, field, readRows, readList};
+ghost use Rattle.papers.specs.Plan.{got, inField, field, readRows, readList};
 ghost use Rattle.papers.specs.declared.Number.the-variants.{Value};
-ghost use Rattle.list_reader.specs.Reading.{reading, Told, RowsRead, RowsIn};
+ghost use Rattle.list_reader.specs.Reading.{reading, Told, RowsRead, QuickRead, RowsIn};
 use papers::Number;
 
 // What reading a part of a plan answers: a number of that part and the place behind it; or a refusal's number and place.
@@ -138,6 +139,66 @@ fn short_rows(
     ShortRows { count: i, last }
 }
 
+// The gap of two groups that starts at `at`, if there is one and it is at most `high`; else 0.
+fn two_groups(plan: &[u8], at: usize, high: u64) -> u64
+    requires { ⌜ (at ≤ length (now plan)) × (high ≤ maxColumns) ⌝ }
+    ensures { λ r. ⌜ (r ≢ 0 → field 1 high (now (plan .entry)) at ≡ got r (at + 2)) ⌝ }
+{
+    if plan.len() - at < 2 {
+        return 0;
+    }
+    let low = wide(plan[at]);
+    let next = wide(plan[at + 1]);
+    if low < 128 || next == 0 {
+        return 0;
+    }
+    let gap = low - 128 + 128 * next;
+    if high < gap {
+        return 0;
+    }
+    gap
+}
+
+// The rows of column j as read_rows reads and keeps them, where each gap has one group or two and all find room: the place behind them. Else 0, and what
+// is kept so far lies where read_rows will keep its own. Nothing is called in the loop but what is read in line, so its counters stay in registers.
+fn quick_rows(
+    plan: &[u8],
+    at: usize,
+    n: u64,
+    j: u64,
+    count: u64,
+    t: usize,
+    rows: &mut [u32],
+) -> usize
+    requires { ⌜ (at ≤ length (now plan)) × (n ≤ maxColumns) × (j ≤ n) × (t ≤ at) ⌝ }
+    ensures { λ r. ⌜ QuickRead n (now (plan .entry)) j count at t (now (rows .entry)) (now (rows .exit)) r ⌝ }
+{
+    let mut k = at;
+    let mut row = j;
+    let mut rest = count;
+    let mut total = t;
+    while 0 < rest {
+        let short = short_rows(plan, k, n, row, rest, total, rows);
+        row = short.last;
+        k += short.count;
+        total += short.count;
+        rest -= short.count as u64;
+        if rest == 0 {
+            break;
+        }
+        let gap = two_groups(plan, k, n - row);
+        if gap == 0 || rows.len() <= total {
+            return 0;
+        }
+        row += gap;
+        rows[total] = narrow(row);
+        total += 1;
+        k += 2;
+        rest -= 1;
+    }
+    k
+}
+
 // The rows of column j by their gaps, `count` of them from `at` on: keeps them from place t on while there is room, answers the place behind them,
 // kept or not. The rows before place `total` are read, `row` is the last of them, or j, and `left` are to come, the next at k.
 fn read_rows(
@@ -194,6 +255,13 @@ pub fn read_list(plan: &[u8], at: usize, n: u64, j: u64, t: usize, rows: &mut [u
             return Reading::Refused { number, place };
         }
         Reading::Found { value: count, next } => {
+            let behind = quick_rows(plan, next, n, j, count, t, rows);
+            if behind != 0 {
+                return Reading::Found {
+                    value: t as u64 + count,
+                    next: behind,
+                };
+            }
             return read_rows(plan, next, n, j, count, t, rows);
         }
     }
