@@ -6,9 +6,10 @@ ghost use Prim.Native.Nat.{ℕ, _+_, _-_, _^_, _≤_, _<_};
 ghost use mathlib.Core.List.{List};
 ghost use lib.ListN.{length, set};
 ghost use Rattle.papers.specs.Bounds.{maxColumns};
-ghost use Rattle.papers.specs.Plan.{got, inField, field, readRows, readList};
+ghost use Rattle.papers.specs.Numbers.{readNumber};
+ghost use Rattle.papers.specs.Plan.{inField, field, readRows, readList};
 ghost use Rattle.papers.specs.declared.Number.the-variants.{Value};
-ghost use Rattle.list_reader.specs.Reading.{reading, Told, RowsRead, QuickRead, RowsIn};
+ghost use Rattle.list_reader.specs.Reading.{reading, Told, ShortRead, QuickRead, RowsIn};
 use papers::Number;
 
 // What reading a part of a plan answers: a number of that part and the place behind it; or a refusal's number and place.
@@ -52,17 +53,27 @@ fn in_range(at: usize, low: u64, high: u64, value: u64, next: usize) -> Reading
     Reading::Found { value, next }
 }
 
-// A field from low to high whose number starts at `at`. Most numbers have one group, which is read without the loop.
-pub fn read_field(plan: &[u8], at: usize, low: u64, high: u64) -> Reading
+// The number that starts at `at`, if it has two groups; else 0.
+fn two_groups(plan: &[u8], at: usize) -> u64
+    requires { ⌜ at ≤ length (now plan) ⌝ }
+    ensures { λ r. ⌜ (r ≢ 0 → Value r (at + 2) ≡ readNumber (now (plan .entry)) at) × (r < 2 ^ 14) ⌝ }
+{
+    if plan.len() - at < 2 {
+        return 0;
+    }
+    let low = wide(plan[at]);
+    let next = wide(plan[at + 1]);
+    if low < 128 || next == 0 || 127 < next {
+        return 0;
+    }
+    low - 128 + 128 * next
+}
+
+// A field from low to high whose number starts at `at`, of any length.
+pub fn read_long(plan: &[u8], at: usize, low: u64, high: u64) -> Reading
     requires { ⌜ at ≤ length (now plan) ⌝ }
     ensures { λ r. ⌜ r ≡ reading (field low high (now (plan .entry)) at) ⌝ }
 {
-    if at < plan.len() {
-        let b = wide(plan[at]);
-        if b < 128 {
-            return in_range(at, low, high, b, at + 1);
-        }
-    }
     let place = at as u64 + 1;
     match groups::get(plan, at) {
         Number::Value { value, next } => {
@@ -78,6 +89,24 @@ pub fn read_field(plan: &[u8], at: usize, low: u64, high: u64) -> Reading
             return Reading::Refused { number: 13, place };
         }
     }
+}
+
+// The same. Most numbers have one group or two, which are read without the loop.
+pub fn read_field(plan: &[u8], at: usize, low: u64, high: u64) -> Reading
+    requires { ⌜ at ≤ length (now plan) ⌝ }
+    ensures { λ r. ⌜ r ≡ reading (field low high (now (plan .entry)) at) ⌝ }
+{
+    if at < plan.len() {
+        let b = wide(plan[at]);
+        if b < 128 {
+            return in_range(at, low, high, b, at + 1);
+        }
+    }
+    let value = two_groups(plan, at);
+    if value != 0 {
+        return in_range(at, low, high, value, at + 2);
+    }
+    read_long(plan, at, low, high)
 }
 
 // Keeps a row at place i, if the slice has that place.
@@ -110,26 +139,18 @@ fn most_short(left: usize, bytes: usize, t: usize, room: usize) -> usize
     lesser(left, lesser(bytes, room - t))
 }
 
-// The rows behind row b whose gaps have one group, up to the first that has more, or is out of its range, or finds no room: keeps them from place t on.
-// Most rows are read here. The first i of `left` are kept, `last` is the last of them, or b.
-fn short_rows(
-    plan: &[u8],
-    at: usize,
-    n: u64,
-    b: u64,
-    left: u64,
-    t: usize,
-    rows: &mut [u32],
-) -> ShortRows
-    requires { ⌜ (at ≤ length (now plan)) × (n ≤ maxColumns) × (b ≤ n) ⌝ }
-    ensures { λ r. ⌜ RowsRead n (now (plan .entry)) b left at t (now (rows .entry)) (now (rows .exit)) (at + r .count) (r .last) (left - r .count) (t + r .count) ⌝ }
+// The rows behind row b whose gaps have one group, up to the first that has none or more, or finds no room: keeps them from place t on. Most rows are
+// read here. The first i of `left` are kept, `last` is the last of them, or b. Rows only rise, so all are in their range where the last is.
+fn short_rows(plan: &[u8], at: usize, b: u64, left: u64, t: usize, rows: &mut [u32]) -> ShortRows
+    requires { ⌜ (at ≤ length (now plan)) × (b ≤ maxColumns) × (left ≤ maxColumns) ⌝ }
+    ensures { λ r. ⌜ ShortRead (now (plan .entry)) b left at t (now (rows .entry)) (now (rows .exit)) (r .count) (r .last) ⌝ }
 {
     let most = most_short(left as usize, plan.len() - at, t, rows.len());
     let mut i = 0;
     let mut last = b;
     while i < most {
         let gap = wide(plan[at + i]);
-        if gap == 0 || 127 < gap || n - last < gap {
+        if gap == 0 || 127 < gap {
             return ShortRows { count: i, last };
         }
         last += gap;
@@ -139,28 +160,8 @@ fn short_rows(
     ShortRows { count: i, last }
 }
 
-// The gap of two groups that starts at `at`, if there is one and it is at most `high`; else 0.
-fn two_groups(plan: &[u8], at: usize, high: u64) -> u64
-    requires { ⌜ (at ≤ length (now plan)) × (high ≤ maxColumns) ⌝ }
-    ensures { λ r. ⌜ (r ≢ 0 → field 1 high (now (plan .entry)) at ≡ got r (at + 2)) ⌝ }
-{
-    if plan.len() - at < 2 {
-        return 0;
-    }
-    let low = wide(plan[at]);
-    let next = wide(plan[at + 1]);
-    if low < 128 || next == 0 {
-        return 0;
-    }
-    let gap = low - 128 + 128 * next;
-    if high < gap {
-        return 0;
-    }
-    gap
-}
-
 // The rows of column j as read_rows reads and keeps them, where each gap has one group or two and all find room: the place behind them. Else 0, and what
-// is kept so far lies where read_rows will keep its own. Nothing is called in the loop but what is read in line, so its counters stay in registers.
+// is kept so far lies where read_rows will keep its own. The loop calls nothing that is not put in line, so its counters stay in registers.
 fn quick_rows(
     plan: &[u8],
     at: usize,
@@ -170,7 +171,7 @@ fn quick_rows(
     t: usize,
     rows: &mut [u32],
 ) -> usize
-    requires { ⌜ (at ≤ length (now plan)) × (n ≤ maxColumns) × (j ≤ n) × (t ≤ at) ⌝ }
+    requires { ⌜ (at ≤ length (now plan)) × (n ≤ maxColumns) × (j ≤ n) × (t ≤ at) × (count ≤ maxColumns) ⌝ }
     ensures { λ r. ⌜ QuickRead n (now (plan .entry)) j count at t (now (rows .entry)) (now (rows .exit)) r ⌝ }
 {
     let mut k = at;
@@ -178,7 +179,10 @@ fn quick_rows(
     let mut rest = count;
     let mut total = t;
     while 0 < rest {
-        let short = short_rows(plan, k, n, row, rest, total, rows);
+        let short = short_rows(plan, k, row, rest, total, rows);
+        if n < short.last {
+            return 0;
+        }
         row = short.last;
         k += short.count;
         total += short.count;
@@ -186,8 +190,8 @@ fn quick_rows(
         if rest == 0 {
             break;
         }
-        let gap = two_groups(plan, k, n - row);
-        if gap == 0 || rows.len() <= total {
+        let gap = two_groups(plan, k);
+        if gap == 0 || n - row < gap || rows.len() <= total {
             return 0;
         }
         row += gap;
@@ -218,14 +222,6 @@ fn read_rows(
     let mut left = count;
     let mut total = t;
     while 0 < left {
-        let short = short_rows(plan, k, n, row, left, total, rows);
-        row = short.last;
-        k += short.count;
-        total += short.count;
-        left -= short.count as u64;
-        if left == 0 {
-            break;
-        }
         match read_field(plan, k, 1, n - row) {
             Reading::Refused { number, place } => {
                 return Reading::Refused { number, place };

@@ -28,8 +28,10 @@ quick-rows-requires : tie.Need-quick-rows-requires
 quick-rows-requires c κs =
     let f = field-found _ _ _ _ (c .before .before .before .before .read-field .ensures) (c .before .before .count .given .1) .1 in
     let on = f .on in
+    let high = f .high in
+    let m = c .before .before .before .before .before .before .before .pre .1 in
     let p = c .before .before .before .before .before .before .before .pre .3 in
-    (f .inside, c .before .before .before .before .before .before .before .pre .1, c .before .before .before .before .before .before .before .pre .2, omega arith)
+    (f .inside, c .before .before .before .before .before .before .before .pre .1, c .before .before .before .before .before .before .before .pre .2, omega arith, omega arith)
 
 add-t18 : tie.Need-add-t18
 add-t18 c = let f = field-found _ _ _ _ (c .before .before .before .before .before .before .before .before .read-field .ensures) (c .before .before .before .before .before .before .count .given .1) .1 in let on = f .high in let i = c .before .before .before .before .before .before .before .before .before .before .before .pre .3 in let l = c .before .before .before .before .before .before .before .before .before .before .before .pre .0 in let m = c .before .before .before .before .before .before .before .before .before .before .before .pre .1 in omega arith

@@ -1,11 +1,11 @@
--- A byte of 128 or more and one from 1 to 127 behind it are a number; a second byte of 128 or more would be over any gap's range.
+-- A byte of 128 or more and one from 1 to 127 behind it are a number.
 -- Assumes nothing.
 use mathlib.Core.Path.{refl}
 use mathlib.Core.Logic.{_≢_}
 use native.Mathlib.Omega.{arith}
-use borrow.Author.Tests.{eqb-false}
+use borrow.Author.Tests.{eqb-false, ltb-false}
 use borrow.Author.Needs.{needs}
-use Rattle.list_reader.proofs.Answers.{two-groups, field-is}
+use Rattle.list_reader.proofs.Answers.{two-groups}
 use Rattle.list_reader.proofs.two_groups.Statement.{statement}
 use Rattle.list_reader.proofs.two_groups.Tie as tie
 
@@ -13,7 +13,7 @@ sub-if1 : tie.Need-sub-if1
 sub-if1 c = search needs
 
 returns : tie.Need-returns
-returns c = λ z. absurd (z refl)
+returns c = (λ z. absurd (z refl), omega arith)
 
 shared-slice-read-wide : tie.Need-shared-slice-read-wide
 shared-slice-read-wide c = search needs
@@ -31,25 +31,23 @@ wide-requires-2 : tie.Need-wide-requires-2
 wide-requires-2 c κs = search needs
 
 returns-2 : tie.Need-returns-2
-returns-2 c = λ z. absurd (z refl)
+returns-2 c = (λ z. absurd (z refl), omega arith)
 
-mul-gap : tie.Need-mul-gap
-mul-gap c = search needs
+mul-result : tie.Need-mul-result
+mul-result c = search needs
 
-add-gap : tie.Need-add-gap
-add-gap c = search needs
+add-result : tie.Need-add-result
+add-result c = search needs
 
 returns-3 : tie.Need-returns-3
-returns-3 c = λ z. absurd (z refl)
-
-returns-4 : tie.Need-returns-4
-returns-4 c =
+returns-3 c =
     let some : c .before .before .before .wide2 .result ≢ 0 = eqb-false (c .before .before .before .wide2 .result) 0 (c .before .if3 .left) in
+    let last = ltb-false 127 (c .before .before .before .wide2 .result) (c .if4 .left) in
     let more = c .before .before .if2 .left in
-    let high = c .if4 .left in
-    let few = c .before .before .before .before .before .before .before .before .before .pre .1 in
+    let byte = c .before .before .before .before .before .wide .ensures .1 in
     let there = c .before .before .before .before .before .before .before .if1 .left in
-    λ z. field-is _ _ _ _ (two-groups _ _ (omega arith) (c .before .before .before .before .before .wide .ensures .0) more (c .before .before .before .wide2 .ensures .0) some (omega arith)) (omega arith) high
+    let inside = c .before .before .before .before .before .before .before .before .before .pre in
+    (λ z. two-groups _ _ (omega arith) (c .before .before .before .before .before .wide .ensures .0) more (c .before .before .before .wide2 .ensures .0) some (omega arith), omega arith)
 
 pub two-groups-spec : {M : Type 1} → statement M
 two-groups-spec =
@@ -63,7 +61,6 @@ two-groups-spec =
     shared-slice-read-wide-2
     wide-requires-2
     returns-2
-    mul-gap
-    add-gap
-    returns-3
-    returns-4)
+    mul-result
+    add-result
+    returns-3)
