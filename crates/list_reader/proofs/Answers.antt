@@ -68,7 +68,8 @@ pub two-groups : (s : List ℕ) (at : ℕ) {low next : ℕ} → at + 1 < length 
 unfolding readNumber over
 two-groups s at {low} {next} h e l f z u =
     let first = read-more true s at (omega arith) (maxGroups - 1) (omega arith) in
-    let last = read-last false s (at + 1) h (maxGroups - 2) (omega arith) ∙ last-shown false (getD s (at + 1) 0) (at + 1) (shown-some false (getD s (at + 1) 0) (omega arith)) in
+    let shown = shown-some false (getD s (at + 1) 0) (omega arith) in
+    let last = read-last false s (at + 1) h (maxGroups - 2) (omega arith) ∙ last-shown false (getD s (at + 1) 0) (at + 1) shown in
     let place : at + 1 + 1 ≡ at + 2 = omega arith in
     sym (first ∙ ap (over (getD s at 0 - 128)) last ∙ rw (place, ← e, ← f))
 

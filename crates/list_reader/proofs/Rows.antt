@@ -158,7 +158,8 @@ module _ {s : List ℕ} {b left at t : ℕ} {rows₀ rows : List ℕ} {i last : 
           let o : left - (i + 1) ≡ left - i - 1 = omega arith in
           let u : t + (i + 1) ≡ t + i + 1 = omega arith in
           let found = field-is 1 (n - last) s (at + i) (one-group s (at + i) there e short) low (omega arith) in
-          rw (k, o, u) (rows-both y (rows-one n s last (left - i) (at + i) (t + i) rows (omega arith) (y .high) (found, fields.field-got 1 (n - last) s (at + i) gap (at + i + 1) found) (ap (set rows (t + i)) is)))
+          let range = fields.field-got 1 (n - last) s (at + i) gap (at + i + 1) found in
+          rw (k, o, u) (rows-both y (rows-one n s last (left - i) (at + i) (t + i) rows (omega arith) (y .high) (found, range) (ap (set rows (t + i)) is)))
 
 -- ---- rows read quickly
 
@@ -224,7 +225,8 @@ module _ {n : ℕ} {s : List ℕ} {j count at t : ℕ} {rows₀ rows : List ℕ}
       finds (q .list) r e (ap (λ (v : ℕ). Found (t + v) r) (sym l)) (q .kept)
 
   -- what the other reader keeps covers what was kept
-  pub quick-again : {rows′ : List ℕ} {a : Reading} → Told (λ list. t + length list) (RowsIn t rows rows′) (readRows n j count s at) a → Told (λ list. t + length list) (RowsIn t rows₀ rows′) (readRows n j count s at) a
+  pub quick-again : {rows′ : List ℕ} {a : Reading} → Told (λ list. t + length list) (RowsIn t rows rows′) (readRows n j count s at) a
+      → Told (λ list. t + length list) (RowsIn t rows₀ rows′) (readRows n j count s at) a
   quick-again (refuses number place e g) = refuses number place e g
   quick-again (finds list next e g k) =
       let l = rows-reach n s j count at list next e .0 in

@@ -55,7 +55,10 @@ module _ (n j : ℕ) (w own more list : List ℕ) (marks : MarkedAre n j w own) 
 
   -- the two tests hold, so the list is the one joined
   joined-is : length (keep (isMarked n j w) list) ≡ length own → every (isMarked n j w) (drop (length more) list) ≡ true → Asc j more → list ≡ merge own more
-  joined-is many all sm = asc-ext j list (merge own more) sl (merge-asc j own more so sm) (λ i t. into i (List·Memᴰ·append-cases (take (length more) list) (rw whole at t))) (λ i t. out i (merge-from own more t))
+  joined-is many all sm =
+      asc-ext j list (merge own more) sl (merge-asc j own more so sm)
+      (λ i t. into i (List·Memᴰ·append-cases (take (length more) list) (rw whole at t)))
+      (λ i t. out i (merge-from own more t))
     where
       kept : keep (isMarked n j w) list ≡ own
       kept =
