@@ -1,19 +1,20 @@
 -- Between what is read and what is answered: a field's answer is told by its number and its range, and from an answer the reading follows.
 -- Assumes nothing.
-use Prim.Native.Nat.{ℕ, _+_, _-_, _<_, _≤_}
-use mathlib.Core.Bool.{true}
+use Prim.Native.Nat.{ℕ, _+_, _-_, _*_, _<_, _≤_}
+use mathlib.Core.Bool.{true, false}
+use mathlib.Core.Logic.{_≢_}
 use mathlib.Core.List.{List}
 use mathlib.Core.Path.{_≡_, refl, sym, ap, _∙_}
 use native.Mathlib.Omega.{arith}
 use lib.ListN.{length, getD}
 use borrow.Author.Tests.{lt-ltb, le-ltb}
 use Rattle.papers.specs.Bounds.{maxGroups}
-use Rattle.papers.specs.Numbers.{readNumber}
+use Rattle.papers.specs.Numbers.{over, readNumber}
 use Rattle.papers.specs.Plan.{Read, got, bad, inField, field}
 use Rattle.papers.specs.declared.Number.the-variants.{Value, Ended, TooLong, NotShortest}
 use Rattle.papers.specs.declared.Number.{Number}
 use Rattle.bytes_laws.proofs.Fields as fields
-use Rattle.bytes_laws.proofs.NumberReading.{read-last, last-shown}
+use Rattle.bytes_laws.proofs.NumberReading.{read-last, read-more, shown-some, last-shown}
 use Rattle.list_reader.specs.Reading.{reading, Told, finds, refuses}
 use Rattle.list_reader.specs.declared.Reading.the-variants.{Found, Refused}
 use Rattle.list_reader.specs.declared.Reading.{Reading}
@@ -61,6 +62,17 @@ one-group s at {b} h e l =
     let last = read-last true s at h (maxGroups - 1) (omega arith) ∙ last-shown true (getD s at 0) at tt in
     ap (λ (x : ℕ). Value x (at + 1)) e ∙ sym last
 
+-- a byte of 128 or more and behind it one below 128, but not 0, are a number
+pub two-groups : (s : List ℕ) (at : ℕ) {low next : ℕ} → at + 1 < length s → low ≡ getD s at 0 → 128 ≤ low → next ≡ getD s (at + 1) 0 → next ≢ 0 → next < 128
+    → Value (low - 128 + 128 * next) (at + 2) ≡ readNumber s at
+unfolding readNumber over
+two-groups s at {low} {next} h e l f z u =
+    let first = read-more true s at (omega arith) (maxGroups - 1) (omega arith) in
+    let shown = shown-some false (getD s (at + 1) 0) (omega arith) in
+    let last = read-last false s (at + 1) h (maxGroups - 2) (omega arith) ∙ last-shown false (getD s (at + 1) 0) (at + 1) shown in
+    let place : at + 1 + 1 ≡ at + 2 = omega arith in
+    sym (first ∙ ap (over (getD s at 0 - 128)) last ∙ rw (place, ← e, ← f))
+
 -- ---- from an answer to the reading
 
 reading-found : (f : Read ℕ) {r : Reading} {v next : ℕ} → r ≡ reading f → r ≡ Found v next → f ≡ got v next
@@ -81,6 +93,10 @@ module _ (low high : ℕ) (s : List ℕ) (at : ℕ) {r : Reading} (e : r ≡ rea
   -- a field that is found, with its range
   pub field-found : {v next : ℕ} → r ≡ Found v next → (field low high s at ≡ got v next) × fields.Found low high s at v next
   field-found {v} {next} g = let f = reading-found (field low high s at) e g in (f, fields.field-got low high s at v next f)
+
+-- a field by a number in its range
+pub field-is : (low high : ℕ) (s : List ℕ) (at : ℕ) {v next : ℕ} → Value v next ≡ readNumber s at → low ≤ v → v ≤ high → field low high s at ≡ got v next
+field-is low high s at {v} {next} e l h = field-found low high s at (field-by-number low high s at e (in-range low high at v next l h)) refl .0
 
 module _ {A : Type 0} {f : A → ℕ} {Kept : A → Type 0} {found : Read A} where
   -- a part that is found, and kept

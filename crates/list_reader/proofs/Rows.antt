@@ -4,17 +4,25 @@
 use Prim.Native.Nat.{zero, suc, ℕ, _+_, _-_, _<_, _≤_}
 use mathlib.Core.List.{List, [], _∷_, _++_}
 use mathlib.Core.Path.{_≡_, refl, sym, ap, _∙_}
+use mathlib.Core.Logic.{_≢_}
+use mathlib.Core.Bool.{false}
 use native.Mathlib.Omega.{arith}
+use lib.Dec.{ltb, leb}
 use lib.ListN.{length, getD, set, length-append}
-use lib.Seq.{length-sets}
+use lib.Seq.{sets, length-sets, set-set, set-comm}
+use borrow.Author.Tests.{ltb-false, leb-false}
+use Rattle.papers.specs.Numbers.{readNumber}
+use Rattle.papers.specs.declared.Number.the-variants.{Value}
 use Rattle.papers.specs.Plan.{onto, readList, got, bad, field, readRows}
-use Rattle.list_laws.proofs.Stores.{sets-append}
+use Rattle.list_laws.proofs.Stores.{sets-append, sets-more}
 use Rattle.bytes_laws.proofs.Fields as fields
 use Rattle.bytes_laws.proofs.Fields.{then-got, then-bad}
-use Rattle.list_reader.specs.Reading.{Told, finds, RowsRead, RowsIn}
+use Rattle.bytes_laws.proofs.Reaches.{rows-reach}
+use Rattle.list_reader.specs.Reading.{Told, finds, refuses, RowsRead, ShortRead, QuickRead, RowsIn}
+use Rattle.list_reader.specs.declared.Reading.{Reading}
 use Rattle.list_reader.specs.declared.Reading.the-variants.{Found}
-use Rattle.list_reader.proofs.Answers.{in-range, field-by-number, one-group, field-found}
-use Rattle.list_reader.proofs.Onto.{onto-nil, more, fails, ends}
+use Rattle.list_reader.proofs.Answers.{one-group, field-is}
+use Rattle.list_reader.proofs.Onto.{onto-nil, more, fails, ends, length-more}
 
 -- ---- a row and the rows behind it
 
@@ -108,19 +116,119 @@ module _ {n : ℕ} {s : List ℕ} {j count at t : ℕ} {rows₀ rows : List ℕ}
 
 -- ---- rows whose gaps have one byte: i of them take i bytes
 
-pub short-start : (n : ℕ) (s : List ℕ) (b left at t : ℕ) (rows : List ℕ) → at ≤ length s → b ≤ n → RowsRead n s b left at t rows rows (at + 0) b (left - 0) (t + 0)
-short-start n s b left at t rows h g =
+pub short-start : (s : List ℕ) (b left at t : ℕ) (rows : List ℕ) → at ≤ length s → ShortRead s b left at t rows rows 0 b
+short-start s b left at t rows h =
     let x : at + 0 ≡ at = omega arith in
     let y : left - 0 ≡ left = omega arith in
     let z : t + 0 ≡ t = omega arith in
-    rw (x, y, z) (rows-start n s b left at t rows h g)
+    record {
+      list = [];
+      many = refl;
+      few = omega arith;
+      kept = refl;
+      low = omega arith;
+      grows = omega arith;
+      read = λ n g. rw (x, y, z) (rows-start n s b left at t rows h g);
+    }
 
-pub short-turn : {n : ℕ} {s : List ℕ} {b left at t : ℕ} {rows₀ rows rows′ : List ℕ} {i last gap : ℕ} → RowsRead n s b left at t rows₀ rows (at + i) last (left - i) (t + i)
-    → i < left → at + i < length s → gap ≡ getD s (at + i) 0 → 1 ≤ gap → gap < 128 → gap ≤ n - last → rows′ ≡ set rows (t + i) (last + gap)
-    → RowsRead n s b left at t rows₀ rows′ (at + (i + 1)) (last + gap) (left - (i + 1)) (t + (i + 1))
-short-turn {n} {s} {b} {left} {at} {t} {rows = rows} {i = i} {last = last} {gap = gap} x few there e low short high kept =
-    let k : at + (i + 1) ≡ at + i + 1 = omega arith in
-    let o : left - (i + 1) ≡ left - i - 1 = omega arith in
-    let u : t + (i + 1) ≡ t + i + 1 = omega arith in
-    let found = field-found 1 (n - last) s (at + i) (field-by-number 1 (n - last) s (at + i) (one-group s (at + i) there e short) (in-range 1 (n - last) (at + i) gap (at + i + 1) low high)) refl in
-    rw (k, o, u) (rows-both x (rows-one n s last (left - i) (at + i) (t + i) rows (omega arith) (x .high) found kept))
+module _ {s : List ℕ} {b left at t : ℕ} {rows₀ rows : List ℕ} {i last : ℕ} (x : ShortRead s b left at t rows₀ rows i last) where
+  pub short-long : length rows ≡ length rows₀
+  short-long = ap length (x .kept) ∙ length-sets rows₀ t (x .list)
+
+  pub short-turn : {gap row : ℕ} → i < left → at + i < length s → gap ≡ getD s (at + i) 0 → 1 ≤ gap → gap < 128 → row ≡ last + gap
+      → ShortRead s b left at t rows₀ (set rows (t + i) row) (i + 1) (last + gap)
+  short-turn {gap} {row} few there e low short is =
+      let m = x .many in
+      let a = x .low in
+      let g = x .grows in
+      record {
+        list = x .list ++ ((last + gap) ∷ []);
+        many = omega (arith, length-more (x .list) (last + gap));
+        few = omega arith;
+        kept = sets-more (x .list) rows₀ t (last + gap) (t + i) (x .kept) (ap (set rows (t + i)) is) (omega arith);
+        low = omega arith;
+        grows = omega arith;
+        read = λ n h. further n h (x .read n (omega arith));
+      }
+    where
+      further : (n : ℕ) → last + gap ≤ n → RowsRead n s b left at t rows₀ rows (at + i) last (left - i) (t + i)
+          → RowsRead n s b left at t rows₀ (set rows (t + i) row) (at + (i + 1)) (last + gap) (left - (i + 1)) (t + (i + 1))
+      further n h y =
+          let k : at + (i + 1) ≡ at + i + 1 = omega arith in
+          let o : left - (i + 1) ≡ left - i - 1 = omega arith in
+          let u : t + (i + 1) ≡ t + i + 1 = omega arith in
+          let found = field-is 1 (n - last) s (at + i) (one-group s (at + i) there e short) low (omega arith) in
+          let range = fields.field-got 1 (n - last) s (at + i) gap (at + i + 1) found in
+          rw (k, o, u) (rows-both y (rows-one n s last (left - i) (at + i) (t + i) rows (omega arith) (y .high) (found, range) (ap (set rows (t + i)) is)))
+
+-- ---- rows read quickly
+
+module _ {n : ℕ} {s : List ℕ} {j count at t : ℕ} {rows₀ rows : List ℕ} {k last left total : ℕ} (x : RowsRead n s j count at t rows₀ rows k last left total) where
+  pub quick-room : leb (length rows) total ≡ false → total < length rows₀
+  quick-room e = let l = rows-long x in omega (arith, leb-false (length rows) total e)
+
+  -- one more, whose gap has two groups
+  module _ {gap : ℕ} (some : gap ≢ 0) (two : gap ≢ 0 → Value gap (k + 2) ≡ readNumber s k) (most : ltb (n - last) gap ≡ false) where
+    read : field 1 (n - last) s k ≡ got gap (k + 2)
+    read = field-is 1 (n - last) s k (two some) (omega arith) (ltb-false (n - last) gap most)
+
+    pub quick-found : fields.Found 1 (n - last) s k gap (k + 2)
+    quick-found = fields.field-got 1 (n - last) s k gap (k + 2) read
+
+    pub quick-turn : {row : ℕ} → 0 < left → row ≡ last + gap → RowsRead n s j count at t rows₀ (set rows total row) (k + 2) (last + gap) (left - 1) (total + 1)
+    quick-turn h e = rows-both x (rows-one n s last left k total rows h (x .high) (read, quick-found) (ap (set rows total) e))
+
+  -- rows behind them that are out of their range
+  pub quick-over : {rows′ : List ℕ} {more row : ℕ} → ShortRead s last left k total rows rows′ more row → QuickRead n s j count at t rows₀ rows′ 0
+  quick-over y =
+      let a = x .counted in
+      let b = y .many in
+      let d = y .few in
+      record {
+        list = x .list ++ y .list;
+        few = omega (arith, length-append (x .list) (y .list));
+        kept = rw (sets-append (x .list) rows₀ t (y .list), ← x .kept, ← x .placed) (y .kept);
+        whole = λ h. absurd (h refl);
+      }
+
+  -- all are read
+  pub quick-stop : left ≡ 0 → QuickRead n s j count at t rows₀ rows k
+  quick-stop z =
+      let a = x .counted in
+      record { list = x .list; few = omega arith; kept = x .kept; whole = λ h. (ends (x .list) (x .whole) (rows-none n last s k left z), omega arith) }
+
+  -- the rest is left to the other reader
+  pub quick-part : QuickRead n s j count at t rows₀ rows 0
+  quick-part = let a = x .counted in record { list = x .list; few = omega arith; kept = x .kept; whole = λ h. absurd (h refl) }
+
+-- a store before what is stored further on may come first
+set-sets : (xs l : List ℕ) (i j y : ℕ) → i < j → set (sets l j xs) i y ≡ sets (set l i y) j xs
+set-sets [] l i j y h = refl
+set-sets (x ∷ xs) l i j y h = set-sets xs (set l j x) i (suc j) y (omega arith) ∙ ap (λ (m : List ℕ). sets m (suc j) xs) (set-comm l j i x y (λ e. omega arith))
+
+-- what is stored over no more than it covers is as if stored at once
+sets-over : (xs ys l : List ℕ) (i : ℕ) → length xs ≤ length ys → sets (sets l i xs) i ys ≡ sets l i ys
+sets-over [] ys l i h = refl
+sets-over (x ∷ xs) [] l i h = absurd (omega arith)
+sets-over (x ∷ xs) (y ∷ ys) l i h =
+    ap (λ (m : List ℕ). sets m (suc i) ys) (set-sets xs (set l i x) i (suc i) y (omega arith))
+    ∙ ap (λ (m : List ℕ). sets (sets m (suc i) xs) (suc i) ys) (set-set l i x y)
+    ∙ sets-over xs ys (set l i y) (suc i) (omega arith)
+
+module _ {n : ℕ} {s : List ℕ} {j count at t : ℕ} {rows₀ rows : List ℕ} {r : ℕ} (q : QuickRead n s j count at t rows₀ rows r) where
+  pub quick-long : length rows ≡ length rows₀
+  quick-long = ap length (q .kept) ∙ length-sets rows₀ t (q .list)
+
+  pub quick-told : r ≢ 0 → Told (λ list. t + length list) (RowsIn t rows₀ rows) (readRows n j count s at) (Found (t + count) r)
+  quick-told h =
+      let (e, l) = q .whole h in
+      finds (q .list) r e (ap (λ (v : ℕ). Found (t + v) r) (sym l)) (q .kept)
+
+  -- what the other reader keeps covers what was kept
+  pub quick-again : {rows′ : List ℕ} {a : Reading} → Told (λ list. t + length list) (RowsIn t rows rows′) (readRows n j count s at) a
+      → Told (λ list. t + length list) (RowsIn t rows₀ rows′) (readRows n j count s at) a
+  quick-again (refuses number place e g) = refuses number place e g
+  quick-again (finds list next e g k) =
+      let l = rows-reach n s j count at list next e .0 in
+      let f = q .few in
+      finds list next e g (k ∙ ap (λ (m : List ℕ). sets m t list) (q .kept) ∙ sets-over (q .list) list rows₀ t (omega arith))

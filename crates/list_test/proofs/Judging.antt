@@ -22,7 +22,7 @@ use Rattle.child_lists.specs.Marks.{isMarked}
 use Rattle.row_marks.specs.Marked.{Counted}
 
 -- as many rows of an ascending list as it has, ascending, are all of it
-asc-whole : (b : ℕ) (xs ys : List ℕ) → Asc b xs → Asc b ys → ((i : ℕ) → i ∈ xs → i ∈ ys) → length xs ≡ length ys → xs ≡ ys
+pub asc-whole : (b : ℕ) (xs ys : List ℕ) → Asc b xs → Asc b ys → ((i : ℕ) → i ∈ xs → i ∈ ys) → length xs ≡ length ys → xs ≡ ys
 asc-whole b xs ys s t into many = asc-ext b xs ys s t into (λ i m. there i m (test (member i xs)))
   where
     there : (i : ℕ) → i ∈ ys → Test (member i xs) → i ∈ xs

@@ -110,7 +110,7 @@ fn read_peak(plan: &[u8], at: usize, rows: u64) -> PlanReading
     requires { ⌜ at ≤ length (now plan) ⌝ }
     ensures { λ r. ⌜ r ≡ peakReading rows (readPeak (now (plan .entry)) at) ⌝ }
 {
-    match list_reader::read_field(plan, at, 0, papers::MAX_PEAK) {
+    match list_reader::read_long(plan, at, 0, papers::MAX_PEAK) {
         Reading::Refused { number, place } => {
             return PlanReading::Faulty { number, place };
         }

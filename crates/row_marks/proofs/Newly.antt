@@ -51,16 +51,16 @@ module _ {n j : ℕ} {l w₀ w : List ℕ} {count k : ℕ} (m : Newly n j l w₀
   here = m .ahead (getD l k 0) (rw split (List·Memᴰ·head refl))
 
   -- a row that was marked
-  pub new-old : getD w (n + n + getD l k 0) 0 ≡ j → Newly n j l w₀ w count (k + 1)
+  pub new-old : getD w (n + n + getD l k 0) 0 ≡ j → Newly n j l w₀ (set w (n + n + getD l k 0) j) count (k + 1)
   new-old e =
       let same : set w (n + n + getD l k 0) j ≡ w = ap (set w (n + n + getD l k 0)) (sym e) ∙ set-getD w (n + n + getD l k 0) 0 in
       let none = keep-no (isNew n j w₀) (getD l k 0) (drop (suc k) l) (new-no n j w₀ (getD l k 0) (sym here ∙ e)) in
       record {
-        marking = rw same at (mark-turn (m .marking) h);
+        marking = mark-turn (m .marking) h;
         counted = rw (add-one, ← none, ← split) (m .counted);
         few = omega (arith, m .few);
         once = rw add-one (apart .1);
-        ahead = λ i t. m .ahead i (later i t);
+        ahead = λ i t. ap (λ (v : List ℕ). getD v (n + n + i) 0) same ∙ m .ahead i (later i t);
       }
 
   -- one that was not

@@ -10,7 +10,8 @@ ghost use Rattle.child_lists.specs.Marks.{marked, Markable};
 ghost use Rattle.structure.specs.Stored.{Stored};
 ghost use Rattle.row_marks.specs.Marked.{newRows, Counted};
 
-// Marks the rows of a list for column j. Answers how many of them were not marked. Those before k are marked, count of them newly.
+// Marks the rows of a list for column j. Answers how many of them were not marked. Those before k are marked, count of them newly. Each is stored, marked
+// or not, so that no step depends on what was there.
 fn mark_new(n: usize, j: usize, list: &[u32], work: &mut [u64]) -> usize
     requires once { ⌜ Distinct (now list) ⌝ }
     requires markable { ⌜ Markable n (now list) (now work) ⌝ }
@@ -21,10 +22,11 @@ fn mark_new(n: usize, j: usize, list: &[u32], work: &mut [u64]) -> usize
     let mut k = 0;
     while k < list.len() {
         let p = n + n + list[k] as usize;
-        if work[p] == j as u64 {
+        let old = work[p];
+        work[p] = j as u64;
+        if old == j as u64 {
             k += 1;
         } else {
-            work[p] = j as u64;
             count += 1;
             k += 1;
         }

@@ -1,21 +1,20 @@
--- The loop's invariant: i rows are read by i bytes and kept. Each turn reads one byte that is a gap in its range. The measure is how many may come.
+-- The loop's invariant: i rows are kept by i bytes, and read where the last is in its range. Each turn reads one byte that is a gap. The measure is how many
+-- may come.
 -- Assumes nothing.
-use Prim.Native.Nat.{_+_, _-_}
-use mathlib.Core.Path.{ap}
+use Prim.Native.Nat.{_-_}
 use native.Mathlib.Omega.{arith}
-use lib.ListN.{set}
 use borrow.Author.Needs.{needs}
 use borrow.Author.Tests.{ltb-false}
-use Rattle.list_reader.specs.Reading.{RowsRead}
-use Rattle.list_reader.proofs.Rows.{rows-long, short-start, short-turn}
+use Rattle.list_reader.specs.Reading.{ShortRead}
+use Rattle.list_reader.proofs.Rows.{short-start, short-long, short-turn}
 use Rattle.list_reader.proofs.short_rows.Statement.{statement}
 use Rattle.list_reader.proofs.short_rows.Tie as tie
 
 abbrev Inv-loop : tie.InvT-loop
-Inv-loop plan at n b left t rows₀ most i₀ last₀ rows i last = RowsRead n plan b left at t rows₀ rows (at + i) last (left - i) (t + i)
+Inv-loop plan at b left t rows₀ most i₀ last₀ rows i last = ShortRead plan b left at t rows₀ rows i last
 
 abbrev μ-loop : tie.MeasureT-loop
-μ-loop plan at n b left t rows₀ most i₀ last₀ rows i last = most - i
+μ-loop plan at b left t rows₀ most i₀ last₀ rows i last = most - i
 
 sub-most-short : tie.Need-sub-most-short Inv-loop μ-loop
 sub-most-short c = search needs
@@ -24,7 +23,7 @@ most-short-requires : tie.Need-most-short-requires Inv-loop μ-loop
 most-short-requires c κs = search needs
 
 loop-holds : tie.Need-loop-holds Inv-loop μ-loop
-loop-holds c = short-start _ _ _ _ _ _ _ (c .before .before .before .pre .0) (c .before .before .before .pre .2)
+loop-holds c = short-start _ _ _ _ _ _ (c .before .before .before .pre .0)
 
 add-wide : tie.Need-add-wide Inv-loop μ-loop
 add-wide c = search needs
@@ -35,20 +34,17 @@ shared-slice-read-wide c = search needs
 wide-requires : tie.Need-wide-requires Inv-loop μ-loop
 wide-requires c κs = search needs
 
-sub-if3 : tie.Need-sub-if3 Inv-loop μ-loop
-sub-if3 c = search needs
-
 same-length : tie.Need-same-length Inv-loop μ-loop
-same-length c = rows-long (c .before .before .before .before .loop .inv)
+same-length c = short-long (c .before .before .before .before .loop .inv)
 
 returns : tie.Need-returns Inv-loop μ-loop
 returns c = c .before .before .before .before .loop .inv
 
 add-last : tie.Need-add-last Inv-loop μ-loop
-add-last c = search needs
+add-last c = let g = c .before .before .before .before .before .loop .inv .grows in let f = c .before .before .before .before .before .loop .inv .few in let p = c .before .before .before .before .before .before .before .before .before .pre .1 in let q = c .before .before .before .before .before .before .before .before .before .pre .2 in omega arith
 
 narrow-requires : tie.Need-narrow-requires Inv-loop μ-loop
-narrow-requires c κs = search needs
+narrow-requires c κs = let g = c .before .before .before .before .before .loop .inv .grows in let f = c .before .before .before .before .before .loop .inv .few in let p = c .before .before .before .before .before .before .before .before .before .pre .1 in let q = c .before .before .before .before .before .before .before .before .before .pre .2 in omega arith
 
 add-rows : tie.Need-add-rows Inv-loop μ-loop
 add-rows c = search needs
@@ -57,7 +53,7 @@ mul-rows : tie.Need-mul-rows Inv-loop μ-loop
 mul-rows c = search needs
 
 slice-write-rows : tie.Need-slice-write-rows Inv-loop μ-loop
-slice-write-rows c = let e = rows-long (c .before .before .before .before .before .before .before .loop .inv) in omega arith
+slice-write-rows c = let e = short-long (c .before .before .before .before .before .before .loop .inv) in omega arith
 
 add-i : tie.Need-add-i Inv-loop μ-loop
 add-i c = search needs
@@ -67,14 +63,14 @@ loop-less c = search needs
 
 loop-again : tie.Need-loop-again Inv-loop μ-loop
 loop-again c =
-    let (few, there, room) = c .before .before .before .before .before .before .before .before .most-short .ensures in
-    let some = c .before .before .before .if1 .left in
-    let short = ltb-false 127 (c .before .before .before .before .wide .result) (c .before .before .if2 .left) in
-    let t = c .before .before .before .before .before .before .loop-test .taken in
-    short-turn (c .before .before .before .before .before .before .before .loop .inv) (omega arith) (omega arith) (c .before .before .before .before .wide .ensures .0) (omega arith) (omega arith) (ltb-false _ _ (c .before .if3 .left)) (ap (set (c .before .before .before .before .before .before .before .loop .rows) _) (c .narrow .ensures))
+    let (few, there, room) = c .before .before .before .before .before .before .before .most-short .ensures in
+    let some = c .before .before .if1 .left in
+    let short = ltb-false 127 (c .before .before .before .wide .result) (c .before .if2 .left) in
+    let t = c .before .before .before .before .before .loop-test .taken in
+    short-turn (c .before .before .before .before .before .before .loop .inv) (omega arith) (omega arith) (c .before .before .before .wide .ensures .0) (omega arith) (omega arith) (c .narrow .ensures)
 
 same-length-2 : tie.Need-same-length-2 Inv-loop μ-loop
-same-length-2 c = rows-long (c .before .loop .inv)
+same-length-2 c = short-long (c .before .loop .inv)
 
 returns-2 : tie.Need-returns-2 Inv-loop μ-loop
 returns-2 c = c .before .loop .inv
@@ -91,7 +87,6 @@ short-rows-spec =
     add-wide
     shared-slice-read-wide
     wide-requires
-    sub-if3
     same-length
     returns
     add-last

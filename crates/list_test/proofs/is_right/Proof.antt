@@ -1,41 +1,87 @@
--- `list_test::is_right` meets its contract: a list that has as many rows as are marked is right just where all of its rows are.
+-- `list_test::is_right` meets its contract: no child, one child whose rows the list begins with, or any other column, which is judged by its marks.
 -- Assumes nothing.
-use mathlib.Core.Path.{_∙_}
 use native.Mathlib.Omega.{arith}
+use borrow.Author.Needs.{needs}
 use Rattle.column_laws.proofs.Columns.{tested-below}
-use Rattle.list_test.proofs.Judging.{not-as-many, as-many}
+use Rattle.child_lists.proofs.Marks.{changed-none}
+use Rattle.structure.proofs.Begins.{part-of}
+use Rattle.list_test.proofs.OneChild.{own-markable, own-changes, no-child, child-link, child-found, one-child, list-markable}
 use Rattle.list_test.proofs.is_right.Statement.{statement}
 use Rattle.list_test.proofs.is_right.Tie as tie
 
-mark-column-requires : tie.Need-mark-column-requires
-mark-column-requires c κs = (c .before .before .before .before .before .before .before .pre .0, (c .before .before .before .before .before .before .before .pre .1 .0, c .before .before .before .before .before .before .before .pre .1 .1 .0))
+pattern-rows-requires : tie.Need-pattern-rows-requires
+pattern-rows-requires c κs = part-of (c .before .before .before .before .before .before .pre .0) (c .before .before .before .before .before .before .pre .1 .0)
 
-same-length : tie.Need-same-length
-same-length c = omega arith
+add-c : tie.Need-add-c
+add-c c = search needs
+
+mul-c : tie.Need-mul-c
+mul-c c = search needs
+
+slice-read-c : tie.Need-slice-read-c
+slice-read-c c = search needs
+
+same-rows-requires : tie.Need-same-rows-requires
+same-rows-requires c κs = search needs
 
 returns : tie.Need-returns
-returns c = (not-as-many (c .before .before .before .mark-column .ensures) _ (c .if1 .taken), c .before .before .before .mark-column .ensures .changed)
+returns c = (no-child (tested-below (c .before .before .before .before .before .before .before .before .before .before .pre .0)) (c .before .before .before .before .before .before .before .before .before .before .pre .1 .0) (c .before .before .before .before .before .before .before .before .before .before .pre .1 .1 .0) _ (c .before .before .before .pattern-rows .ensures) (c .before .if1 .taken) _ _ (c .same-rows .ensures), changed-none _ _ _)
 
-add-covered : tie.Need-add-covered
-add-covered c = omega arith
+add-if2 : tie.Need-add-if2
+add-if2 c = let l = child-link (tested-below (c .before .before .before .before .before .before .before .before .before .pre .0)) (c .before .before .before .before .before .before .before .before .before .pre .1 .0) (c .before .before .before .before .before .before .before .before .before .pre .1 .1 .0) _ (c .before .before .pattern-rows .ensures) (c .if1 .left) in let g = c .before .before .before .before .before .before .before .before .before .good .1 .1 .1 .1 .1 .1 .1 .0 in omega arith
 
-covered-requires : tie.Need-covered-requires
-covered-requires c κs = record { most = c .before .before .before .before .before .before .before .before .before .before .before .before .pre .1 .1 .1 .1; long = rw (c .before .before .before .before .mark-column .kept .1 .1 .1 .1 .1 .1 .0) (c .before .before .before .before .before .before .before .before .before .before .before .before .pre .1 .1 .0 .work-long) }
+mul-if2 : tie.Need-mul-if2
+mul-if2 c = let l = child-link (tested-below (c .before .before .before .before .before .before .before .before .before .pre .0)) (c .before .before .before .before .before .before .before .before .before .pre .1 .0) (c .before .before .before .before .before .before .before .before .before .pre .1 .1 .0) _ (c .before .before .pattern-rows .ensures) (c .if1 .left) in let g = c .before .before .before .before .before .before .before .before .before .good .1 .1 .1 .1 .1 .1 .1 .0 in omega arith
 
-same-length-2 : tie.Need-same-length-2
-same-length-2 c = omega arith
+slice-read-if2 : tie.Need-slice-read-if2
+slice-read-if2 c = child-link (tested-below (c .before .before .before .before .before .before .before .before .before .before .pre .0)) (c .before .before .before .before .before .before .before .before .before .before .pre .1 .0) (c .before .before .before .before .before .before .before .before .before .before .pre .1 .1 .0) _ (c .before .before .before .pattern-rows .ensures) (c .before .if1 .left)
+
+handed-on-requires : tie.Need-handed-on-requires
+handed-on-requires c κs = child-found (tested-below (c .before .before .before .before .before .before .before .before .before .before .before .pre .0)) (c .before .before .before .before .before .before .before .before .before .before .before .pre .1 .0) (c .before .before .before .before .before .before .before .before .before .before .before .pre .1 .1 .0) _ (c .before .before .before .before .pattern-rows .ensures) (c .before .before .if1 .left)
+
+begins-with-requires : tie.Need-begins-with-requires
+begins-with-requires c κs = search needs
+
+add-adds-own : tie.Need-add-adds-own
+add-adds-own c = search needs
+
+adds-own-requires : tie.Need-adds-own-requires
+adds-own-requires c κs = (own-markable (tested-below (c .before .before .before .before .before .before .before .before .before .before .before .before .before .before .before .pre .0)) (c .before .before .before .before .before .before .before .before .before .before .before .before .before .before .before .pre .1 .0) (c .before .before .before .before .before .before .before .before .before .before .before .before .before .before .before .pre .1 .1 .0) _ (c .before .before .before .before .before .before .before .before .pattern-rows .ensures), (list-markable (c .before .before .before .before .before .before .before .before .before .before .before .before .before .before .before .pre .1 .1 .0) _ (c .before .before .before .before .before .before .before .before .before .before .before .before .before .before .before .pre .1 .1 .1), c .before .before .begins-with .ensures (c .before .if3 .taken) .0))
+
+same-length : tie.Need-same-length
+same-length c = search needs
 
 returns-2 : tie.Need-returns-2
-returns-2 c = (c .covered .ensures ∙ as-many (c .before .before .before .before .before .mark-column .ensures) _ (tested-below (c .before .before .before .before .before .before .before .before .before .before .before .before .before .pre .0)) (c .before .before .before .before .before .before .before .before .before .before .before .before .before .pre .1 .1 .1) (c .before .before .if1 .left), c .before .before .before .before .before .mark-column .ensures .changed)
+returns-2 c = (one-child (tested-below (c .before .before .before .before .before .before .before .before .before .before .before .before .before .before .before .before .before .before .pre .0)) (c .before .before .before .before .before .before .before .before .before .before .before .before .before .before .before .before .before .before .pre .1 .0) (c .before .before .before .before .before .before .before .before .before .before .before .before .before .before .before .before .before .before .pre .1 .1 .0) _ (c .before .before .before .before .before .before .before .before .before .before .before .pattern-rows .ensures) (c .before .before .before .before .before .before .before .before .before .if1 .left) (c .before .before .before .before .before .before .before .if2 .taken) _ (c .before .before .before .before .before .before .handed-on .ensures) _ _ _ (c .before .before .before .before .before .before .before .before .before .before .before .before .before .before .before .before .before .before .pre .1 .1 .1) (c .before .before .before .before .before .begins-with .ensures (c .before .before .before .before .if3 .taken) .1) (c .before .before .adds-own .ensures .1) (c .before .before .adds-own .ensures .0), own-changes (tested-below (c .before .before .before .before .before .before .before .before .before .before .before .before .before .before .before .before .before .before .pre .0)) (c .before .before .before .before .before .before .before .before .before .before .before .before .before .before .before .before .before .before .pre .1 .0) (c .before .before .before .before .before .before .before .before .before .before .before .before .before .before .before .before .before .before .pre .1 .1 .0) _ (c .before .before .before .before .before .before .before .before .before .before .before .pattern-rows .ensures) _ (c .before .before .adds-own .ensures .1))
+
+is-all-marked-requires : tie.Need-is-all-marked-requires
+is-all-marked-requires c κs = search needs
+
+same-length-2 : tie.Need-same-length-2
+same-length-2 c = search needs
+
+returns-3 : tie.Need-returns-3
+returns-3 c = search needs
 
 pub is-right-spec : {M : Type 1} → statement M
 is-right-spec =
     tie.close
     (tie.spec
-    mark-column-requires
-    same-length
+    pattern-rows-requires
+    add-c
+    mul-c
+    slice-read-c
+    same-rows-requires
     returns
-    add-covered
-    covered-requires
+    add-if2
+    mul-if2
+    slice-read-if2
+    handed-on-requires
+    begins-with-requires
+    add-adds-own
+    adds-own-requires
+    same-length
+    returns-2
+    is-all-marked-requires
     same-length-2
-    returns-2)
+    returns-3)

@@ -32,11 +32,17 @@ cast-p c = omega (arith, c .shared-slice-known .given (c .before .before .loop .
 add-p-2 : tie.Need-add-p-2 Inv-loop μ-loop
 add-p-2 c = let h = mark-place (c .before .before .before .pre .1) _ (c .before .loop-test .taken) in let g = c .before .before .before .good .1 .1 .1 .0 in omega arith
 
-mul-if1 : tie.Need-mul-if1 Inv-loop μ-loop
-mul-if1 c = let h = mark-place (c .before .before .before .pre .1) _ (c .before .loop-test .taken) in let g = c .before .before .before .good .1 .1 .1 .0 in omega arith
+mul-old : tie.Need-mul-old Inv-loop μ-loop
+mul-old c = let h = mark-place (c .before .before .before .pre .1) _ (c .before .loop-test .taken) in let g = c .before .before .before .good .1 .1 .1 .0 in omega arith
 
-slice-read-if1 : tie.Need-slice-read-if1 Inv-loop μ-loop
-slice-read-if1 c = let h = mark-place (c .before .before .before .before .pre .1) _ (c .before .before .loop-test .taken) in let l = c .before .before .before .loop .inv .marking .long in omega arith
+slice-read-old : tie.Need-slice-read-old Inv-loop μ-loop
+slice-read-old c = let h = mark-place (c .before .before .before .before .pre .1) _ (c .before .before .loop-test .taken) in let l = c .before .before .before .loop .inv .marking .long in omega arith
+
+mul-work : tie.Need-mul-work Inv-loop μ-loop
+mul-work c = let h = mark-place (c .before .before .before .before .pre .1) _ (c .before .before .loop-test .taken) in let g = c .before .before .before .before .good .1 .1 .1 .0 in omega arith
+
+slice-write-work : tie.Need-slice-write-work Inv-loop μ-loop
+slice-write-work c = let h = mark-place (c .before .before .before .before .pre .1) _ (c .before .before .loop-test .taken) in let l = c .before .before .before .loop .inv .marking .long in omega arith
 
 add-k : tie.Need-add-k Inv-loop μ-loop
 add-k c = omega arith
@@ -47,14 +53,8 @@ loop-less c = omega arith
 loop-again : tie.Need-loop-again Inv-loop μ-loop
 loop-again c = new-old (c .before .before .before .before .loop .inv) (c .before .before .before .loop-test .taken) (c .if1 .taken)
 
-mul-work : tie.Need-mul-work Inv-loop μ-loop
-mul-work c = let h = mark-place (c .before .before .before .before .before .pre .1) _ (c .before .before .before .loop-test .taken) in let g = c .before .before .before .before .before .good .1 .1 .1 .0 in omega arith
-
-slice-write-work : tie.Need-slice-write-work Inv-loop μ-loop
-slice-write-work c = let h = mark-place (c .before .before .before .before .before .pre .1) _ (c .before .before .before .loop-test .taken) in let l = c .before .before .before .before .loop .inv .marking .long in omega arith
-
 add-count : tie.Need-add-count Inv-loop μ-loop
-add-count c = omega arith
+add-count c = let f = c .before .before .before .before .loop .inv .few in omega arith
 
 add-k-2 : tie.Need-add-k-2 Inv-loop μ-loop
 add-k-2 c = omega arith
@@ -66,7 +66,7 @@ loop-again-2 : tie.Need-loop-again-2 Inv-loop μ-loop
 loop-again-2 c = new-mark (c .before .before .before .before .loop .inv) (c .before .before .before .loop-test .taken) (c .if1 .left)
 
 same-length : tie.Need-same-length Inv-loop μ-loop
-same-length c = omega arith
+same-length c = let l = c .before .loop .inv .marking .long in omega arith
 
 returns : tie.Need-returns Inv-loop μ-loop
 returns c = new-stop (c .before .loop .inv) (c .loop-test .left)
@@ -83,13 +83,13 @@ mark-new-spec =
     shared-slice-read-p
     cast-p
     add-p-2
-    mul-if1
-    slice-read-if1
+    mul-old
+    slice-read-old
+    mul-work
+    slice-write-work
     add-k
     loop-less
     loop-again
-    mul-work
-    slice-write-work
     add-count
     add-k-2
     loop-less-2
