@@ -7,10 +7,11 @@ use mathlib.Core.List.{List, [], _∷_}
 use native.Mathlib.Omega.{arith}
 use native.Mathlib.Numerals.{add-one}
 use lib.ListN.{length, getD, set, length-append, length-set}
-use lib.Seq.{slice, length-slice, sets, set-set, set-comm}
+use lib.Seq.{slice, length-slice, sets}
 use Rattle.papers.specs.Lists.{greatest}
 use Rattle.papers.specs.Numbers.{bytesOf, encode}
 use Rattle.papers.specs.Key.{gapsOf}
+use Rattle.list_laws.proofs.Stores.{sets-over}
 use Rattle.bytes_laws.proofs.Gaps.{length-gaps}
 use Rattle.bytes_laws.proofs.Numbers.{bytes-length}
 use Rattle.groups.proofs.Written.{bytes-small}
@@ -36,20 +37,6 @@ lows-small [] h = refl
 lows-small (x ∷ xs) h =
     let low : x % 256 ≡ x = omega arith in
     rw (low, bytes-small x (omega arith), lows-small xs (omega arith))
-
--- ---- stored over
-
--- a store in front of a run
-set-sets : (ws l : List ℕ) (i v k : ℕ) → i < k → set (sets l k ws) i v ≡ sets (set l i v) k ws
-set-sets [] l i v k h = refl
-set-sets (w ∷ ws) l i v k h = set-sets ws (set l k w) i v (suc k) (omega arith) ∙ ap (λ (m : List ℕ). sets m (suc k) ws) (set-comm l k i w v (λ e. omega arith))
-
--- a run stored over one that is no longer
-sets-over : (ws vs l : List ℕ) (i : ℕ) → length ws ≤ length vs → sets (sets l i ws) i vs ≡ sets l i vs
-sets-over [] vs l i h = refl
-sets-over (w ∷ ws) [] l i h = absurd (omega arith)
-sets-over (w ∷ ws) (v ∷ vs) l i h =
-    rw (set-sets ws (set l i w) i v (suc i) (omega arith), set-set l i w v) (sets-over ws vs (set l i v) (suc i) (omega arith))
 
 -- ---- row by row
 

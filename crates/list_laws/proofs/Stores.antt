@@ -1,12 +1,12 @@
 -- Runs of stores into a lent slice: one run behind another, a run at the front of zeros, and lists laid one behind the other.
 -- A run of stores is what it replaces (sets-eq), so each law is one about take, drop and ++.
 -- Assumes nothing.
-use Prim.Native.Nat.{ℕ, zero, suc, _+_, _-_, _≤_}
+use Prim.Native.Nat.{ℕ, zero, suc, _+_, _-_, _<_, _≤_}
 use mathlib.Core.Path.{_≡_, refl, sym, ap, _∙_}
 use mathlib.Core.List.{List, [], _∷_, _++_, append-assoc, append-nil}
 use native.Mathlib.Omega.{arith}
 use lib.ListN.{length, set, take, drop, replicate, length-append, length-replicate}
-use lib.Seq.{sets, sets-eq, set-set, take-at}
+use lib.Seq.{sets, sets-eq, set-set, set-comm, take-at}
 use Rattle.papers.specs.Lists.{zeros, thenZeros, flat, startsFrom}
 
 -- one list stored behind another is both stored at once
@@ -40,6 +40,18 @@ length-then-zeros xs l h = rw (length-append xs (replicate (length l - length xs
 pub take-then-zeros : (xs l : List ℕ) → take (length xs) (thenZeros xs l) ≡ xs
 unfolding thenZeros
 take-then-zeros xs l = take-at xs (replicate (length l - length xs) 0) (length xs) refl
+
+-- a store in front of a run
+set-sets : (ws l : List ℕ) (i v k : ℕ) → i < k → set (sets l k ws) i v ≡ sets (set l i v) k ws
+set-sets [] l i v k h = refl
+set-sets (w ∷ ws) l i v k h = set-sets ws (set l k w) i v (suc k) (omega arith) ∙ ap (λ (m : List ℕ). sets m (suc k) ws) (set-comm l k i w v (λ e. omega arith))
+
+-- a run stored over one that is no longer
+pub sets-over : (ws vs l : List ℕ) (i : ℕ) → length ws ≤ length vs → sets (sets l i ws) i vs ≡ sets l i vs
+sets-over [] vs l i h = refl
+sets-over (w ∷ ws) [] l i h = absurd (omega arith)
+sets-over (w ∷ ws) (v ∷ vs) l i h =
+    rw (set-sets ws (set l i w) i v (suc i) (omega arith), set-set l i w v) (sets-over ws vs (set l i v) (suc i) (omega arith))
 
 -- ---- lists laid one behind the other
 

@@ -9,12 +9,12 @@ use mathlib.Core.Bool.{false}
 use native.Mathlib.Omega.{arith}
 use lib.Dec.{ltb, leb}
 use lib.ListN.{length, getD, set, length-append}
-use lib.Seq.{sets, length-sets, set-set, set-comm}
+use lib.Seq.{sets, length-sets}
 use borrow.Author.Tests.{ltb-false, leb-false}
 use Rattle.papers.specs.Numbers.{readNumber}
 use Rattle.papers.specs.declared.Number.the-variants.{Value}
 use Rattle.papers.specs.Plan.{onto, readList, got, bad, field, readRows}
-use Rattle.list_laws.proofs.Stores.{sets-append, sets-more}
+use Rattle.list_laws.proofs.Stores.{sets-append, sets-more, sets-over}
 use Rattle.bytes_laws.proofs.Fields as fields
 use Rattle.bytes_laws.proofs.Fields.{then-got, then-bad}
 use Rattle.bytes_laws.proofs.Reaches.{rows-reach}
@@ -200,20 +200,6 @@ module _ {n : ℕ} {s : List ℕ} {j count at t : ℕ} {rows₀ rows : List ℕ}
   -- the rest is left to the other reader
   pub quick-part : QuickRead n s j count at t rows₀ rows 0
   quick-part = let a = x .counted in record { list = x .list; few = omega arith; kept = x .kept; whole = λ h. absurd (h refl) }
-
--- a store before what is stored further on may come first
-set-sets : (xs l : List ℕ) (i j y : ℕ) → i < j → set (sets l j xs) i y ≡ sets (set l i y) j xs
-set-sets [] l i j y h = refl
-set-sets (x ∷ xs) l i j y h = set-sets xs (set l j x) i (suc j) y (omega arith) ∙ ap (λ (m : List ℕ). sets m (suc j) xs) (set-comm l j i x y (λ e. omega arith))
-
--- what is stored over no more than it covers is as if stored at once
-sets-over : (xs ys l : List ℕ) (i : ℕ) → length xs ≤ length ys → sets (sets l i xs) i ys ≡ sets l i ys
-sets-over [] ys l i h = refl
-sets-over (x ∷ xs) [] l i h = absurd (omega arith)
-sets-over (x ∷ xs) (y ∷ ys) l i h =
-    ap (λ (m : List ℕ). sets m (suc i) ys) (set-sets xs (set l i x) i (suc i) y (omega arith))
-    ∙ ap (λ (m : List ℕ). sets (sets m (suc i) xs) (suc i) ys) (set-set l i x y)
-    ∙ sets-over xs ys (set l i y) (suc i) (omega arith)
 
 module _ {n : ℕ} {s : List ℕ} {j count at t : ℕ} {rows₀ rows : List ℕ} {r : ℕ} (q : QuickRead n s j count at t rows₀ rows r) where
   pub quick-long : length rows ≡ length rows₀

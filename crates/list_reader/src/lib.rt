@@ -2,8 +2,7 @@
 // Nothing of the bytes is believed before its range is tested, and a row that finds no room is counted all the same.
 ghost use mathlib.Core.Path.{_≡_};
 ghost use mathlib.Core.Logic.{_≢_};
-ghost use Prim.Native.Nat.{ℕ, _+_, _-_, _^_, _≤_, _<_};
-ghost use mathlib.Core.List.{List};
+ghost use Prim.Native.Nat.{_+_, _-_, _^_, _≤_, _<_};
 ghost use lib.ListN.{length, set};
 ghost use Rattle.papers.specs.Bounds.{maxColumns};
 ghost use Rattle.papers.specs.Numbers.{readNumber};
