@@ -19,7 +19,7 @@ use Rattle.job_laws.proofs.Outcomes.{outcome-untouched, job-refuses, job-passes
 use Rattle.refusal_laws.proofs.PlanBytes.{read-bad, read-leaving}
 use Rattle.refusal_laws.proofs.Check.{of-plan-got}
 use Rattle.lent.specs.Six.{LongEnough}
-use Rattle.lent_plan.proofs.Longs.{short, long-passes}
+use Rattle.lent.proofs.Longs.{short, long-passes}
 use Rattle.key_match.specs.declared.KeyMatch.{KeyMatch}
 use Rattle.key_match.specs.declared.KeyMatch.the-variants.{Begins, Differs}
 use Rattle.key_match.specs.Matches.{keyMatch}

@@ -4,3 +4,4 @@ pub mod Parts
 pub mod Chains
 pub mod Columns
 pub mod Families
+pub mod Testing

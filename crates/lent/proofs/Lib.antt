@@ -1,2 +1,4 @@
 pub mod Sixes
 pub mod Shorts
+pub mod Longs
+pub mod Alike

@@ -1,4 +1,2 @@
-pub mod Longs
 pub mod Ways
-pub mod Ties
 pub mod Plans

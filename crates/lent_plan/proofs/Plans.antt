@@ -16,9 +16,8 @@ use Rattle.papers.specs.Plan.{planOf}
 use Rattle.papers.specs.Refusals.{answer, passed, first, Outcome, jobTests, Lent, allZero, holding}
 use Rattle.papers.specs.Analysis.{holdingPlan, analysed}
 use Rattle.list_laws.proofs.Stores.{sets-zeros, length-then-zeros, take-then-zeros, length-starts}
-use Rattle.job_laws.proofs.Passed.{Passed, passes-iff, passed-below, lists-iff}
+use Rattle.job_laws.proofs.Passed.{Passed, passes-iff, passed-below}
 use Rattle.job_laws.proofs.Laid.{length-lists}
-use Rattle.column_laws.specs.Tested.{Tested}
 use Rattle.column_laws.proofs.Families.{length-grows}
 use Rattle.order_laws.proofs.Patterns.{order-length}
 use Rattle.order.specs.Given.{Given}
@@ -26,9 +25,9 @@ use Rattle.structure.specs.Stored.{Listed}
 use Rattle.lent.specs.Six.{six, LongEnough}
 use Rattle.lent.proofs.Sixes.{sixes}
 use Rattle.lent_lists.specs.Listing.{Listing}
-use Rattle.lent_lists.proofs.Listings.{zero-long, Alike, zeros-alike}
+use Rattle.lent.proofs.Alike.{zero-long, Alike, zeros-alike}
 use Rattle.lent_order.specs.Ordering.{Orderable, Ordering}
-use Rattle.lent_plan.proofs.Ties.{parentsOf, startsOf, length-parents, same-order, same-pops, same-peak, rowed}
+use Rattle.stored_tree.proofs.Ties.{parentsOf, startsOf, length-parents, same-order, same-pops, same-peak, rowed}
 use Rattle.lent_plan.proofs.Ways.{needed, peakIn, way-rows, way-peak, way-done}
 
 -- in front of what lies behind it in a cleared slice, a result is followed by zeros
@@ -45,9 +44,6 @@ module _ (job : Job) (p : first jobTests job ≡ passed) where
 
   below : Below (job .n) (pattern job)
   below = passed-below job passes
-
-  pub tested : Tested (job .n) (job .starts) (job .rows)
-  tested = let lists = lists-iff (job .n) (job .starts) (job .rows) .1 (passes .lists) in record { few = passes .few; starts-pass = lists .0; rows-pass = lists .1 }
 
   module _ {done : ℕ} {before mid : Lent} (long : LongEnough (job .n) before) (listing : Listing (job .n) done (pattern job) before mid) (alike : Alike before mid) where
     -- 8: where not all columns are done, the rows needed exceed the slice

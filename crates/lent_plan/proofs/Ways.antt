@@ -18,7 +18,7 @@ use Rattle.papers.specs.Analysis.{AnalysisCall, holdingPlan, analysisTests, ana
 use Rattle.job_laws.proofs.Firsts.{first-passes, first-refuses, first-last, passed-if, refused-if, over-refuses, over-passes-iff}
 use Rattle.job_laws.proofs.Outcomes.{outcome-untouched, outcome-zeroed, outcome-done, job-refuses, job-passes}
 use Rattle.lent.specs.Six.{LongEnough}
-use Rattle.lent_plan.proofs.Longs.{short, long-passes}
+use Rattle.lent.proofs.Longs.{short, long-passes}
 
 -- the rows of all lists together, and the peak
 abbrev pub needed : Job → ℕ

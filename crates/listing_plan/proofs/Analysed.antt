@@ -18,7 +18,7 @@ use Rattle.papers.specs.Analysis.{analysed}
 use Rattle.papers.specs.Text.{refusalLine, listingOf, jobPrinted}
 use Rattle.job_laws.proofs.Passed.{Passed, PassedLists, lists-iff, passes-iff, passed-below}
 use Rattle.job_laws.proofs.Laid.{rows-laid, starts-laid}
-use Rattle.lent_plan.proofs.Ties.{startsOf}
+use Rattle.stored_tree.proofs.Ties.{startsOf}
 use Rattle.plan_writer.specs.Lists.{stepsIn, planIn, Writable}
 use Rattle.plan_bytes.proofs.Handed.{done-in-front, peak-counted}
 use Rattle.step_lines.specs.Steps.{Printable}

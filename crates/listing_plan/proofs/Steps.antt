@@ -27,7 +27,7 @@ use Rattle.room.specs.Rows.{rowsIn}
 use Rattle.room.proofs.BySteps.{pops-here, held-by-steps}
 use Rattle.order.specs.Given.{Given}
 use Rattle.order.proofs.Peaks.{peak-asked}
-use Rattle.lent_plan.proofs.Ties.{parentsOf, startsOf, length-parents, rows-tie, same-order, same-pops, rowed}
+use Rattle.stored_tree.proofs.Ties.{parentsOf, startsOf, length-parents, rows-tie, same-order, same-pops, rowed}
 use Rattle.step_lines.specs.Steps.{lineBehind, linesTo, Printable}
 
 -- ---- lines of steps

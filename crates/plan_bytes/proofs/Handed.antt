@@ -28,7 +28,7 @@ use Rattle.plan_laws.specs.Passing.{Long}
 use Rattle.plan_laws.proofs.Slices.{long-iff}
 use Rattle.plan_laws.proofs.Sounds.{sound-fits, planned-sound}
 use Rattle.plan_writer.proofs.Steps.{steps-again}
-use Rattle.lent_lists.proofs.Listings.{Alike, zeros-alike}
+use Rattle.lent.proofs.Alike.{Alike, zeros-alike}
 use Rattle.plan_store.specs.InFront.{InFront}
 use Rattle.plan_store.specs.Beside.{storedBeside}
 use Rattle.plan_bytes.proofs.Ways.{analysis-done, way-stored}

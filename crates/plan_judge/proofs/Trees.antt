@@ -35,7 +35,7 @@ use Rattle.room.specs.Rows.{rowsIn, Column}
 use Rattle.room.specs.Steps.{rowsAt, popsAt, heldAt, Stepped}
 use Rattle.room.proofs.BySteps.{peak-by-steps, enough-by-steps}
 use Rattle.order.proofs.Families.{column-of}
-use Rattle.lent_plan.proofs.Ties.{startsOf, length-parents, parents-tie, rows-tie, rowed}
+use Rattle.stored_tree.proofs.Ties.{startsOf, length-parents, parents-tie, rows-tie, rowed}
 use Rattle.step_tests.specs.Steps.{Within, popsWrong}
 use Rattle.subtree_test.specs.Steps.{EachOnce}
 use Rattle.plan_judge.specs.Judged.{OnTree, treeTests, ruling}

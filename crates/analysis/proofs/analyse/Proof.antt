@@ -2,9 +2,9 @@
 -- Assumes nothing.
 use mathlib.Core.Path.{sym, _∙_}
 use Rattle.job_laws.proofs.Outcomes.{job-answered}
-use Rattle.lent_plan.proofs.Longs.{not-short}
+use Rattle.lent.proofs.Longs.{not-short}
 use Rattle.lent_plan.proofs.Ways.{way-job, way-short}
-use Rattle.lent_plan.proofs.Plans.{tested}
+use Rattle.column_laws.proofs.Testing.{tested}
 use borrow.Author.Needs.{needs}
 use Rattle.analysis.proofs.analyse.Statement.{statement}
 use Rattle.analysis.proofs.analyse.Tie as tie

@@ -4,8 +4,8 @@ use mathlib.Core.Path.{_∙_}
 use native.Mathlib.Omega.{arith}
 use borrow.Author.Needs.{needs}
 use Rattle.key_match.proofs.Answers.{begins-key}
-use Rattle.lent_lists.proofs.Listings.{long-alike}
-use Rattle.lent_plan.proofs.Plans.{tested}
+use Rattle.lent.proofs.Alike.{long-alike}
+use Rattle.column_laws.proofs.Testing.{tested}
 use Rattle.plan_judge.proofs.Rulings.{number-of}
 use Rattle.bytes_judge.specs.Ruled.{refuses}
 use Rattle.bytes_judge.proofs.Ways.{refuses-11}

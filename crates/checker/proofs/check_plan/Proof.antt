@@ -5,9 +5,9 @@ use mathlib.Core.Path.{sym, ap, _∙_}
 use lib.ListN.{replicate}
 use borrow.Author.Needs.{needs}
 use Rattle.job_laws.proofs.Outcomes.{job-answered}
-use Rattle.lent_lists.proofs.Listings.{zeros-alike}
-use Rattle.lent_plan.proofs.Longs.{not-short}
-use Rattle.lent_plan.proofs.Plans.{tested}
+use Rattle.lent.proofs.Alike.{zeros-alike}
+use Rattle.lent.proofs.Longs.{not-short}
+use Rattle.column_laws.proofs.Testing.{tested}
 use Rattle.bytes_judge.proofs.Ways.{way-job, way-short}
 use Rattle.bytes_judge.proofs.Rules.{way-refused, way-done}
 use Rattle.checker.proofs.check_plan.Statement.{statement}

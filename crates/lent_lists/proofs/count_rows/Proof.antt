@@ -1,7 +1,7 @@
 -- The count is the callee's; the slices are cleared after it.
 -- Assumes nothing.
 use mathlib.Core.Path.{refl}
-use Rattle.lent_lists.proofs.Listings.{zeros-alike}
+use Rattle.lent.proofs.Alike.{zeros-alike}
 use borrow.Author.Needs.{needs}
 use Rattle.lent_lists.proofs.count_rows.Statement.{statement}
 use Rattle.lent_lists.proofs.count_rows.Tie as tie

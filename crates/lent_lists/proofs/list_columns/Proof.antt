@@ -1,6 +1,7 @@
 -- Cleared slices are long enough for the column lists, and what these do not write is still zero.
 -- Assumes nothing.
-use Rattle.lent_lists.proofs.Listings.{part-long, order-long, pops-long, listing-lengths, listing-made}
+use Rattle.lent.proofs.Alike.{part-long}
+use Rattle.lent_lists.proofs.Listings.{order-long, pops-long, listing-lengths, listing-made}
 use borrow.Author.Needs.{needs}
 use Rattle.lent_lists.proofs.list_columns.Statement.{statement}
 use Rattle.lent_lists.proofs.list_columns.Tie as tie

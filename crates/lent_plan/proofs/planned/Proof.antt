@@ -1,8 +1,9 @@
 -- A law for each way out: the rows needed exceed the slice, the peak is over the limit, or the plan is held. Every call keeps the lengths.
 -- Assumes nothing.
 use mathlib.Core.Path.{_∙_}
-use Rattle.lent_lists.proofs.Listings.{long-alike}
-use Rattle.lent_plan.proofs.Plans.{tested, planned-rows, orderable, planned-peak, planned-done}
+use Rattle.lent.proofs.Alike.{long-alike}
+use Rattle.lent_plan.proofs.Plans.{planned-rows, orderable, planned-peak, planned-done}
+use Rattle.column_laws.proofs.Testing.{tested}
 use borrow.Author.Needs.{needs}
 use Rattle.lent_plan.proofs.planned.Statement.{statement}
 use Rattle.lent_plan.proofs.planned.Tie as tie

@@ -4,8 +4,8 @@ use mathlib.Core.Path.{refl}
 use native.Mathlib.Omega.{arith}
 use denote.Ref.{now}
 use borrow.Author.Needs.{needs}
-use Rattle.lent_lists.proofs.Listings.{part-long}
-use Rattle.lent_plan.proofs.Plans.{tested}
+use Rattle.lent.proofs.Alike.{part-long}
+use Rattle.column_laws.proofs.Testing.{tested}
 use Rattle.plan_judge.proofs.Rulings.{number-of}
 use Rattle.plan_judge.proofs.Helds.{order-length, within, refuses-16, passes-16}
 use Rattle.plan_judge.proofs.Lists.{lists-held, refuses-17, passes-17, left-to-tree, on-tree, some-on-tree, parents-count, parents-in-front}
