@@ -1,4 +1,5 @@
--- The column task: a column's steps are those of its children and itself last; the block that is handed back is all that is left to write.
+-- The column task: a column's steps are those of its children and itself last; the block that is handed back is all that is left to write,
+-- and behind a leaf nothing is left.
 -- Assumes nothing.
 -- more room than is asked
 use Prim.Native.Nat.{ℕ, _+_, _-_, _<_, _≤_}
@@ -20,6 +21,11 @@ wider h a = let f = a .fits in record { laid = a .laid; known = a .known; count 
 -- a column's count is one more than its children's
 pub own-count : {starts list counts : List ℕ} → Laid starts list counts → (j : ℕ) → 0 < j → length (ownSteps starts list j) ≡ length (kidsSteps starts list j) + 1
 own-count {starts} {list} laid j l = block-count (kidsAt starts list) (laid .lower) j l
+
+-- no count, no steps
+pub no-steps : (l : List ℕ) → length l ≡ 0 → l ≡ []
+no-steps [] e = refl
+no-steps (x ∷ l) e = absurd (omega arith)
 
 -- once c's steps are written, all of j's are
 pub record Down (starts list counts : List ℕ) (j left : ℕ) (d₀ : List ℕ) (at : ℕ) (d : List ℕ) (c size a : ℕ) : Type 0 where
@@ -56,6 +62,10 @@ module _ {starts list counts d₀ d : List ℕ} {j left at c size a : ℕ} (inv 
         let before = kidsSteps starts list c in
         let e : a + size - 1 ≡ a + length before = omega arith in
         rw (e, block-is (kidsAt starts list) (inv .asks .laid .lower) c (omega arith), sets-append before d a (c ∷ [])) (set-sets before d a (a + length before) c (omega arith))
+
+    -- a block of one is a leaf: its children take no steps, so with its own step stored all is written
+    pub down-leaf : size ≡ 1 → set d (a + size - 1) c ≡ sets d₀ at (ownSteps starts list j)
+    down-leaf one = let none = no-steps (kidsSteps starts list c) (omega (arith, down-size)) in rw none at last-stored ∙ inv .stored
 
     pub down-turn : {d′ : List ℕ} {c′ size′ a′ : ℕ} → Asked starts list counts c′ size′ a′ (a + (size - 1)) (ownSteps starts list c′) → a ≤ a′
         → sets d′ a′ (ownSteps starts list c′) ≡ sets (set d (a + size - 1) c) a (kidsSteps starts list c) → length d′ ≡ length (set d (a + size - 1) c)

@@ -19,7 +19,7 @@ use Rattle.walk.specs.Levels.{levels}
 use Rattle.walk.specs.Tasks.{Asked, ownSteps, kidsSteps}
 use Rattle.walk.proofs.Levels.{levels-half}
 use Rattle.walk.proofs.Runs.{sets-comm}
-use Rattle.walk.proofs.Down.{wider}
+use Rattle.walk.proofs.Down.{wider, no-steps}
 
 abbrev pub laterSteps : List ℕ → List ℕ → ℕ → ℕ → List ℕ
 laterSteps starts list j i = blocks (kidsAt starts list) (slice i (getD starts (j + 1) 0) list)
@@ -51,10 +51,6 @@ held-start {starts} {list} {counts} {d₀} {j} {left} {at} {i} e a =
       long = refl;
       room = a .fits;
     }
-
-no-steps : (l : List ℕ) → length l ≡ 0 → l ≡ []
-no-steps [] e = refl
-no-steps (x ∷ l) e = absurd (omega arith)
 
 module _ {starts list counts d₀ d : List ℕ} {j left at i a held size first : ℕ} (inv : Held starts list counts j left d₀ at d i a held size first) where
   -- all siblings done: what is left is the held block

@@ -43,6 +43,10 @@ pub fn column(
     };
     while b.column != 0 {
         order[b.at + b.size - 1] = b.column as u32;
+        // many columns are leaves: no child, so no need to ask for siblings
+        if b.size == 1 {
+            return;
+        }
         b = siblings(starts, list, counts, b.column, b.size - 1, order, b.at);
     }
 }

@@ -9,7 +9,7 @@ use borrow.Fn.Kinds.{In}
 use borrow.Fn.PlainCycle.{Measures, is, falls, and}
 use Rattle.walk.specs.Levels.{levels}
 use Rattle.walk.proofs.Levels.{levels-mono}
-use Rattle.walk.proofs.Down.{Down, down-start, down-stop, down-size, down-last, down-asks, down-turn}
+use Rattle.walk.proofs.Down.{Down, down-start, down-stop, down-size, down-last, down-asks, down-leaf, down-turn}
 use Rattle.walk.proofs.Held.{Held, held-start, held-stop, held-child, held-place, child-asks, held-asks, child-half, held-half, child-done, held-done}
 use Rattle.walk.proofs.column.Reads as column
 use Rattle.walk.proofs.column.Kinds as column-kinds
@@ -102,46 +102,6 @@ column-slice-write-order : (t : ℕ) → column-lts.Need-slice-write-order (
 ) (column-at t) column.Post column-Inv-loop column-μ-loop
 column-slice-write-order t c = let s = down-size (c .before .before .before .before .loop .inv) (c .before .before .if1 .taken) in let l = down-last (c .before .before .before .before .loop .inv) (c .before .before .if1 .taken) in omega arith
 
-column-sub-siblings :
-    (t : ℕ) →
-    column-lts.Need-sub-siblings
-    (siblings-below t, siblings.Post)
-    (column-at t)
-    column.Post
-    column-Inv-loop
-    column-μ-loop
-column-sub-siblings t c = let s = down-size (c .before .before .before .before .before .loop .inv) (c .before .before .before .if1 .taken) in omega arith
-
-column-siblings-requires : (t : ℕ) → column-lts.Need-siblings-requires (
-  siblings-below t,
-  siblings.Post,
-) (column-at t) column.Post column-Inv-loop column-μ-loop
-column-siblings-requires t c κs =
-    let s = down-size (c .before .before .before .before .before .before .loop .inv) (c .before .before .before .before .if1 .taken) in
-    let e = c .before .before .before .before .before .before .before .before .before .before .before .pre .0 in
-    let m = levels-mono (c .before .before .before .before .before .before .loop .b .size - 1) (c .before .before .before .before .before .before .before .before .before .before .before .args .left) (omega (arith, c .before .before .before .before .before .before .loop .inv .asks .fits, c .before .before .before .before .before .before .loop .inv .after)) in
-    (omega arith, down-asks (c .before .before .before .before .before .before .loop .inv) (c .before .before .before .before .if1 .taken))
-
-column-loop-less :
-    (t : ℕ) →
-    column-lts.Need-loop-less
-    (siblings-below t, siblings.Post)
-    (column-at t)
-    column.Post
-    column-Inv-loop
-    column-μ-loop
-column-loop-less t c = let h = c .before .before .before .before .before .before .before .if1 .taken in c .before .before .siblings .ensures .1 .0 .1 (omega arith)
-
-column-loop-again :
-    (t : ℕ) →
-    column-lts.Need-loop-again
-    (siblings-below t, siblings.Post)
-    (column-at t)
-    column.Post
-    column-Inv-loop
-    column-μ-loop
-column-loop-again t c = let r = c .before .before .siblings in down-turn (c .before .before .before .before .before .before .before .before .before .loop .inv) (c .before .before .before .before .before .before .before .if1 .taken) (r .ensures .0) (r .ensures .1 .0 .0) (r .ensures .1 .1) (r .kept .1 .1 .1 .1 .1 .0)
-
 column-same-length :
     (t : ℕ) →
     column-lts.Need-same-length
@@ -160,7 +120,67 @@ column-returns :
     column.Post
     column-Inv-loop
     column-μ-loop
-column-returns t c = down-stop (c .before .before .loop .inv) (c .if1 .left)
+column-returns t c = down-leaf (c .before .before .before .before .before .before .loop .inv) (c .before .before .before .before .if1 .taken) (c .if2 .taken)
+
+column-sub-siblings :
+    (t : ℕ) →
+    column-lts.Need-sub-siblings
+    (siblings-below t, siblings.Post)
+    (column-at t)
+    column.Post
+    column-Inv-loop
+    column-μ-loop
+column-sub-siblings t c = let s = down-size (c .before .before .before .before .before .before .before .loop .inv) (c .before .before .before .before .before .if1 .taken) in omega arith
+
+column-siblings-requires : (t : ℕ) → column-lts.Need-siblings-requires (
+  siblings-below t,
+  siblings.Post,
+) (column-at t) column.Post column-Inv-loop column-μ-loop
+column-siblings-requires t c κs =
+    let s = down-size (c .before .before .before .before .before .before .before .before .loop .inv) (c .before .before .before .before .before .before .if1 .taken) in
+    let e = c .before .before .before .before .before .before .before .before .before .before .before .before .before .pre .0 in
+    let m = levels-mono (c .before .before .before .before .before .before .before .before .loop .b .size - 1) (c .before .before .before .before .before .before .before .before .before .before .before .before .before .args .left) (omega (arith, c .before .before .before .before .before .before .before .before .loop .inv .asks .fits, c .before .before .before .before .before .before .before .before .loop .inv .after)) in
+    (omega arith, down-asks (c .before .before .before .before .before .before .before .before .loop .inv) (c .before .before .before .before .before .before .if1 .taken))
+
+column-loop-less :
+    (t : ℕ) →
+    column-lts.Need-loop-less
+    (siblings-below t, siblings.Post)
+    (column-at t)
+    column.Post
+    column-Inv-loop
+    column-μ-loop
+column-loop-less t c = let h = c .before .before .before .before .before .before .before .before .before .if1 .taken in c .before .before .siblings .ensures .1 .0 .1 (omega arith)
+
+column-loop-again :
+    (t : ℕ) →
+    column-lts.Need-loop-again
+    (siblings-below t, siblings.Post)
+    (column-at t)
+    column.Post
+    column-Inv-loop
+    column-μ-loop
+column-loop-again t c = let r = c .before .before .siblings in down-turn (c .before .before .before .before .before .before .before .before .before .before .before .loop .inv) (c .before .before .before .before .before .before .before .before .before .if1 .taken) (r .ensures .0) (r .ensures .1 .0 .0) (r .ensures .1 .1) (r .kept .1 .1 .1 .1 .1 .0)
+
+column-same-length-2 :
+    (t : ℕ) →
+    column-lts.Need-same-length-2
+    (siblings-below t, siblings.Post)
+    (column-at t)
+    column.Post
+    column-Inv-loop
+    column-μ-loop
+column-same-length-2 t c = search needs
+
+column-returns-2 :
+    (t : ℕ) →
+    column-lts.Need-returns-2
+    (siblings-below t, siblings.Post)
+    (column-at t)
+    column.Post
+    column-Inv-loop
+    column-μ-loop
+column-returns-2 t c = down-stop (c .before .before .loop .inv) (c .if1 .left)
 
 abbrev siblings-Inv-loop : siblings-lts.InvT-loop
 siblings-Inv-loop starts list counts j left order₀ at end i₀ a₀ held₀ order i a held = Held starts list counts j left order₀ at order i a (held .column) (held .size) (held .at)
@@ -327,12 +347,14 @@ pub +column+siblings-spec : {M : Type 1} → statement M
     (column-sub-order t)
     (column-mul-order t)
     (column-slice-write-order t)
+    (column-same-length t)
+    (column-returns t)
     (column-sub-siblings t)
     (column-siblings-requires t)
     (column-loop-less t)
     (column-loop-again t)
-    (column-same-length t)
-    (column-returns t))
+    (column-same-length-2 t)
+    (column-returns-2 t))
     λ t. siblings-lts.spec
     (child-block-reads.Asked, child-block-reads.Learnt, column-below t, column.Post)
     (siblings-at t)
