@@ -1,7 +1,7 @@
-use mathlib.Core.Path.{refl}
 -- The invariant: a byte for each row before i, `more`, and what the gaps of the rows from i on take, is what all gaps take. The measure is the rows left.
 -- Assumes nothing.
 use Prim.Native.Nat.{_-_}
+use mathlib.Core.Path.{refl}
 use native.Mathlib.Omega.{arith}
 use borrow.Author.Needs.{needs}
 use Rattle.bytes_laws.proofs.Numbers.{bytes-length}

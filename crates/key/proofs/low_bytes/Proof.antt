@@ -1,7 +1,7 @@
-use mathlib.Core.Path.{refl}
 -- The invariant: the low bytes of the gaps before i are stored up to next, and widest is the greatest of these gaps. The measure is the rows left.
 -- Assumes nothing.
 use Prim.Native.Nat.{_-_}
+use mathlib.Core.Path.{refl}
 use native.Mathlib.Omega.{arith}
 use borrow.Author.Needs.{needs}
 use Rattle.key.proofs.Rows.{row-above}

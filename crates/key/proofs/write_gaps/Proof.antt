@@ -1,7 +1,7 @@
-use mathlib.Core.Path.{refl}
 -- The invariant: storing the gaps of the rows from i on at next leaves what storing all of them leaves. The measure is the rows left.
 -- Assumes nothing.
 use Prim.Native.Nat.{_-_}
+use mathlib.Core.Path.{refl}
 use native.Mathlib.Omega.{arith}
 use borrow.Author.Needs.{needs}
 use Rattle.key.proofs.Rows.{WritesRows, row-above, row-within, gaps-start, gaps-stop, write-room, write-turn}
