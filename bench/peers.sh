@@ -2,14 +2,7 @@
 # Measures the entry points beside the C reference and other solvers' symbolic analysis, and prints the table in Markdown. usage: bench/peers.sh [OUT]
 # Needs gcc, python3, libsuitesparse-dev, libmetis-dev; on a machine other than x86-64 also gcc-x86-64-linux-gnu and libc6-dev-amd64-cross. SPOOLES and the
 # larger real patterns are taken out of Debian packages that are downloaded into OUT and not installed: libspooles-dev pulls in an MPI that conflicts elsewhere.
-set -euo pipefail
-out=${1:-$(dirname "${BASH_SOURCE[0]}")/../target/bench}
-mkdir -p "$out"
-out=$(cd "$out" && pwd -P)
-cd "$(dirname "${BASH_SOURCE[0]}")"
-./jobs.sh "$out"
-./fetch_real.sh "$out" || echo "peers: without the larger real patterns" >&2
-./own.sh "$out" c_api
+. "$(dirname "${BASH_SOURCE[0]}")/ready.sh"
 spooles=$out/deb/libspooles-dev
 [ -d "$spooles" ] || (cd "$out/deb" && apt-get -qq download libspooles-dev >&2 && dpkg -x libspooles-dev_*.deb "$spooles")
 gcc -O2 -Wall -Wextra -I/usr/include/suitesparse -I"$spooles/usr/include" -I"$spooles/usr/include/spooles" -o "$out/peers" \

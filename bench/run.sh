@@ -3,14 +3,7 @@
 # Proves c_api, takes this machine's own code from the very module that the kit compiled, and links it with the C reference.
 # Needs gcc and python3; on a machine other than x86-64 also gcc-x86-64-linux-gnu and libc6-dev-amd64-cross. Renumbered patterns need libmetis-dev and
 # libsuitesparse-dev, the larger real ones the network the first time; without them those lines are left out.
-set -euo pipefail
-out=${1:-$(dirname "${BASH_SOURCE[0]}")/../target/bench}
-mkdir -p "$out"
-out=$(cd "$out" && pwd -P)
-cd "$(dirname "${BASH_SOURCE[0]}")"
-./jobs.sh "$out"
-./fetch_real.sh "$out" || echo "run: without the larger real patterns" >&2
-./own.sh "$out" c_api
+. "$(dirname "${BASH_SOURCE[0]}")/ready.sh"
 gcc -O2 -Wall -Wextra -o "$out/measure" measure.c ref_analyse.c "$out/c_api.o" -lpthread
 j=$out/jobs
 there() { for a in "$@"; do [ ! -s "${a#*=}" ] || args+=("$a"); done; }
