@@ -1,5 +1,1 @@
-pub mod Rows
-pub mod Columns
 pub mod Written
-pub mod Runs
-pub mod Lows

@@ -1,11 +1,11 @@
--- The numbers of a key in front of its lists, and what a written key, a slice too short for it, and a refused job come to.
+-- The numbers of a key in front of its lists, and what a stored key and a refused job come to.
 -- Assumes nothing.
 use Prim.Native.Nat.{ℕ, _+_, _*_, _^_, _<_, _≤_}
 use mathlib.Core.Path.{_≡_, refl, sym, _∙_}
-use mathlib.Core.Logic.{_≢_}
+use mathlib.Core.Logic.{_≢_, ⊎-elim}
 use mathlib.Core.List.{List, _∷_}
 use native.Mathlib.Omega.{arith}
-use lib.ListN.{length, length-append}
+use lib.ListN.{length}
 use lib.Seq.{sets}
 use Rattle.papers.specs.declared.Answer.{Answer}
 use Rattle.papers.specs.Bounds.{edition, maxGroups}
@@ -13,13 +13,15 @@ use Rattle.papers.specs.Lists.{zeros}
 use Rattle.papers.specs.Numbers.{bytesOf, encode}
 use Rattle.papers.specs.Job.{Job, pattern}
 use Rattle.papers.specs.Key.{listsNumbers, listsOf, keyNumbers, keyOf}
-use Rattle.papers.specs.Refusals.{answer, zeroed, passed, answerOf, first, Outcome, jobTests, bytesTest}
+use Rattle.papers.specs.Refusals.{zeroed, passed, answerOf, first, Outcome, jobTests, bytesTest}
 use Rattle.papers.specs.Analysis.{KeyCall, keyTests, keyDone, keyWritten}
-use Rattle.list_laws.proofs.Stores.{sets-zeros}
+use Rattle.list_laws.proofs.Tests.{below-or}
 use Rattle.bytes_laws.proofs.Writing.{Writes, writes-all, writes-number}
 use Rattle.job_laws.proofs.Firsts.{first-last, over-refuses, over-passes-iff}
 use Rattle.job_laws.proofs.Passed.{Passed}
 use Rattle.job_laws.proofs.Outcomes.{outcome-untouched, outcome-zeroed, outcome-done, job-refuses, job-passes}
+use Rattle.stored_bytes.specs.Stored.{stored}
+use Rattle.stored_bytes.proofs.Stores.{short-is, whole-is}
 
 -- ---- its numbers
 
@@ -34,19 +36,6 @@ numbers-fit job p =
     let marked = p .marked in
     let limited = p .limited in
     (omega arith, omega arith, omega arith)
-
--- the bytes of the four numbers and of the lists
-pub key-length : (job : Job)
-    → length (keyOf job) ≡ length (bytesOf edition) + length (bytesOf (job .n)) + length (bytesOf (job .mark)) + length (bytesOf (job .limit)) + length (encode (keyLists job))
-unfolding keyOf keyNumbers encode
-key-length job =
-    omega (
-      arith,
-      length-append (bytesOf edition) (encode (job .n ∷ job .mark ∷ job .limit ∷ keyLists job)),
-      length-append (bytesOf (job .n)) (encode (job .mark ∷ job .limit ∷ keyLists job)),
-      length-append (bytesOf (job .mark)) (encode (job .limit ∷ keyLists job)),
-      length-append (bytesOf (job .limit)) (encode (keyLists job)),
-    )
 
 -- ---- put one after the other
 
@@ -75,10 +64,6 @@ module _ (job : Job) (d₀ : List ℕ) where
         pub behind-limit : {d₄ : List ℕ} {k₄ : ℕ} → Put (job .limit) d₃ k₃ d₄ k₄ → Writes (keyNumbers job) d₀ 0 (keyLists job) d₄ k₄
         behind-limit p₄ = writes-number behind-mark refl (p₄ .0) (p₄ .1)
 
-  pub put-room : length (keyOf job) ≤ length d₀ → 0 + length (encode (keyNumbers job)) ≤ length d₀
-  unfolding keyOf
-  put-room h = omega arith
-
   pub put-done : {d : List ℕ} {k : ℕ} → (k ≡ 0 + length (encode (keyNumbers job))) × (d ≡ sets d₀ 0 (encode (keyNumbers job)))
       → (k ≡ length (keyOf job)) × (d ≡ sets d₀ 0 (keyOf job))
   unfolding keyOf
@@ -101,17 +86,14 @@ module _ (job : Job) (bytes₀ : List ℕ) where
     unfolding keyTests
     last-test = job-passes (λ c. c .job) _ call p ∙ first-last _ call
 
-    -- 10
-    pub key-short : {r : Answer} {bytes : List ℕ} → length bytes₀ < length (keyOf job) → r ≡ answer 10 0 (length (keyOf job)) → bytes ≡ zeros bytes₀
-        → _≡_ {A = Outcome (List ℕ)} (record { answer = r; lent = bytes }) (keyWritten job bytes₀)
-    unfolding keyWritten bytesTest
-    key-short h e b =
-        rw (e, b) (sym (outcome-zeroed keyTests keyDone zeros call bytes₀ (last-test ∙ over-refuses (length bytes₀) (length (keyOf job)) _ zeroed h)))
-
-    -- done
-    pub key-done : {r : Answer} {bytes cleared : List ℕ} → length (keyOf job) ≤ length bytes₀ → r ≡ answer 0 0 (length (keyOf job)) → cleared ≡ zeros bytes₀
-        → bytes ≡ sets cleared 0 (keyOf job) → _≡_ {A = Outcome (List ℕ)} (record { answer = r; lent = bytes }) (keyWritten job bytes₀)
-    unfolding keyWritten bytesTest keyDone
-    key-done h e c b =
-        rw (e, b, c, sets-zeros (keyOf job) bytes₀ h)
-        (sym (outcome-done keyTests keyDone zeros call bytes₀ (last-test ∙ over-passes-iff (length bytes₀) (length (keyOf job)) _ zeroed .1 h)))
+    -- else the key is stored
+    pub key-stored : keyWritten job bytes₀ ≡ stored (keyOf job) bytes₀
+    unfolding keyWritten keyDone bytesTest
+    key-stored =
+        let key = keyOf job in
+        ⊎-elim
+        (λ (short : length bytes₀ < length key).
+        outcome-zeroed keyTests keyDone zeros call bytes₀ (last-test ∙ over-refuses (length bytes₀) (length key) _ zeroed short) ∙ sym (short-is key bytes₀ short))
+        (λ (whole : length key ≤ length bytes₀).
+        outcome-done keyTests keyDone zeros call bytes₀ (last-test ∙ over-passes-iff (length bytes₀) (length key) _ zeroed .1 whole) ∙ sym (whole-is key bytes₀ whole))
+        (below-or (length bytes₀) (length key))

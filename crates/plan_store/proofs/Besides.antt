@@ -13,8 +13,8 @@ use Rattle.papers.specs.Analysis.{PlanLent, planZero}
 use Rattle.list_laws.proofs.Tests.{below-or}
 use Rattle.job_laws.proofs.Firsts.{first-last, over-refuses, over-passes-iff}
 use Rattle.job_laws.proofs.Outcomes.{outcome-zeroed, outcome-done}
-use Rattle.plan_writer.specs.Stored.{stored}
-use Rattle.plan_writer.proofs.Stores.{short-is, whole-is}
+use Rattle.stored_bytes.specs.Stored.{stored}
+use Rattle.stored_bytes.proofs.Stores.{short-is, whole-is}
 use Rattle.plan_store.specs.Beside.{storedBeside}
 
 module _ (written : List ℕ) (slices : PlanLent) where

@@ -1,3 +1,2 @@
 pub mod Steps
 pub mod Planned
-pub mod Stores

@@ -7,7 +7,7 @@ use Rattle.papers.specs.Bounds.{maxColumns}
 use Rattle.papers.specs.Job.{columnOf}
 use Rattle.papers.specs.Key.{listsNumbers, listsOf}
 use Rattle.job_laws.proofs.Passed.{PassedLists, lists-iff}
-use Rattle.key.proofs.Columns.{numbersFrom, column-list, numbers-next, numbers-none}
+use Rattle.list_writer.proofs.Columns.{numbersFrom, column-list, numbers-next, numbers-none}
 use Rattle.key_match.proofs.Numbers.{Left, left-all, left-numbers, differs-numbers, left-none}
 use Rattle.key_match.proofs.match_lists.Statement.{statement}
 use Rattle.key_match.proofs.match_lists.Tie as tie

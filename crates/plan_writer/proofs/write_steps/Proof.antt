@@ -5,7 +5,7 @@ use native.Mathlib.Omega.{arith}
 use lib.ListN.{length}
 use borrow.Author.Needs.{needs}
 use Rattle.bytes_laws.proofs.Writing.{writes-all}
-use Rattle.plan_writer.proofs.Steps.{WritesSteps, column-room, pops-room, write-turn, write-stop}
+use Rattle.plan_writer.proofs.Steps.{WritesSteps, column-near, pops-near, write-turn, write-stop}
 use Rattle.plan_writer.proofs.write_steps.Statement.{statement}
 use Rattle.plan_writer.proofs.write_steps.Tie as tie
 
@@ -16,7 +16,7 @@ abbrev μ-loop : tie.MeasureT-loop
 μ-loop order pops bytes₀ at next₀ done₀ bytes next done = length order - done
 
 loop-holds : tie.Need-loop-holds Inv-loop μ-loop
-loop-holds c = record { paired = c .before .before .before .pre .0; written = writes-all; room = c .before .before .before .pre .1 }
+loop-holds c = record { paired = c .before .before .before .pre .0; written = writes-all; few = c .before .before .before .pre .1 .0 }
 
 mul-put : tie.Need-mul-put Inv-loop μ-loop
 mul-put c = search needs
@@ -30,7 +30,7 @@ cast-put c = omega (arith, c .shared-slice-known3 .given (c .before .before .bef
 put-requires : tie.Need-put-requires Inv-loop μ-loop
 put-requires c κs =
     let loop = c .before .before .before .loop in
-    (omega (arith, c .shared-slice-known3 .given (loop .done)), column-room (loop .inv) (c .before .before .loop-test .taken))
+    (omega (arith, c .shared-slice-known3 .given (loop .done)), omega (arith, column-near (loop .inv), c .before .before .before .before .before .before .before .pre .1 .1))
 
 mul-put-2 : tie.Need-mul-put-2 Inv-loop μ-loop
 mul-put-2 c = search needs
@@ -44,9 +44,10 @@ cast-put-2 c = omega (arith, c .shared-slice-known4 .given (c .before .before .b
 put-requires-2 : tie.Need-put-requires-2 Inv-loop μ-loop
 put-requires-2 c κs =
     let loop = c .before .before .before .before .before .before .before .before .loop in
-    let column = c .before .before .before .before .put in
-    let there = c .before .before .before .before .before .before .before .loop-test .taken in
-    (omega (arith, c .shared-slice-known4 .given (loop .done)), pops-room (loop .inv) there (column .ensures .0) (column .ensures .1))
+    let column = c .before .before .before .before .put in (
+      omega (arith, c .shared-slice-known4 .given (loop .done)),
+      omega (arith, pops-near (loop .inv) (c .before .before .before .before .before .before .before .loop-test .taken) (column .ensures .0) (column .ensures .1), c .before .before .before .before .before .before .before .before .before .before .before .before .pre .1 .1),
+    )
 
 add-done : tie.Need-add-done Inv-loop μ-loop
 add-done c = search needs

@@ -1,0 +1,87 @@
+-- The invariant: storing the gaps of the rows from i on at next leaves what storing all of them behind the count leaves. A turn writes a run of rows.
+-- The measure is the rows left.
+-- Assumes nothing.
+use Prim.Native.Nat.{_-_}
+use mathlib.Core.Path.{refl}
+use native.Mathlib.Omega.{arith}
+use borrow.Author.Needs.{needs}
+use Rattle.bytes_laws.proofs.Numbers.{bytes-length}
+use Rattle.list_writer.proofs.Rows.{WritesRows, gaps-start, place-near, list-stop}
+use Rattle.list_writer.proofs.Runs.{run-list, run-turn}
+use Rattle.list_writer.proofs.write_list.Statement.{statement}
+use Rattle.list_writer.proofs.write_list.Tie as tie
+
+abbrev Inv-loop : tie.InvT-loop
+Inv-loop rows from to j bytes₀ at next₀ before₀ i₀ bytes next before i = WritesRows j rows from to bytes₀ next₀ bytes next before i
+
+abbrev μ-loop : tie.MeasureT-loop
+μ-loop rows from to j bytes₀ at next₀ before₀ i₀ bytes next before i = to - i
+
+sub-put : tie.Need-sub-put Inv-loop μ-loop
+sub-put c = search needs
+
+put-requires : tie.Need-put-requires Inv-loop μ-loop
+put-requires c κs =
+    let entry = c .before .before .before .pre in
+    (let few = entry .0 .few in omega arith, omega (arith, entry .1))
+
+loop-holds : tie.Need-loop-holds Inv-loop μ-loop
+loop-holds c = gaps-start (c .before .before .before .before .before .before .pre .0)
+
+run-end-requires : tie.Need-run-end-requires Inv-loop μ-loop
+run-end-requires c κs = search needs
+
+write-run-requires : tie.Need-write-run-requires Inv-loop μ-loop
+write-run-requires c κs =
+    let loop = c .before .before .before .loop in
+    let end = c .before .run-end in
+    let put = c .before .before .before .before .before .before .put in
+    let entry = c .before .before .before .before .before .before .before .before .before .before in (
+      run-list (loop .inv .rows-left) _ (end .ensures .0) (end .ensures .1),
+      omega (arith, place-near (loop .inv) (entry .pre .0), put .ensures .0, bytes-length (entry .args .to - entry .args .from), entry .pre .1),
+    )
+
+sub-before : tie.Need-sub-before Inv-loop μ-loop
+sub-before c = search needs
+
+mul-before : tie.Need-mul-before Inv-loop μ-loop
+mul-before c = search needs
+
+shared-slice-read-before : tie.Need-shared-slice-read-before Inv-loop μ-loop
+shared-slice-read-before c = search needs
+
+loop-less : tie.Need-loop-less Inv-loop μ-loop
+loop-less c = search needs
+
+loop-again : tie.Need-loop-again Inv-loop μ-loop
+loop-again c =
+    let end = c .before .before .before .before .before .run-end in
+    let run = c .before .before .before .write-run in
+    run-turn (c .before .before .before .before .before .before .before .loop .inv) (end .ensures .0) (end .ensures .1) refl (run .ensures .0) (run .ensures .1)
+
+same-length : tie.Need-same-length Inv-loop μ-loop
+same-length c = search needs
+
+returns : tie.Need-returns Inv-loop μ-loop
+returns c =
+    let put = c .before .before .before .before .put in
+    list-stop _ _ (c .before .before .before .before .before .before .before .before .pre .0) (put .ensures .0) (put .ensures .1) (c .before .loop .inv) (c .loop-test .left)
+
+pub write-list-spec : {M : Type 1} → statement M
+write-list-spec =
+    tie.close
+    (tie.spec
+    Inv-loop
+    μ-loop
+    sub-put
+    put-requires
+    loop-holds
+    run-end-requires
+    write-run-requires
+    sub-before
+    mul-before
+    shared-slice-read-before
+    loop-less
+    loop-again
+    same-length
+    returns)

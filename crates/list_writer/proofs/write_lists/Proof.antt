@@ -1,0 +1,86 @@
+-- The invariant: storing the lists of the columns behind the first `done` at next leaves what storing all of them leaves. The measure is the columns left.
+-- Assumes nothing.
+use Prim.Native.Nat.{_-_}
+use native.Mathlib.Omega.{arith}
+use borrow.Author.Needs.{needs}
+use Rattle.bytes_laws.proofs.Writing.{writes-all}
+use Rattle.job_laws.proofs.Passed.{lists-iff}
+use Rattle.list_writer.proofs.Columns.{WritesColumns, column-list, list-near, lists-turn, lists-stop}
+use Rattle.list_writer.proofs.write_lists.Statement.{statement}
+use Rattle.list_writer.proofs.write_lists.Tie as tie
+
+abbrev Inv-loop : tie.InvT-loop
+Inv-loop n starts rows bytes₀ at next₀ done₀ bytes next done = WritesColumns n starts rows bytes₀ next₀ bytes next done
+
+abbrev μ-loop : tie.MeasureT-loop
+μ-loop n starts rows bytes₀ at next₀ done₀ bytes next done = n - done
+
+loop-holds : tie.Need-loop-holds Inv-loop μ-loop
+loop-holds c =
+    let entry = c .before .before .before .pre in
+    record { few = entry .0; lists = lists-iff _ _ _ .0 (entry .1 .0, entry .1 .1 .0); high = omega arith; written = writes-all; near = entry .1 .1 .1 }
+
+add-j : tie.Need-add-j Inv-loop μ-loop
+add-j c = search needs
+
+cast-j : tie.Need-cast-j Inv-loop μ-loop
+cast-j c = search needs
+
+mul-write-list : tie.Need-mul-write-list Inv-loop μ-loop
+mul-write-list c = search needs
+
+shared-slice-read-write-list : tie.Need-shared-slice-read-write-list Inv-loop μ-loop
+shared-slice-read-write-list c = search needs
+
+add-write-list : tie.Need-add-write-list Inv-loop μ-loop
+add-write-list c = search needs
+
+mul-write-list-2 : tie.Need-mul-write-list-2 Inv-loop μ-loop
+mul-write-list-2 c = search needs
+
+shared-slice-read-write-list-2 : tie.Need-shared-slice-read-write-list-2 Inv-loop μ-loop
+shared-slice-read-write-list-2 c = search needs
+
+write-list-requires : tie.Need-write-list-requires Inv-loop μ-loop
+write-list-requires c κs =
+    let loop = c .before .before .before .before .loop in
+    let there = c .before .before .before .loop-test .taken in
+    (column-list (loop .inv .few) (loop .inv .lists) there, list-near (loop .inv))
+
+add-done : tie.Need-add-done Inv-loop μ-loop
+add-done c = search needs
+
+loop-less : tie.Need-loop-less Inv-loop μ-loop
+loop-less c = search needs
+
+loop-again : tie.Need-loop-again Inv-loop μ-loop
+loop-again c =
+    let list = c .before .before .write-list in
+    lists-turn (c .before .before .before .before .before .before .before .loop .inv) (c .before .before .before .before .before .before .loop-test .taken) (list .ensures .0) (list .ensures .1)
+
+same-length : tie.Need-same-length Inv-loop μ-loop
+same-length c = search needs
+
+returns : tie.Need-returns Inv-loop μ-loop
+returns c = lists-stop (c .before .loop .inv) (c .loop-test .left)
+
+pub write-lists-spec : {M : Type 1} → statement M
+write-lists-spec =
+    tie.close
+    (tie.spec
+    Inv-loop
+    μ-loop
+    loop-holds
+    add-j
+    cast-j
+    mul-write-list
+    shared-slice-read-write-list
+    add-write-list
+    mul-write-list-2
+    shared-slice-read-write-list-2
+    write-list-requires
+    add-done
+    loop-less
+    loop-again
+    same-length
+    returns)

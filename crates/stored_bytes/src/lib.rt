@@ -1,0 +1,21 @@
+// What comes of bytes that were written from the front of a lent slice on, as far as it has places.
+ghost use mathlib.Core.Path.{_≡_};
+ghost use mathlib.Core.List.{List};
+ghost use Prim.Native.Nat.{ℕ};
+ghost use lib.ListN.{length};
+ghost use lib.Seq.{sets};
+ghost use Rattle.papers.specs.Refusals.{Outcome};
+ghost use Rattle.stored_bytes.specs.Stored.{stored};
+use papers::Answer;
+
+// 10 with the bytes needed where they do not all have a place, and the slice is zero; else done, and zeros stand behind them.
+pub fn finish(bytes: &mut [u8], needed: usize) -> Answer
+    ensures { λ r. ⌜ ((written before : List ℕ) → needed ≡ length written → now (bytes .entry) ≡ sets before 0 written → _≡_ {A = Outcome (List ℕ)} (record { answer = r; lent = now (bytes .exit) }) (stored written before)) ⌝ }
+{
+    if bytes.len() < needed {
+        slices::clear8(bytes);
+        return basics::answered(10, 0, needed as u64);
+    }
+    slices::clear8(&mut bytes[needed..]);
+    basics::answered(0, 0, needed as u64)
+}
