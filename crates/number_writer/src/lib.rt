@@ -16,20 +16,21 @@ fn put_byte(dst: &mut [u8], at: usize, b: u8)
     }
 }
 
-// Writes the bytes of x from `at` on, those for which there is a place, and answers the place behind them all. One byte or two, which most numbers have,
-// are stored at once; of more the first i of the little array are written.
+// Writes the bytes of x from `at` on, those for which there is a place, and answers the place behind them all, which follows from the leading zeros of x.
+// One byte or two, which most numbers have, are stored at once; of more the first i of the little array are written.
 pub fn put(dst: &mut [u8], at: usize, x: u64) -> usize
     requires { ⌜ Fits x × (at < 2 ^ 63) ⌝ }
     ensures { λ r. ⌜ (r ≡ at + length (bytesOf x)) × (now (dst .exit) ≡ sets (now (dst .entry)) at (bytesOf x)) ⌝ }
 {
+    let next = at + groups::length(x);
     if x < 128 {
         put_byte(dst, at, x as u8);
-        return at + 1;
+        return next;
     }
     if x < 16384 {
         put_byte(dst, at, (x % 128 + 128) as u8);
         put_byte(dst, at + 1, (x / 128) as u8);
-        return at + 2;
+        return next;
     }
     let groups = groups::number(x);
     let bytes = groups.bytes;
@@ -39,5 +40,5 @@ pub fn put(dst: &mut [u8], at: usize, x: u64) -> usize
         put_byte(dst, at + i, bytes[i]);
         i += 1;
     }
-    at + count
+    next
 }
