@@ -80,13 +80,6 @@ pub fn put(dst: &mut [u8], at: usize, x: u64) -> usize
     at + count
 }
 
-// A byte as a 64-bit number, which stays below 256.
-fn wide(b: u8) -> u64
-    ensures { λ r. ⌜ (r ≡ b) × (r < 256) ⌝ }
-{
-    b as u64
-}
-
 // The number that starts at `at`. low is what the groups before i come to, w the weight of the next, k how many may still come.
 pub fn get(s: &[u8], at: usize) -> Number
     ensures { λ r. ⌜ r ≡ readNumber (now (s .entry)) at ⌝ }
@@ -99,7 +92,7 @@ pub fn get(s: &[u8], at: usize) -> Number
         if k == 0 {
             return Number::TooLong;
         }
-        let b = wide(s[i]);
+        let b = basics::wide8(s[i]);
         if b < 128 {
             if b == 0 {
                 if at < i {

@@ -23,21 +23,6 @@ pub struct ShortRows {
     pub last: u64,
 }
 
-// A number of 32 bits.
-pub fn narrow(x: u64) -> u32
-    requires { ⌜ x < 2 ^ 32 ⌝ }
-    ensures { λ r. ⌜ r ≡ x ⌝ }
-{
-    x as u32
-}
-
-// A byte as a 64-bit number.
-fn wide(b: u8) -> u64
-    ensures { λ r. ⌜ (r ≡ b) × (r < 256) ⌝ }
-{
-    b as u64
-}
-
 // The value read at `at` up to next, in a field from low to high: 14 where it lies outside.
 fn in_range(at: usize, low: u64, high: u64, value: u64, next: usize) -> Reading
     requires { ⌜ at + 1 < 2 ^ 64 ⌝ }
@@ -60,8 +45,8 @@ fn two_groups(plan: &[u8], at: usize) -> u64
     if plan.len() - at < 2 {
         return 0;
     }
-    let low = wide(plan[at]);
-    let next = wide(plan[at + 1]);
+    let low = basics::wide8(plan[at]);
+    let next = basics::wide8(plan[at + 1]);
     if low < 128 || next == 0 || 127 < next {
         return 0;
     }
@@ -96,7 +81,7 @@ pub fn read_field(plan: &[u8], at: usize, low: u64, high: u64) -> Reading
     ensures { λ r. ⌜ r ≡ reading (field low high (now (plan .entry)) at) ⌝ }
 {
     if at < plan.len() {
-        let b = wide(plan[at]);
+        let b = basics::wide8(plan[at]);
         if b < 128 {
             return in_range(at, low, high, b, at + 1);
         }
@@ -114,18 +99,8 @@ fn keep_row(rows: &mut [u32], i: usize, row: u64)
     ensures { λ _. ⌜ now (rows .exit) ≡ set (now (rows .entry)) i row ⌝ }
 {
     if i < rows.len() {
-        rows[i] = narrow(row);
+        rows[i] = basics::narrow32(row);
     }
-}
-
-// The lesser of two.
-fn lesser(a: usize, b: usize) -> usize
-    ensures { λ r. ⌜ (r ≤ a) × (r ≤ b) ⌝ }
-{
-    if a < b {
-        return a;
-    }
-    b
 }
 
 // How many gaps of one byte can be read and kept without a look at the ends: those left, the bytes that follow, the room behind place t.
@@ -135,7 +110,7 @@ fn most_short(left: usize, bytes: usize, t: usize, room: usize) -> usize
     if room <= t {
         return 0;
     }
-    lesser(left, lesser(bytes, room - t))
+    basics::lesser(left, basics::lesser(bytes, room - t))
 }
 
 // The rows behind row b whose gaps have one group, up to the first that has none or more, or finds no room: keeps them from place t on. Most rows are
@@ -148,12 +123,12 @@ fn short_rows(plan: &[u8], at: usize, b: u64, left: u64, t: usize, rows: &mut [u
     let mut i = 0;
     let mut last = b;
     while i < most {
-        let gap = wide(plan[at + i]);
+        let gap = basics::wide8(plan[at + i]);
         if gap == 0 || 127 < gap {
             return ShortRows { count: i, last };
         }
         last += gap;
-        rows[t + i] = narrow(last);
+        rows[t + i] = basics::narrow32(last);
         i += 1;
     }
     ShortRows { count: i, last }
@@ -194,7 +169,7 @@ fn quick_rows(
             return 0;
         }
         row += gap;
-        rows[total] = narrow(row);
+        rows[total] = basics::narrow32(row);
         total += 1;
         k += 2;
         rest -= 1;

@@ -43,8 +43,8 @@ fn read_step(
                     value: popped,
                     next,
                 } => {
-                    order[i] = list_reader::narrow(column);
-                    pops[i] = list_reader::narrow(popped);
+                    order[i] = basics::narrow32(column);
+                    pops[i] = basics::narrow32(popped);
                     return Reading::Found {
                         value: column,
                         next,

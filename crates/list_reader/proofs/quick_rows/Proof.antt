@@ -51,8 +51,8 @@ returns-2 c = quick-part (rows-both (c .before .before .before .before .before .
 add-row : tie.Need-add-row Inv-loop μ-loop
 add-row c = let f = c .before .before .before .two-groups .ensures .1 in let h = c .before .before .before .before .before .before .before .if1 .left in let g = c .before .before .before .before .before .before .before .before .before .before .before .before .before .before .before .before .before .pre .1 in omega arith
 
-narrow-requires : tie.Need-narrow-requires Inv-loop μ-loop
-narrow-requires c κs = let f = c .before .before .before .two-groups .ensures .1 in let h = c .before .before .before .before .before .before .before .if1 .left in let g = c .before .before .before .before .before .before .before .before .before .before .before .before .before .before .before .before .before .pre .1 in omega arith
+narrow32-requires : tie.Need-narrow32-requires Inv-loop μ-loop
+narrow32-requires c κs = let f = c .before .before .before .two-groups .ensures .1 in let h = c .before .before .before .before .before .before .before .if1 .left in let g = c .before .before .before .before .before .before .before .before .before .before .before .before .before .before .before .before .before .pre .1 in omega arith
 
 mul-rows : tie.Need-mul-rows Inv-loop μ-loop
 mul-rows c = let h = quick-room (rows-both (c .before .before .before .before .before .before .before .before .before .before .before .before .before .before .before .loop .inv) (c .before .before .before .before .before .before .before .before .before .before .before .before .short-rows .ensures .read _ (c .before .before .before .before .before .before .before .before .if1 .left))) (c .before .if5 .left) in let g = c .before .before .before .before .before .before .before .before .before .before .before .before .before .before .before .before .before .before .good .1 .1 .1 .1 .1 .1 .0 in omega arith
@@ -75,7 +75,7 @@ loop-less c = search needs
 loop-again : tie.Need-loop-again Inv-loop μ-loop
 loop-again c =
     let z = c .before .before .before .before .before .if2 .left in
-    quick-turn (rows-both (c .before .before .before .before .before .before .before .before .before .before .before .before .before .before .before .loop .inv) (c .before .before .before .before .before .before .before .before .before .before .before .before .short-rows .ensures .read _ (c .before .before .before .before .before .before .before .before .if1 .left))) (c .before .before .before .if3 .left) (c .before .before .before .before .two-groups .ensures .0) (c .before .before .if4 .left) (omega arith) (c .narrow .ensures)
+    quick-turn (rows-both (c .before .before .before .before .before .before .before .before .before .before .before .before .before .before .before .loop .inv) (c .before .before .before .before .before .before .before .before .before .before .before .before .short-rows .ensures .read _ (c .before .before .before .before .before .before .before .before .if1 .left))) (c .before .before .before .if3 .left) (c .before .before .before .before .two-groups .ensures .0) (c .before .before .if4 .left) (omega arith) (c .narrow32 .ensures)
 
 same-length-3 : tie.Need-same-length-3 Inv-loop μ-loop
 same-length-3 c = rows-long (c .before .loop .inv)
@@ -107,7 +107,7 @@ quick-rows-spec =
     same-length-2
     returns-2
     add-row
-    narrow-requires
+    narrow32-requires
     mul-rows
     slice-write-rows
     add-total-2

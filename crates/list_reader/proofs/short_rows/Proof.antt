@@ -25,14 +25,14 @@ most-short-requires c κs = search needs
 loop-holds : tie.Need-loop-holds Inv-loop μ-loop
 loop-holds c = short-start _ _ _ _ _ _ (c .before .before .before .pre .0)
 
-add-wide : tie.Need-add-wide Inv-loop μ-loop
-add-wide c = search needs
+add-wide8 : tie.Need-add-wide8 Inv-loop μ-loop
+add-wide8 c = search needs
 
-shared-slice-read-wide : tie.Need-shared-slice-read-wide Inv-loop μ-loop
-shared-slice-read-wide c = search needs
+shared-slice-read-wide8 : tie.Need-shared-slice-read-wide8 Inv-loop μ-loop
+shared-slice-read-wide8 c = search needs
 
-wide-requires : tie.Need-wide-requires Inv-loop μ-loop
-wide-requires c κs = search needs
+wide8-requires : tie.Need-wide8-requires Inv-loop μ-loop
+wide8-requires c κs = search needs
 
 same-length : tie.Need-same-length Inv-loop μ-loop
 same-length c = short-long (c .before .before .before .before .loop .inv)
@@ -43,8 +43,8 @@ returns c = c .before .before .before .before .loop .inv
 add-last : tie.Need-add-last Inv-loop μ-loop
 add-last c = let g = c .before .before .before .before .before .loop .inv .grows in let f = c .before .before .before .before .before .loop .inv .few in let p = c .before .before .before .before .before .before .before .before .before .pre .1 in let q = c .before .before .before .before .before .before .before .before .before .pre .2 in omega arith
 
-narrow-requires : tie.Need-narrow-requires Inv-loop μ-loop
-narrow-requires c κs = let g = c .before .before .before .before .before .loop .inv .grows in let f = c .before .before .before .before .before .loop .inv .few in let p = c .before .before .before .before .before .before .before .before .before .pre .1 in let q = c .before .before .before .before .before .before .before .before .before .pre .2 in omega arith
+narrow32-requires : tie.Need-narrow32-requires Inv-loop μ-loop
+narrow32-requires c κs = let g = c .before .before .before .before .before .loop .inv .grows in let f = c .before .before .before .before .before .loop .inv .few in let p = c .before .before .before .before .before .before .before .before .before .pre .1 in let q = c .before .before .before .before .before .before .before .before .before .pre .2 in omega arith
 
 add-rows : tie.Need-add-rows Inv-loop μ-loop
 add-rows c = search needs
@@ -65,9 +65,9 @@ loop-again : tie.Need-loop-again Inv-loop μ-loop
 loop-again c =
     let (few, there, room) = c .before .before .before .before .before .before .before .most-short .ensures in
     let some = c .before .before .if1 .left in
-    let short = ltb-false 127 (c .before .before .before .wide .result) (c .before .if2 .left) in
+    let short = ltb-false 127 (c .before .before .before .wide8 .result) (c .before .if2 .left) in
     let t = c .before .before .before .before .before .loop-test .taken in
-    short-turn (c .before .before .before .before .before .before .loop .inv) (omega arith) (omega arith) (c .before .before .before .wide .ensures .0) (omega arith) (omega arith) (c .narrow .ensures)
+    short-turn (c .before .before .before .before .before .before .loop .inv) (omega arith) (omega arith) (c .before .before .before .wide8 .ensures .0) (omega arith) (omega arith) (c .narrow32 .ensures)
 
 same-length-2 : tie.Need-same-length-2 Inv-loop μ-loop
 same-length-2 c = short-long (c .before .loop .inv)
@@ -84,13 +84,13 @@ short-rows-spec =
     sub-most-short
     most-short-requires
     loop-holds
-    add-wide
-    shared-slice-read-wide
-    wide-requires
+    add-wide8
+    shared-slice-read-wide8
+    wide8-requires
     same-length
     returns
     add-last
-    narrow-requires
+    narrow32-requires
     add-rows
     mul-rows
     slice-write-rows

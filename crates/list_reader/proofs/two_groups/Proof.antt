@@ -15,20 +15,20 @@ sub-if1 c = search needs
 returns : tie.Need-returns
 returns c = (λ z. absurd (z refl), omega arith)
 
-shared-slice-read-wide : tie.Need-shared-slice-read-wide
-shared-slice-read-wide c = search needs
+shared-slice-read-wide8 : tie.Need-shared-slice-read-wide8
+shared-slice-read-wide8 c = search needs
 
-wide-requires : tie.Need-wide-requires
-wide-requires c κs = search needs
+wide8-requires : tie.Need-wide8-requires
+wide8-requires c κs = search needs
 
-add-wide : tie.Need-add-wide
-add-wide c = search needs
+add-wide8 : tie.Need-add-wide8
+add-wide8 c = search needs
 
-shared-slice-read-wide-2 : tie.Need-shared-slice-read-wide-2
-shared-slice-read-wide-2 c = search needs
+shared-slice-read-wide8-2 : tie.Need-shared-slice-read-wide8-2
+shared-slice-read-wide8-2 c = search needs
 
-wide-requires-2 : tie.Need-wide-requires-2
-wide-requires-2 c κs = search needs
+wide8-requires-2 : tie.Need-wide8-requires-2
+wide8-requires-2 c κs = search needs
 
 returns-2 : tie.Need-returns-2
 returns-2 c = (λ z. absurd (z refl), omega arith)
@@ -41,13 +41,13 @@ add-result c = search needs
 
 returns-3 : tie.Need-returns-3
 returns-3 c =
-    let some : c .before .before .before .wide2 .result ≢ 0 = eqb-false (c .before .before .before .wide2 .result) 0 (c .before .if3 .left) in
-    let last = ltb-false 127 (c .before .before .before .wide2 .result) (c .if4 .left) in
+    let some : c .before .before .before .wide82 .result ≢ 0 = eqb-false (c .before .before .before .wide82 .result) 0 (c .before .if3 .left) in
+    let last = ltb-false 127 (c .before .before .before .wide82 .result) (c .if4 .left) in
     let more = c .before .before .if2 .left in
-    let byte = c .before .before .before .before .before .wide .ensures .1 in
+    let byte = c .before .before .before .before .before .wide8 .ensures .1 in
     let there = c .before .before .before .before .before .before .before .if1 .left in
     let inside = c .before .before .before .before .before .before .before .before .before .pre in
-    (λ z. two-groups _ _ (omega arith) (c .before .before .before .before .before .wide .ensures .0) more (c .before .before .before .wide2 .ensures .0) some (omega arith), omega arith)
+    (λ z. two-groups _ _ (omega arith) (c .before .before .before .before .before .wide8 .ensures .0) more (c .before .before .before .wide82 .ensures .0) some (omega arith), omega arith)
 
 pub two-groups-spec : {M : Type 1} → statement M
 two-groups-spec =
@@ -55,11 +55,11 @@ two-groups-spec =
     (tie.spec
     sub-if1
     returns
-    shared-slice-read-wide
-    wide-requires
-    add-wide
-    shared-slice-read-wide-2
-    wide-requires-2
+    shared-slice-read-wide8
+    wide8-requires
+    add-wide8
+    shared-slice-read-wide8-2
+    wide8-requires-2
     returns-2
     mul-result
     add-result
