@@ -2,7 +2,7 @@
 -- Assumes nothing.
 use borrow.Author.Needs.{needs}
 use Rattle.bytes_laws.proofs.Reaches.{steps-reach, lists-reach}
-use Rattle.list_reader.proofs.Answers.{told-found, told-refused}
+use Rattle.field_reader.proofs.Answers.{told-found, told-refused}
 use Rattle.plan_reader.proofs.Wholes.{no-steps, no-lists, plan-faulty, plan-whole}
 use Rattle.plan_reader.proofs.read_plan.Statement.{statement}
 use Rattle.plan_reader.proofs.read_plan.Tie as tie

@@ -5,8 +5,8 @@ use native.Mathlib.Omega.{arith}
 use lib.ListN.{set}
 use borrow.Author.Needs.{needs}
 use denote.Ref.{now}
-use Rattle.list_reader.proofs.Answers.{field-refused, field-found}
-use Rattle.list_reader.specs.Reading.{finds, refuses}
+use Rattle.field_reader.proofs.Answers.{field-refused, field-found}
+use Rattle.field_reader.specs.Reading.{finds, refuses}
 use Rattle.plan_reader.proofs.Steps.{step-no-column, step-no-pops, step-got}
 use Rattle.plan_reader.proofs.read_step.Statement.{statement}
 use Rattle.plan_reader.proofs.read_step.Tie as tie

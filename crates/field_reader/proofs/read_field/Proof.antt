@@ -1,9 +1,9 @@
 -- A byte below 128 is a number by itself, two bytes may be one; any other number is what read_long reads. Either way the field is that number in its range.
 -- Assumes nothing.
 use borrow.Author.Needs.{needs}
-use Rattle.list_reader.proofs.Answers.{field-by-number, one-group}
-use Rattle.list_reader.proofs.read_field.Statement.{statement}
-use Rattle.list_reader.proofs.read_field.Tie as tie
+use Rattle.field_reader.proofs.Answers.{field-by-number, one-group}
+use Rattle.field_reader.proofs.read_field.Statement.{statement}
+use Rattle.field_reader.proofs.read_field.Tie as tie
 
 shared-slice-read-wide8 : tie.Need-shared-slice-read-wide8
 shared-slice-read-wide8 c = search needs
@@ -30,7 +30,7 @@ in-range-requires-2 : tie.Need-in-range-requires-2
 in-range-requires-2 c κs = search needs
 
 returns-2 : tie.Need-returns-2
-returns-2 c = field-by-number _ _ _ _ (c .before .before .two-groups .ensures .0 (c .before .if3 .taken)) (c .in-range2 .ensures)
+returns-2 c = field-by-number _ _ _ _ (c .before .before .two-groups .ensures (c .before .if3 .taken)) (c .in-range2 .ensures)
 
 read-long-requires : tie.Need-read-long-requires
 read-long-requires c κs = search needs

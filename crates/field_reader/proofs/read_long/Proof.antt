@@ -2,9 +2,9 @@
 -- Assumes nothing.
 use mathlib.Core.Path.{sym, _∙_}
 use borrow.Author.Needs.{needs}
-use Rattle.list_reader.proofs.Answers.{ended-is-12, too-long-is-13, not-shortest-is-13, field-by-number}
-use Rattle.list_reader.proofs.read_long.Statement.{statement}
-use Rattle.list_reader.proofs.read_long.Tie as tie
+use Rattle.field_reader.proofs.Answers.{ended-is-12, too-long-is-13, not-shortest-is-13, field-by-number}
+use Rattle.field_reader.proofs.read_long.Statement.{statement}
+use Rattle.field_reader.proofs.read_long.Tie as tie
 
 add-place : tie.Need-add-place
 add-place c = search needs
