@@ -51,7 +51,7 @@ pub fn read_long(plan: &[u8], at: usize, low: u64, high: u64) -> Reading
     ensures { λ r. ⌜ r ≡ reading (field low high (now (plan .entry)) at) ⌝ }
 {
     let place = at as u64 + 1;
-    match groups::get(plan, at) {
+    match number_reader::read_number(plan, at) {
         Number::Value { value, next } => {
             return in_range(at, low, high, value, next);
         }

@@ -5,9 +5,9 @@ use Prim.Native.Nat.{_-_}
 use mathlib.Core.Logic.{⊎-elim, inl, inr}
 use native.Mathlib.Omega.{arith}
 use borrow.Author.Needs.{needs}
-use Rattle.groups.proofs.Carried.{Carried, start, carried-below, stop-end, stop-long, stop-zero, stop-value, turn}
-use Rattle.groups.proofs.get.Statement.{statement}
-use Rattle.groups.proofs.get.Tie as tie
+use Rattle.number_reader.proofs.Carried.{Carried, start, carried-below, stop-end, stop-long, stop-zero, stop-value, turn}
+use Rattle.number_reader.proofs.read_number.Statement.{statement}
+use Rattle.number_reader.proofs.read_number.Tie as tie
 
 abbrev Inv-loop : tie.InvT-loop
 Inv-loop s at i₀ low₀ w₀ k₀ i low w k = Carried s at i low w k
@@ -76,8 +76,8 @@ loop-again c =
 returns-4 : tie.Need-returns-4 Inv-loop μ-loop
 returns-4 c = stop-end (c .before .loop .inv) (c .loop-test .left)
 
-pub get-spec : {M : Type 1} → statement M
-get-spec =
+pub read-number-spec : {M : Type 1} → statement M
+read-number-spec =
     tie.close
     (tie.spec
     Inv-loop
