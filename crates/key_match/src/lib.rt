@@ -31,11 +31,12 @@ fn match_groups(plan: &[u8], at: usize, x: u64) -> KeyMatch
     let count = groups.count;
     let mut i = 0;
     while i < count {
-        let place = (at + i) as u64 + 1;
-        if plan.len() <= at + i {
+        let k = at + i;
+        let place = k as u64 + 1;
+        if plan.len() <= k {
             return KeyMatch::Differs { place };
         }
-        if plan[at + i] != bytes[i] {
+        if plan[k] != bytes[i] {
             return KeyMatch::Differs { place };
         }
         i += 1;

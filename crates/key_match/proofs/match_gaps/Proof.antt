@@ -38,7 +38,9 @@ enum-known-place : tie.Need-enum-known-place Inv-loop μ-loop
 enum-known-place c = search needs
 
 returns : tie.Need-returns Inv-loop μ-loop
-returns c = differs-number (c .before .before .before .before .before .before .before .loop .inv .1) (gaps-next (c .before .before .before .before .before .before .before .loop .inv .0) (c .before .before .before .before .before .before .loop-test .taken) (c .before .before .before .before .wide32 .ensures .0)) (c .before .before .before .match-number .ensures) (c .before .place .given .1)
+returns c =
+    let (rows, found) = c .before .before .before .before .before .before .before .loop .inv in
+    differs-number found (gaps-next rows (c .before .before .before .before .before .before .loop-test .taken) (c .before .before .before .before .wide32 .ensures .0)) (c .before .before .before .match-number .ensures) (c .before .place .given .1)
 
 enum-known-next : tie.Need-enum-known-next Inv-loop μ-loop
 enum-known-next c = search needs
@@ -50,13 +52,16 @@ loop-less : tie.Need-loop-less Inv-loop μ-loop
 loop-less c = search needs
 
 loop-again : tie.Need-loop-again Inv-loop μ-loop
-loop-again c = (
-  rows-next (c .before .before .before .before .before .before .before .loop .inv .0) (c .before .before .before .before .before .before .loop-test .taken) (c .before .before .before .before .wide32 .ensures .0),
-  left-number (c .before .before .before .before .before .before .before .loop .inv .1) (gaps-next (c .before .before .before .before .before .before .before .loop .inv .0) (c .before .before .before .before .before .before .loop-test .taken) (c .before .before .before .before .wide32 .ensures .0)) (c .before .before .before .match-number .ensures) (c .before .next .given .1),
-)
+loop-again c =
+    let (rows, found) = c .before .before .before .before .before .before .before .loop .inv in
+    let next = c .before .before .before .before .before .before .loop-test .taken in
+    let row = c .before .before .before .before .wide32 .ensures .0 in
+    (rows-next rows next row, left-number found (gaps-next rows next row) (c .before .before .before .match-number .ensures) (c .before .next .given .1))
 
 returns-2 : tie.Need-returns-2 Inv-loop μ-loop
-returns-2 c = left-none (c .before .loop .inv .1) (gaps-none (c .before .loop .inv .0) (c .loop-test .left))
+returns-2 c =
+    let (rows, found) = c .before .loop .inv in
+    left-none found (gaps-none rows (c .loop-test .left))
 
 pub match-gaps-spec : {M : Type 1} → statement M
 match-gaps-spec =
