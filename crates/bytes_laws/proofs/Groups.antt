@@ -12,16 +12,25 @@ use Rattle.papers.specs.Numbers.{over, lastGroup}
 use Rattle.papers.specs.Conditions.{Continues, groupsValue}
 use Rattle.papers.specs.declared.Number.{Number}
 use Rattle.papers.specs.declared.Number.the-variants.{Value, Ended, TooLong, NotShortest}
-use Rattle.list_laws.proofs.Tests.{true-false, below-or}
-use Rattle.bytes_laws.proofs.NumberReading.{Shown, last-shown}
+use Rattle.list_laws.proofs.Tests.{below-or}
+use Rattle.bytes_laws.proofs.NumberReading.{Shown, shown-some, last-shown}
+
+-- whether a group behind k others is the first of its number
+abbrev pub firstAt : Bool → ℕ → Bool
+firstAt first zero = first
+firstAt first (suc k) = false
+
+later : (k : ℕ) → firstAt false k ≡ false
+later zero = refl
+later (suc k) = refl
 
 -- the number whose groups stand from `at` on, of which m may still come, and whether the next is the first
 pub data Standing (m : ℕ) (first : Bool) (s : List ℕ) (at : ℕ) : Number → Type 0 where
   ends : {k : ℕ} → k ≤ m → length s ≤ at + k → Continues s at k → Standing m first s at Ended
   goes-on : at + m < length s → Continues s at m → Standing m first s at TooLong
-  zero-last : {k : ℕ} → (first ≡ false) ⊎ (0 < k) → k < m → at + k < length s → Continues s at k → getD s (at + k) 0 ≡ 0 → Standing m first s at NotShortest
-  last : {k : ℕ} → k < m → at + k < length s → Continues s at k → getD s (at + k) 0 < 128
-      → ((first ≡ true) × (k ≡ 0)) ⊎ (0 < getD s (at + k) 0) → Standing m first s at (Value (groupsValue s at k) (at + k + 1))
+  zero-last : {k : ℕ} → firstAt first k ≡ false → k < m → at + k < length s → Continues s at k → getD s (at + k) 0 ≡ 0 → Standing m first s at NotShortest
+  last : {k : ℕ} → k < m → at + k < length s → Continues s at k → getD s (at + k) 0 < 128 → Shown (firstAt first k) (getD s (at + k) 0)
+      → Standing m first s at (Value (groupsValue s at k) (at + k + 1))
 
 -- the same by its first group
 pub data ByGroup (first : Bool) (s : List ℕ) (at : ℕ) : ℕ → Number → Type 0 where
@@ -67,12 +76,11 @@ module _ (s : List ℕ) (at : ℕ) where
   split-long zero h c = too-many (omega arith)
   split-long (suc m) h c = let b = first-continues m c in more-groups {m = m} {x = TooLong} (there b) b (goes-on (omega arith) (rest-continue m c))
 
-  split-zero : (m k : ℕ) {first : Bool} → (first ≡ false) ⊎ (0 < k) → k < m → at + k < length s → Continues s at k → getD s (at + k) 0 ≡ 0
+  split-zero : (m k : ℕ) {first : Bool} → firstAt first k ≡ false → k < m → at + k < length s → Continues s at k → getD s (at + k) 0 ≡ 0
       → ByGroup first s at m NotShortest
   unfolding over lastGroup
   split-zero zero k o l h c e = absurd (omega arith)
-  split-zero (suc m) zero (inr o) l h c e = absurd (omega arith)
-  split-zero (suc m) zero (inl o) l h c e =
+  split-zero (suc m) zero o l h c e =
       let q : at + 0 ≡ at = omega arith in
       let z : getD s at 0 ≡ 0 = rw q at e in
       let g : ByGroup false s at (suc m) (lastGroup false (getD s at 0) at) = last-group {m = m} (omega arith) (omega arith) in
@@ -80,29 +88,20 @@ module _ (s : List ℕ) (at : ℕ) where
   split-zero (suc m) (suc k) o l h c e =
       let b = first-continues k c in
       let q : at + suc k ≡ at + 1 + k = omega arith in
-      more-groups {m = m} {x = NotShortest} (there b) b (zero-last {k = k} (inl refl) (omega arith) (omega arith) (rest-continue k c) (rw q at e))
+      more-groups {m = m} {x = NotShortest} (there b) b (zero-last {k = k} (later k) (omega arith) (omega arith) (rest-continue k c) (rw q at e))
 
-  split-last : (m k : ℕ) {first : Bool} → k < m → at + k < length s → Continues s at k → getD s (at + k) 0 < 128
-      → ((first ≡ true) × (k ≡ 0)) ⊎ (0 < getD s (at + k) 0) → ByGroup first s at m (Value (groupsValue s at k) (at + k + 1))
+  split-last : (m k : ℕ) {first : Bool} → k < m → at + k < length s → Continues s at k → getD s (at + k) 0 < 128 → Shown (firstAt first k) (getD s (at + k) 0)
+      → ByGroup first s at m (Value (groupsValue s at k) (at + k + 1))
   unfolding over groupsValue
   split-last zero k l h c b o = absurd (omega arith)
   split-last (suc m) zero {first} l h c b o =
       let q : at + 0 ≡ at = omega arith in
       let g : ByGroup first s at (suc m) (lastGroup first (getD s at 0) at) = last-group (omega arith) (rw q at b) in
-      rw q (rw (last-shown first (getD s at 0) at (shown first 0 (rw q at o))) at g)
-    where
-      shown : (first : Bool) (k : ℕ) → ((first ≡ true) × (k ≡ 0)) ⊎ (0 < getD s at 0) → Shown first (getD s at 0)
-      shown true k o = tt
-      shown false k (inl o) = absurd (true-false (o .0) refl)
-      shown false k (inr o) = o
+      rw q (rw (last-shown first (getD s at 0) at (rw q at o)) at g)
   split-last (suc m) (suc k) {first} l h c b o =
       let d = first-continues k c in
       let q : at + suc k ≡ at + 1 + k = omega arith in
-      rw q (more-groups {m = m} {x = Value (groupsValue s (at + 1) k) (at + 1 + k + 1)} (there d) d (last {k = k} (omega arith) (omega arith) (rest-continue k c) (rw q at b) (inr (rw q at (some o)))))
-    where
-      some : ((first ≡ true) × (suc k ≡ 0)) ⊎ (0 < getD s (at + suc k) 0) → 0 < getD s (at + suc k) 0
-      some (inl e) = absurd (let z = e .1 in omega arith)
-      some (inr p) = p
+      rw q (more-groups {m = m} {x = Value (groupsValue s (at + 1) k) (at + 1 + k + 1)} (there d) d (last {k = k} (omega arith) (omega arith) (rest-continue k c) (rw q at b) (shown-some (firstAt false k) _ (rw q at o))))
 
   pub split : {m : ℕ} {first : Bool} {x : Number} → Standing m first s at x → ByGroup first s at m x
   split {m} (ends {k = k} l h c) = split-end m k l h c
@@ -112,23 +111,19 @@ module _ (s : List ℕ) (at : ℕ) where
 
   -- ---- and back
 
-  one-group : (first : Bool) (m : ℕ) → at < length s → getD s at 0 < 128 → (first ≡ true) ⊎ (0 < getD s at 0)
+  one-group : (first : Bool) (m : ℕ) → at < length s → getD s at 0 < 128 → Shown first (getD s at 0)
       → Standing (suc m) first s at (Value (getD s at 0) (at + 1))
   unfolding groupsValue
   one-group first m h l o =
       let q : at + 0 ≡ at = omega arith in
-      let g : Standing (suc m) first s at (Value (groupsValue s at 0) (at + 0 + 1)) = last {k = 0} (omega arith) (omega arith) none-continue (rw q l) (which o) in
+      let g : Standing (suc m) first s at (Value (groupsValue s at 0) (at + 0 + 1)) = last {k = 0} (omega arith) (omega arith) none-continue (rw q l) (rw q o) in
       rw q at g
-    where
-      which : (first ≡ true) ⊎ (0 < getD s at 0) → ((first ≡ true) × (_≡_ {A = ℕ} 0 0)) ⊎ (0 < getD s (at + 0) 0)
-      which (inl e) = inl (e, refl)
-      which (inr p) = let q : at + 0 ≡ at = omega arith in rw q (inr p)
 
   join-last : (first : Bool) (m b : ℕ) → getD s at 0 ≡ b → at < length s → b < 128 → Standing (suc m) first s at (lastGroup first b at)
   unfolding lastGroup
-  join-last true m zero e h l = rw e at (one-group true m h (omega arith) (inl refl))
-  join-last false m zero e h l = let q : at + 0 ≡ at = omega arith in zero-last {k = 0} (inl refl) (omega arith) (omega arith) none-continue (rw q e)
-  join-last first m (suc b) e h l = rw e at (one-group first m h (omega arith) (inr (omega arith)))
+  join-last true m zero e h l = rw e at (one-group true m h (omega arith) tt)
+  join-last false m zero e h l = let q : at + 0 ≡ at = omega arith in zero-last {k = 0} refl (omega arith) (omega arith) none-continue (rw q e)
+  join-last first m (suc b) e h l = rw e at (one-group first m h (omega arith) (shown-some first (getD s at 0) (omega arith)))
 
   join-more : (m : ℕ) {first : Bool} {x : Number} → 128 ≤ getD s at 0 → Standing m false s (at + 1) x → Standing (suc m) first s at (over (getD s at 0 - 128) x)
   unfolding over groupsValue
@@ -136,16 +131,12 @@ module _ (s : List ℕ) (at : ℕ) where
   join-more m b (goes-on h c) = goes-on (omega arith) (continue-both m b c)
   join-more m b (zero-last {k = k} o l h c e) =
       let q : at + suc k ≡ at + 1 + k = omega arith in
-      zero-last {k = suc k} (inr (omega arith)) (omega arith) (omega arith) (continue-both k b c) (rw q e)
+      zero-last {k = suc k} refl (omega arith) (omega arith) (continue-both k b c) (rw q e)
   join-more m {first} b (last {k = k} l h c d o) =
       let q : at + suc k ≡ at + 1 + k = omega arith in
       let g : Standing (suc m) first s at (Value (groupsValue s at (suc k)) (at + suc k + 1)) =
-      last {k = suc k} (omega arith) (omega arith) (continue-both k b c) (rw q d) (rw q (inr (shown o))) in
+      last {k = suc k} (omega arith) (omega arith) (continue-both k b c) (rw q d) (rw q (rw (later k) at o)) in
       rw q at g
-    where
-      shown : ((false ≡ true) × (k ≡ 0)) ⊎ (0 < getD s (at + 1 + k) 0) → 0 < getD s (at + 1 + k) 0
-      shown (inl e) = absurd (true-false (e .0) refl)
-      shown (inr p) = p
 
   pub join : {m : ℕ} {first : Bool} {x : Number} → ByGroup first s at m x → Standing m first s at x
   join (no-group h) = ends {k = 0} (omega arith) (omega arith) none-continue

@@ -5,14 +5,15 @@ use mathlib.Core.Path.{_≡_, refl, ap, _∙_}
 use mathlib.Core.Logic.{_⊎_, inl, inr, _↔_}
 use mathlib.Core.Bool.{Bool, true, false}
 use mathlib.Core.List.{List}
+use native.Mathlib.Omega.{arith}
 use lib.ListN.{length, getD}
 use Rattle.papers.specs.Bounds.{maxGroups}
 use Rattle.papers.specs.Numbers.{over, readFrom, readNumber}
 use Rattle.papers.specs.Conditions.{Stands, ended, too-long, not-shortest, value}
 use Rattle.papers.specs.declared.Number.{Number}
 use Rattle.list_laws.proofs.Tests.{true-false, below-or}
-use Rattle.bytes_laws.proofs.NumberReading.{read-end, read-long, read-last, read-more}
-use Rattle.bytes_laws.proofs.Groups.{Standing, ends, goes-on, zero-last, last, ByGroup, no-group, too-many, last-group, more-groups, split, join}
+use Rattle.bytes_laws.proofs.NumberReading.{read-end, read-long, read-last, read-more, Shown}
+use Rattle.bytes_laws.proofs.Groups.{firstAt, Standing, ends, goes-on, zero-last, last, ByGroup, no-group, too-many, last-group, more-groups, split, join}
 
 -- ---- reading, from all groups and back
 
@@ -53,23 +54,28 @@ number-stands-iff s at x = (λ e. into (rw e at (read-standing maxGroups true s 
     into : {x : Number} → Standing maxGroups true s at x → Stands s at x
     into (ends l h c) = ended l h c
     into (goes-on h c) = too-long h c
-    into (zero-last {k = k} o l h c e) = not-shortest (some o) l h c e
+    into (zero-last {k = k} o l h c e) = not-shortest (some k o) l h c e
       where
-        some : (true ≡ false) ⊎ (0 < k) → 0 < k
-        some (inl e) = absurd (true-false refl e)
-        some (inr p) = p
-    into (last {k = k} l h c b o) = value l h c b (only o)
+        some : (k : ℕ) → firstAt true k ≡ false → 0 < k
+        some zero e = absurd (true-false refl e)
+        some (suc k) e = omega arith
+    into (last {k = k} l h c b o) = value l h c b (only k o)
       where
-        only : ((true ≡ true) × (k ≡ 0)) ⊎ (0 < getD s (at + k) 0) → (k ≡ 0) ⊎ (0 < getD s (at + k) 0)
-        only (inl e) = inl (e .1)
-        only (inr p) = inr p
+        only : (k : ℕ) {b : ℕ} → Shown (firstAt true k) b → (k ≡ 0) ⊎ (0 < b)
+        only zero o = inl refl
+        only (suc k) o = inr o
 
     out : {x : Number} → Stands s at x → Standing maxGroups true s at x
     out (ended l h c) = ends l h c
     out (too-long h c) = goes-on h c
-    out (not-shortest p l h c e) = zero-last (inr p) l h c e
-    out (value {k = k} l h c b o) = last l h c b (first o)
+    out (not-shortest {k = k} p l h c e) = zero-last (not-first k p) l h c e
       where
-        first : (k ≡ 0) ⊎ (0 < getD s (at + k) 0) → ((true ≡ true) × (k ≡ 0)) ⊎ (0 < getD s (at + k) 0)
-        first (inl e) = inl (refl, e)
-        first (inr p) = inr p
+        not-first : (k : ℕ) → 0 < k → firstAt true k ≡ false
+        not-first zero p = absurd (omega arith)
+        not-first (suc k) p = refl
+    out (value {k = k} l h c b o) = last l h c b (shown k o)
+      where
+        shown : (k : ℕ) {b : ℕ} → (k ≡ 0) ⊎ (0 < b) → Shown (firstAt true k) b
+        shown zero o = tt
+        shown (suc k) (inl e) = absurd (omega arith)
+        shown (suc k) (inr p) = p

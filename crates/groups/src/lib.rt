@@ -1,12 +1,11 @@
-// Numbers in groups of seven bits: their length, their bytes, and reading one.
+// Numbers in groups of seven bits: their length and their bytes.
 ghost use mathlib.Core.Path.{_≡_};
 ghost use Prim.Native.Nat.{_+_, _≤_, _<_};
 ghost use lib.ListN.{length, replicate};
 ghost use lib.Seq.{sets};
 ghost use Rattle.papers.specs.Bounds.{maxGroups};
-ghost use Rattle.papers.specs.Numbers.{bytesOf, readNumber};
+ghost use Rattle.papers.specs.Numbers.{bytesOf};
 ghost use Rattle.groups.specs.Fits.{Fits};
-use papers::Number;
 
 // The bytes of a number in a little array: the first count of them, then zeros.
 pub struct Groups {
@@ -78,43 +77,4 @@ pub fn put(dst: &mut [u8], at: usize, x: u64) -> usize
         i += 1;
     }
     at + count
-}
-
-// A byte as a 64-bit number, which stays below 256.
-fn wide(b: u8) -> u64
-    ensures { λ r. ⌜ (r ≡ b) × (r < 256) ⌝ }
-{
-    b as u64
-}
-
-// The number that starts at `at`. low is what the groups before i come to, w the weight of the next, k how many may still come.
-pub fn get(s: &[u8], at: usize) -> Number
-    ensures { λ r. ⌜ r ≡ readNumber (now (s .entry)) at ⌝ }
-{
-    let mut i = at;
-    let mut low: u64 = 0;
-    let mut w: u64 = 1;
-    let mut k = papers::MAX_GROUPS;
-    while i < s.len() {
-        if k == 0 {
-            return Number::TooLong;
-        }
-        let b = wide(s[i]);
-        if b < 128 {
-            if b == 0 {
-                if at < i {
-                    return Number::NotShortest;
-                }
-            }
-            return Number::Value {
-                value: low + w * b,
-                next: i + 1,
-            };
-        }
-        low = low + w * (b - 128);
-        w = w * 128;
-        k -= 1;
-        i += 1;
-    }
-    Number::Ended
 }

@@ -1,20 +1,19 @@
 -- Bytes held against a plan, byte by byte: the first byte is there or not, and if it is, the rest is held against what follows. So bytes behind others
 -- are held against what follows those.
 -- Assumes nothing.
-use Prim.Native.Nat.{ℕ, suc, _+_, _-_, _<_, _≤_}
+use Prim.Native.Nat.{ℕ, suc, _+_, _<_, _≤_}
 use mathlib.Core.List.{List, [], _∷_, _++_}
 use mathlib.Core.Logic.{_⊎_, inl, inr, _≢_}
 use mathlib.Core.Path.{_≡_, refl, sym, ap, _∙_}
 use native.Mathlib.Numerals.{add-one}
 use native.Mathlib.Omega.{arith}
 use lib.Dec.{eqb}
-use lib.ListN.{length, getD, drop, replicate, drop-of-length-le, List·getD-append}
-use lib.Seq.{sets, sets-eq, drop-cons}
+use lib.ListN.{length, getD, drop, drop-of-length-le}
+use lib.Seq.{drop-cons}
 use borrow.Author.Tests.{lt-ltb, le-ltb, eq-eqb, ne-eqb, eqb-true, eqb-false}
-use Rattle.papers.specs.Bounds.{maxGroups}
 use Rattle.papers.specs.Numbers.{bytesOf}
 use Rattle.list_laws.proofs.Tests.{Test, passes, fails, test, below-or}
-use Rattle.bytes_laws.proofs.Numbers.{groups-small, bytes-length}
+use Rattle.groups.proofs.Written.{bytes-small}
 use Rattle.key_match.specs.Matches.{matchFrom}
 use Rattle.key_match.specs.declared.KeyMatch.the-variants.{Begins, Differs}
 use Rattle.key_match.specs.declared.KeyMatch.{KeyMatch}
@@ -91,14 +90,8 @@ bytes-inside (x ∷ a) plan at {k} h e = go (byte x plan at) (bytes-inside a pla
 
 -- a number of one group is one byte
 pub one-byte : (x : ℕ) (plan : List ℕ) (at : ℕ) → x < 128 → at < length plan → getD plan at 0 ≡ x → Begins (at + 1) ≡ matchFrom (bytesOf x) plan at
-unfolding bytesOf matchFrom
-one-byte x plan at l h e = rw (groups-small (maxGroups - 1) x l) (sym (byte-there x [] plan at h e))
-
--- a byte of the little array
-pub array-byte : (x i : ℕ) {array : List ℕ} → array ≡ sets (replicate maxGroups 0) 0 (bytesOf x) → i < length (bytesOf x) → getD array i 0 ≡ getD (bytesOf x) i 0
-array-byte x i e h =
-    let f : 0 + length (bytesOf x) ≤ length {A = ℕ} (replicate maxGroups 0) = omega (arith, bytes-length x) in
-    rw (e, sets-eq (bytesOf x) (replicate maxGroups 0) 0 f) (List·getD-append (bytesOf x) (drop (0 + length (bytesOf x)) (replicate maxGroups 0)) 0 i h)
+unfolding matchFrom
+one-byte x plan at l h e = rw (bytes-small x l) (sym (byte-there x [] plan at h e))
 
 -- the first i bytes are there
 pub record Bytes (bytes plan : List ℕ) (at i : ℕ) : Type 0 where

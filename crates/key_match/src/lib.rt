@@ -1,7 +1,7 @@
 // A plan's bytes held against the job's key, number by number: the bytes of each number are made and compared where they should stand.
 ghost use mathlib.Core.Path.{_≡_};
 ghost use mathlib.Core.List.{[], _∷_};
-ghost use Prim.Native.Nat.{_+_, _^_, _≤_, _<_};
+ghost use Prim.Native.Nat.{_≤_};
 ghost use lib.ListN.{length};
 ghost use lib.Seq.{slice};
 ghost use Rattle.papers.specs.Bounds.{maxColumns};
@@ -21,20 +21,6 @@ pub enum KeyMatch {
     Differs { place: u64 },
 }
 
-// A byte as a 64-bit number.
-fn wide(b: u8) -> u64
-    ensures { λ r. ⌜ (r ≡ b) × (r < 256) ⌝ }
-{
-    b as u64
-}
-
-// A row as a 64-bit number.
-fn wide_row(row: u32) -> u64
-    ensures { λ r. ⌜ (r ≡ row) × (r < 2 ^ 32) ⌝ }
-{
-    row as u64
-}
-
 // Holds the bytes of x against the plan from `at` on. The first i are there.
 fn match_groups(plan: &[u8], at: usize, x: u64) -> KeyMatch
     requires { ⌜ Fits x × (at ≤ length (now plan)) ⌝ }
@@ -45,11 +31,12 @@ fn match_groups(plan: &[u8], at: usize, x: u64) -> KeyMatch
     let count = groups.count;
     let mut i = 0;
     while i < count {
-        let place = (at + i) as u64 + 1;
-        if plan.len() <= at + i {
+        let k = at + i;
+        let place = k as u64 + 1;
+        if plan.len() <= k {
             return KeyMatch::Differs { place };
         }
-        if plan[at + i] != bytes[i] {
+        if plan[k] != bytes[i] {
             return KeyMatch::Differs { place };
         }
         i += 1;
@@ -64,7 +51,7 @@ fn match_number(plan: &[u8], at: usize, x: u64) -> KeyMatch
 {
     if at < plan.len() {
         if x < 128 {
-            if wide(plan[at]) == x {
+            if basics::wide8(plan[at]) == x {
                 return KeyMatch::Begins { next: at + 1 };
             }
         }
@@ -96,7 +83,7 @@ fn match_gaps(plan: &[u8], at: usize, rows: &[u32], from: usize, to: usize, j: u
     let mut before = j;
     let mut i = from;
     while i < to {
-        let row = wide_row(rows[i]);
+        let row = basics::wide32(rows[i]);
         match match_number(plan, k, row - before) {
             KeyMatch::Differs { place } => {
                 return KeyMatch::Differs { place };

@@ -14,8 +14,8 @@ use Rattle.papers.specs.Plan.{Read, got, bad, then, field, readLists, atEnd}
 use Rattle.papers.specs.Call.{readKey}
 use Rattle.papers.specs.declared.JobHead.{JobHead}
 use Rattle.bytes_laws.proofs.Fields.{then-got, then-bad}
-use Rattle.list_reader.specs.Reading.{Told, finds, refuses}
-use Rattle.list_reader.specs.declared.Reading.{Reading}
+use Rattle.field_reader.specs.Reading.{Told, finds, refuses}
+use Rattle.field_reader.specs.declared.Reading.{Reading}
 use Rattle.key_reader.specs.Keys.{readMark, readHead, KeyParts, KeyTold, reads, unreadable}
 use Rattle.key_reader.specs.declared.KeyReading.{KeyReading}
 use Rattle.key_reader.specs.declared.KeyReading.the-variants.{Whole, Unreadable}

@@ -6,9 +6,9 @@ ghost use lib.ListN.{length};
 ghost use Rattle.papers.specs.Bounds.{maxColumns};
 ghost use Rattle.papers.specs.Lists.{flat};
 ghost use Rattle.papers.specs.Plan.{readLists};
-ghost use Rattle.list_reader.specs.Reading.{Told};
+ghost use Rattle.field_reader.specs.Reading.{Told};
 ghost use Rattle.key_reader.specs.Keys.{readMark, readHead, headReading, KeyTold};
-use list_reader::Reading;
+use field_reader::Reading;
 use papers::JobHead;
 
 // What the numbers before the lists say, and the place behind them.
@@ -32,7 +32,7 @@ fn read_mark(key: &[u8], at: usize, n: u64) -> HeadReading
     requires { ⌜ at ≤ length (now key) ⌝ }
     ensures { λ r. ⌜ r ≡ headReading (readMark n (now (key .entry)) at) ⌝ }
 {
-    match list_reader::read_field(key, at, 0, papers::MAX_MARK) {
+    match field_reader::read_field(key, at, 0, papers::MAX_MARK) {
         Reading::Refused {
             number: _,
             place: _,
@@ -43,7 +43,7 @@ fn read_mark(key: &[u8], at: usize, n: u64) -> HeadReading
             value: mark,
             next: middle,
         } => {
-            match list_reader::read_field(key, middle, 0, papers::MAX_LIMIT) {
+            match field_reader::read_field(key, middle, 0, papers::MAX_LIMIT) {
                 Reading::Refused {
                     number: _,
                     place: _,
@@ -65,7 +65,7 @@ fn read_mark(key: &[u8], at: usize, n: u64) -> HeadReading
 fn read_head(key: &[u8]) -> HeadReading
     ensures { λ r. ⌜ r ≡ headReading (readHead (now (key .entry))) ⌝ }
 {
-    match list_reader::read_field(key, 0, papers::EDITION, papers::EDITION) {
+    match field_reader::read_field(key, 0, papers::EDITION, papers::EDITION) {
         Reading::Refused {
             number: _,
             place: _,
@@ -76,7 +76,7 @@ fn read_head(key: &[u8]) -> HeadReading
             value: _,
             next: middle,
         } => {
-            match list_reader::read_field(key, middle, 0, papers::MAX_COLUMNS) {
+            match field_reader::read_field(key, middle, 0, papers::MAX_COLUMNS) {
                 Reading::Refused {
                     number: _,
                     place: _,

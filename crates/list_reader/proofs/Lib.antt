@@ -1,3 +1,1 @@
-pub mod Answers
-pub mod Onto
-pub mod Rows
+pub mod Lists

@@ -12,11 +12,12 @@ use Rattle.papers.specs.Plan.{got, bad, onto, readList, readLists}
 use Rattle.list_laws.proofs.Stores.{sets-append, sets-more, starts-more, length-starts, flat-more, starts-again}
 use Rattle.bytes_laws.proofs.Fields.{then-got, then-bad}
 use Rattle.bytes_laws.proofs.Reaches.{list-reach}
-use Rattle.list_reader.proofs.Answers.{told-found, told-refused}
-use Rattle.list_reader.proofs.Onto.{onto-nil, more, fails, ends, length-more}
-use Rattle.list_reader.specs.Reading.{Told, finds, RowsIn}
-use Rattle.list_reader.specs.declared.Reading.the-variants.{Found, Refused}
-use Rattle.list_reader.specs.declared.Reading.{Reading}
+use Rattle.field_reader.proofs.Answers.{told-found, told-refused}
+use Rattle.field_reader.proofs.Onto.{onto-nil, more, fails, ends, length-more}
+use Rattle.field_reader.specs.Reading.{Told, finds}
+use Rattle.list_reader.specs.Lists.{RowsIn}
+use Rattle.field_reader.specs.declared.Reading.the-variants.{Found, Refused}
+use Rattle.field_reader.specs.declared.Reading.{Reading}
 use Rattle.plan_reader.specs.Plans.{ListsIn}
 
 -- ---- a list and the lists behind it

@@ -10,11 +10,11 @@ use Rattle.papers.specs.Plan.{field, got, columnsIn, popsIn, bad, onto, readSte
 use Rattle.list_laws.proofs.Stores.{sets-more}
 use Rattle.bytes_laws.proofs.Fields.{then-got, then-bad}
 use Rattle.bytes_laws.proofs.Reaches.{step-reach}
-use Rattle.list_reader.proofs.Answers.{told-found, told-refused}
-use Rattle.list_reader.proofs.Onto.{onto-nil, more, fails, ends, length-more}
-use Rattle.list_reader.specs.Reading.{Told, finds}
-use Rattle.list_reader.specs.declared.Reading.the-variants.{Found, Refused}
-use Rattle.list_reader.specs.declared.Reading.{Reading}
+use Rattle.field_reader.proofs.Answers.{told-found, told-refused}
+use Rattle.field_reader.proofs.Onto.{onto-nil, more, fails, ends, length-more}
+use Rattle.field_reader.specs.Reading.{Told, finds}
+use Rattle.field_reader.specs.declared.Reading.the-variants.{Found, Refused}
+use Rattle.field_reader.specs.declared.Reading.{Reading}
 use Rattle.plan_reader.specs.Plans.{StepIn, StepsIn}
 
 -- ---- a step and the steps behind it

@@ -5,9 +5,9 @@ ghost use lib.ListN.{length};
 ghost use Rattle.papers.specs.Bounds.{maxColumns};
 ghost use Rattle.papers.specs.Lists.{flat};
 ghost use Rattle.papers.specs.Plan.{readStep, readSteps, readLists, readPlan};
-ghost use Rattle.list_reader.specs.Reading.{Told};
+ghost use Rattle.field_reader.specs.Reading.{Told};
 ghost use Rattle.plan_reader.specs.Plans.{StepIn, StepsIn, ListsIn, readPeak, peakReading, planReading, Keeps};
-use list_reader::Reading;
+use field_reader::Reading;
 
 // What reading a whole plan answers: the declared peak, and how many rows its lists have; or a refusal's number and place.
 pub enum PlanReading {
@@ -27,7 +27,7 @@ fn read_step(
     requires { ⌜ (at ≤ length (now plan)) × (n ≤ maxColumns) × (i < n) × (n ≤ length (now order)) × (n ≤ length (now pops)) ⌝ }
     ensures { λ r. ⌜ Told (λ step. step .0) (StepIn i (now (order .entry)) (now (order .exit)) (now (pops .entry)) (now (pops .exit))) (readStep n (now (plan .entry)) at) r ⌝ }
 {
-    match list_reader::read_field(plan, at, 1, n) {
+    match field_reader::read_field(plan, at, 1, n) {
         Reading::Refused { number, place } => {
             return Reading::Refused { number, place };
         }
@@ -35,7 +35,7 @@ fn read_step(
             value: column,
             next: middle,
         } => {
-            match list_reader::read_field(plan, middle, 0, n - 1) {
+            match field_reader::read_field(plan, middle, 0, n - 1) {
                 Reading::Refused { number, place } => {
                     return Reading::Refused { number, place };
                 }
@@ -43,8 +43,8 @@ fn read_step(
                     value: popped,
                     next,
                 } => {
-                    order[i] = list_reader::narrow(column);
-                    pops[i] = list_reader::narrow(popped);
+                    order[i] = basics::narrow32(column);
+                    pops[i] = basics::narrow32(popped);
                     return Reading::Found {
                         value: column,
                         next,
@@ -110,7 +110,7 @@ fn read_peak(plan: &[u8], at: usize, rows: u64) -> PlanReading
     requires { ⌜ at ≤ length (now plan) ⌝ }
     ensures { λ r. ⌜ r ≡ peakReading rows (readPeak (now (plan .entry)) at) ⌝ }
 {
-    match list_reader::read_long(plan, at, 0, papers::MAX_PEAK) {
+    match field_reader::read_long(plan, at, 0, papers::MAX_PEAK) {
         Reading::Refused { number, place } => {
             return PlanReading::Faulty { number, place };
         }

@@ -24,8 +24,8 @@ use Rattle.column_laws.proofs.Parts.{front-stored}
 use Rattle.refusal_laws.proofs.Bounded.{Within}
 use Rattle.refusal_laws.proofs.Called.{call-unreadable, call-over, call-fits, call-bounded}
 use Rattle.lent.specs.Six.{six}
-use Rattle.list_reader.specs.Reading.{Told, finds, refuses}
-use Rattle.list_reader.specs.declared.Reading.{Reading}
+use Rattle.field_reader.specs.Reading.{Told, finds, refuses}
+use Rattle.field_reader.specs.declared.Reading.{Reading}
 use Rattle.plan_reader.specs.Plans.{ListsIn}
 use Rattle.key_reader.specs.Keys.{KeyParts}
 

@@ -19,26 +19,28 @@ abbrev μ-loop : tie.MeasureT-loop
 loop-holds : tie.Need-loop-holds Inv-loop μ-loop
 loop-holds c = (rows-all (c .before .before .pre .1), left-all (c .before .before .pre .0))
 
-mul-wide-row : tie.Need-mul-wide-row Inv-loop μ-loop
-mul-wide-row c = search needs
+mul-wide32 : tie.Need-mul-wide32 Inv-loop μ-loop
+mul-wide32 c = search needs
 
-shared-slice-read-wide-row : tie.Need-shared-slice-read-wide-row Inv-loop μ-loop
-shared-slice-read-wide-row c = let h = c .before .before .loop .inv .0 .inside in search needs
+shared-slice-read-wide32 : tie.Need-shared-slice-read-wide32 Inv-loop μ-loop
+shared-slice-read-wide32 c = let h = c .before .before .loop .inv .0 .inside in search needs
 
-wide-row-requires : tie.Need-wide-row-requires Inv-loop μ-loop
-wide-row-requires c κs = search needs
+wide32-requires : tie.Need-wide32-requires Inv-loop μ-loop
+wide32-requires c κs = search needs
 
 sub-match-number : tie.Need-sub-match-number Inv-loop μ-loop
-sub-match-number c = let h = row-above (c .before .before .before .loop .inv .0) (c .before .before .loop-test .taken) (c .wide-row .ensures .0) in omega arith
+sub-match-number c = let h = row-above (c .before .before .before .loop .inv .0) (c .before .before .loop-test .taken) (c .wide32 .ensures .0) in omega arith
 
 match-number-requires : tie.Need-match-number-requires Inv-loop μ-loop
-match-number-requires c κs = let h = c .wide-row .ensures .1 in (omega arith, c .before .before .before .loop .inv .1 .inside)
+match-number-requires c κs = let h = c .wide32 .ensures .1 in (omega arith, c .before .before .before .loop .inv .1 .inside)
 
 enum-known-place : tie.Need-enum-known-place Inv-loop μ-loop
 enum-known-place c = search needs
 
 returns : tie.Need-returns Inv-loop μ-loop
-returns c = differs-number (c .before .before .before .before .before .before .before .loop .inv .1) (gaps-next (c .before .before .before .before .before .before .before .loop .inv .0) (c .before .before .before .before .before .before .loop-test .taken) (c .before .before .before .before .wide-row .ensures .0)) (c .before .before .before .match-number .ensures) (c .before .place .given .1)
+returns c =
+    let (rows, found) = c .before .before .before .before .before .before .before .loop .inv in
+    differs-number found (gaps-next rows (c .before .before .before .before .before .before .loop-test .taken) (c .before .before .before .before .wide32 .ensures .0)) (c .before .before .before .match-number .ensures) (c .before .place .given .1)
 
 enum-known-next : tie.Need-enum-known-next Inv-loop μ-loop
 enum-known-next c = search needs
@@ -50,13 +52,16 @@ loop-less : tie.Need-loop-less Inv-loop μ-loop
 loop-less c = search needs
 
 loop-again : tie.Need-loop-again Inv-loop μ-loop
-loop-again c = (
-  rows-next (c .before .before .before .before .before .before .before .loop .inv .0) (c .before .before .before .before .before .before .loop-test .taken) (c .before .before .before .before .wide-row .ensures .0),
-  left-number (c .before .before .before .before .before .before .before .loop .inv .1) (gaps-next (c .before .before .before .before .before .before .before .loop .inv .0) (c .before .before .before .before .before .before .loop-test .taken) (c .before .before .before .before .wide-row .ensures .0)) (c .before .before .before .match-number .ensures) (c .before .next .given .1),
-)
+loop-again c =
+    let (rows, found) = c .before .before .before .before .before .before .before .loop .inv in
+    let next = c .before .before .before .before .before .before .loop-test .taken in
+    let row = c .before .before .before .before .wide32 .ensures .0 in
+    (rows-next rows next row, left-number found (gaps-next rows next row) (c .before .before .before .match-number .ensures) (c .before .next .given .1))
 
 returns-2 : tie.Need-returns-2 Inv-loop μ-loop
-returns-2 c = left-none (c .before .loop .inv .1) (gaps-none (c .before .loop .inv .0) (c .loop-test .left))
+returns-2 c =
+    let (rows, found) = c .before .loop .inv in
+    left-none found (gaps-none rows (c .loop-test .left))
 
 pub match-gaps-spec : {M : Type 1} → statement M
 match-gaps-spec =
@@ -65,9 +70,9 @@ match-gaps-spec =
     Inv-loop
     μ-loop
     loop-holds
-    mul-wide-row
-    shared-slice-read-wide-row
-    wide-row-requires
+    mul-wide32
+    shared-slice-read-wide32
+    wide32-requires
     sub-match-number
     match-number-requires
     enum-known-place

@@ -5,9 +5,11 @@ use mathlib.Core.Path.{sym, _∙_}
 use native.Mathlib.Omega.{arith}
 use lib.ListN.{length}
 use borrow.Author.Needs.{needs}
+use Rattle.papers.specs.Bounds.{maxGroups}
 use Rattle.papers.specs.Numbers.{bytesOf}
 use Rattle.bytes_laws.proofs.Numbers.{bytes-length}
-use Rattle.key_match.proofs.Bytes.{array-byte, Bytes, bytes-start, bytes-lack, bytes-other, bytes-turn, bytes-stop}
+use Rattle.groups.proofs.Copied.{array-byte}
+use Rattle.key_match.proofs.Bytes.{Bytes, bytes-start, bytes-lack, bytes-other, bytes-turn, bytes-stop}
 use Rattle.key_match.proofs.match_groups.Statement.{statement}
 use Rattle.key_match.proofs.match_groups.Tie as tie
 
@@ -18,38 +20,33 @@ abbrev μ-loop : tie.MeasureT-loop
 μ-loop plan at x bytes count i₀ i = count - i
 
 number-requires : tie.Need-number-requires Inv-loop μ-loop
-number-requires c κs = search needs
+number-requires c κs = c .before .pre .0
 
 loop-holds : tie.Need-loop-holds Inv-loop μ-loop
 loop-holds c = bytes-start _ _ _ (c .before .before .before .pre .1)
 
+add-k : tie.Need-add-k Inv-loop μ-loop
+add-k c = search needs
+
 add-place : tie.Need-add-place Inv-loop μ-loop
 add-place c = search needs
-
-add-place-2 : tie.Need-add-place-2 Inv-loop μ-loop
-add-place-2 c = search needs
-
-add-if1 : tie.Need-add-if1 Inv-loop μ-loop
-add-if1 c = search needs
 
 returns : tie.Need-returns Inv-loop μ-loop
 returns c = let n = c .before .before .before .before .number .ensures .1 in let h = c .before .loop-test .taken in bytes-lack (c .before .before .loop .inv) (omega arith) (c .if1 .taken)
 
-add-if2 : tie.Need-add-if2 Inv-loop μ-loop
-add-if2 c = search needs
-
 shared-slice-read-if2 : tie.Need-shared-slice-read-if2 Inv-loop μ-loop
-shared-slice-read-if2 c = search needs
+shared-slice-read-if2 c = c .before .if1 .left
 
 array-read-if2 : tie.Need-array-read-if2 Inv-loop μ-loop
 array-read-if2 c = let n = c .before .before .before .before .before .number .ensures .1 in let h = c .before .before .loop-test .taken in omega (arith, bytes-length (c .before .before .before .before .before .before .before .args .x))
 
 returns-2 : tie.Need-returns-2 Inv-loop μ-loop
 returns-2 c =
-    let n = c .before .before .before .before .before .before .number .ensures .1 in
-    let t = c .before .before .before .loop-test .taken in
-    let h : c .before .before .before .before .loop .i < length (bytesOf (c .before .before .before .before .before .before .before .before .args .x)) = omega arith in
-    bytes-other (c .before .before .before .before .loop .inv) h (c .before .before .if1 .left) (λ e. c .if2 .taken (e ∙ sym (array-byte _ _ (c .before .before .before .before .before .before .number .ensures .0) h)))
+    let x = c .before .before .before .before .before .before .before .before .args .x in
+    let (stored, count) = c .before .before .before .before .before .before .number .ensures in
+    let next = c .before .before .before .loop-test .taken in
+    let h : c .before .before .before .before .loop .i < length (bytesOf x) = omega arith in
+    bytes-other (c .before .before .before .before .loop .inv) h (c .before .before .if1 .left) (λ e. c .if2 .taken (e ∙ sym (array-byte (bytesOf x) maxGroups _ stored (bytes-length x .1) h)))
 
 add-i : tie.Need-add-i Inv-loop μ-loop
 add-i c = search needs
@@ -59,10 +56,11 @@ loop-less c = search needs
 
 loop-again : tie.Need-loop-again Inv-loop μ-loop
 loop-again c =
-    let n = c .before .before .before .before .before .before .number .ensures .1 in
-    let t = c .before .before .before .loop-test .taken in
-    let h : c .before .before .before .before .loop .i < length (bytesOf (c .before .before .before .before .before .before .before .before .args .x)) = omega arith in
-    bytes-turn (c .before .before .before .before .loop .inv) h (c .before .before .if1 .left) (c .if2 .left ∙ array-byte _ _ (c .before .before .before .before .before .before .number .ensures .0) h)
+    let x = c .before .before .before .before .before .before .before .before .args .x in
+    let (stored, count) = c .before .before .before .before .before .before .number .ensures in
+    let next = c .before .before .before .loop-test .taken in
+    let h : c .before .before .before .before .loop .i < length (bytesOf x) = omega arith in
+    bytes-turn (c .before .before .before .before .loop .inv) h (c .before .before .if1 .left) (c .if2 .left ∙ array-byte (bytesOf x) maxGroups _ stored (bytes-length x .1) h)
 
 add-t18 : tie.Need-add-t18 Inv-loop μ-loop
 add-t18 c = search needs
@@ -78,11 +76,9 @@ match-groups-spec =
     μ-loop
     number-requires
     loop-holds
+    add-k
     add-place
-    add-place-2
-    add-if1
     returns
-    add-if2
     shared-slice-read-if2
     array-read-if2
     returns-2

@@ -11,7 +11,8 @@ use Rattle.key_match.proofs.match_key.Tie as tie
 
 match-two-requires : tie.Need-match-two-requires
 match-two-requires c κs =
-    let job = jobOf (c .before .before .before .args .head) (c .before .before .before .args .starts .now) (c .before .before .before .args .rows .now) in
+    let lent = c .before .before .before .args in
+    let job = jobOf (lent .head) (lent .starts .now) (lent .rows .now) in
     let fit = numbers-fit job (passes-iff job .0 (c .before .before .before .pre)) in
     (omega arith, fit .0, omega arith)
 
@@ -20,7 +21,8 @@ enum-known-place c = search needs
 
 returns : tie.Need-returns
 returns c =
-    let job = jobOf (c .before .before .before .before .before .before .before .args .head) (c .before .before .before .before .before .before .before .args .starts .now) (c .before .before .before .before .before .before .before .args .rows .now) in
+    let lent = c .before .before .before .before .before .before .before .args in
+    let job = jobOf (lent .head) (lent .starts .now) (lent .rows .now) in
     size-differs job _ (c .before .before .before .match-two .ensures) (c .before .place .given .1)
 
 enum-known-middle : tie.Need-enum-known-middle
@@ -28,7 +30,8 @@ enum-known-middle c = search needs
 
 match-two-requires-2 : tie.Need-match-two-requires-2
 match-two-requires-2 c κs =
-    let job = jobOf (c .before .before .before .before .before .before .before .args .head) (c .before .before .before .before .before .before .before .args .starts .now) (c .before .before .before .before .before .before .before .args .rows .now) in
+    let lent = c .before .before .before .before .before .before .before .args in
+    let job = jobOf (lent .head) (lent .starts .now) (lent .rows .now) in
     let fit = numbers-fit job (passes-iff job .0 (c .before .before .before .before .before .before .before .pre)) in
     (fit .1, fit .2, behind-size job _ (c .before .before .before .match-two .ensures) (c .before .middle .given .1) .inside)
 
@@ -37,7 +40,8 @@ enum-known-place-2 c = search needs
 
 returns-2 : tie.Need-returns-2
 returns-2 c =
-    let job = jobOf (c .before .before .before .before .before .before .before .before .before .before .before .args .head) (c .before .before .before .before .before .before .before .before .before .before .before .args .starts .now) (c .before .before .before .before .before .before .before .before .before .before .before .args .rows .now) in
+    let lent = c .before .before .before .before .before .before .before .before .before .before .before .args in
+    let job = jobOf (lent .head) (lent .starts .now) (lent .rows .now) in
     mark-differs job _ (c .before .before .before .before .before .before .before .match-two .ensures) (c .before .before .before .before .before .middle .given .1) (c .before .before .before .match-two2 .ensures) (c .before .place2 .given .1)
 
 enum-known-next : tie.Need-enum-known-next
@@ -45,14 +49,16 @@ enum-known-next c = search needs
 
 match-lists-requires : tie.Need-match-lists-requires
 match-lists-requires c κs =
-    let job = jobOf (c .before .before .before .before .before .before .before .before .before .before .before .args .head) (c .before .before .before .before .before .before .before .before .before .before .before .args .starts .now) (c .before .before .before .before .before .before .before .before .before .before .before .args .rows .now) in
+    let lent = c .before .before .before .before .before .before .before .before .before .before .before .args in
+    let job = jobOf (lent .head) (lent .starts .now) (lent .rows .now) in
     let passed = passes-iff job .0 (c .before .before .before .before .before .before .before .before .before .before .before .pre) in
     let tests = lists-iff _ _ _ .1 (passed .lists) in
     (behind-mark job _ (c .before .before .before .before .before .before .before .match-two .ensures) (c .before .before .before .before .before .middle .given .1) (c .before .before .before .match-two2 .ensures) (c .before .next .given .1) .inside, (passed .few, (tests .0, tests .1)))
 
 returns-3 : tie.Need-returns-3
 returns-3 c =
-    let job = jobOf (c .before .before .before .before .before .before .before .before .before .before .before .before .args .head) (c .before .before .before .before .before .before .before .before .before .before .before .before .args .starts .now) (c .before .before .before .before .before .before .before .before .before .before .before .before .args .rows .now) in
+    let lent = c .before .before .before .before .before .before .before .before .before .before .before .before .args in
+    let job = jobOf (lent .head) (lent .starts .now) (lent .rows .now) in
     lists-found job _ (c .before .before .before .before .before .before .before .before .match-two .ensures) (c .before .before .before .before .before .before .middle .given .1) (c .before .before .before .before .match-two2 .ensures) (c .before .before .next .given .1) (c .match-lists .ensures)
 
 pub match-key-spec : {M : Type 1} → statement M

@@ -16,16 +16,22 @@ enum-known-place : tie.Need-enum-known-place
 enum-known-place c = search needs
 
 returns : tie.Need-returns
-returns c = differs-number (left-all (c .before .before .before .before .before .before .pre .0)) (list-is (c .before .before .before .before .before .before .pre .1)) (c .before .before .before .match-number .ensures) (c .before .place .given .1)
+returns c =
+    let (inside, list) = c .before .before .before .before .before .before .pre in
+    differs-number (left-all inside) (list-is list) (c .before .before .before .match-number .ensures) (c .before .place .given .1)
 
 enum-known-next : tie.Need-enum-known-next
 enum-known-next c = search needs
 
 match-gaps-requires : tie.Need-match-gaps-requires
-match-gaps-requires c κs = (left-number (left-all (c .before .before .before .before .before .before .pre .0)) (list-is (c .before .before .before .before .before .before .pre .1)) (c .before .before .before .match-number .ensures) (c .before .next .given .1) .inside, c .before .before .before .before .before .before .pre .1)
+match-gaps-requires c κs =
+    let (inside, list) = c .before .before .before .before .before .before .pre in
+    (left-number (left-all inside) (list-is list) (c .before .before .before .match-number .ensures) (c .before .next .given .1) .inside, list)
 
 returns-2 : tie.Need-returns-2
-returns-2 c = left-last (left-number (left-all (c .before .before .before .before .before .before .before .pre .0)) (list-is (c .before .before .before .before .before .before .before .pre .1)) (c .before .before .before .before .match-number .ensures) (c .before .before .next .given .1)) (c .match-gaps .ensures)
+returns-2 c =
+    let (inside, list) = c .before .before .before .before .before .before .before .pre in
+    left-last (left-number (left-all inside) (list-is list) (c .before .before .before .before .match-number .ensures) (c .before .before .next .given .1)) (c .match-gaps .ensures)
 
 pub match-list-spec : {M : Type 1} → statement M
 match-list-spec =

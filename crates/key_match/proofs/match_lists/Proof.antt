@@ -25,7 +25,9 @@ abbrev μ-loop : tie.MeasureT-loop
 μ-loop n starts rows plan at k₀ done₀ k done = n - done
 
 loop-holds : tie.Need-loop-holds Inv-loop μ-loop
-loop-holds c = record { few = c .before .before .before .pre .1 .0; lists = lists-iff _ _ _ .0 (c .before .before .before .pre .1 .1 .0, c .before .before .before .pre .1 .1 .1); matched = left-all (c .before .before .before .pre .0) }
+loop-holds c =
+    let p = c .before .before .before .pre in
+    record { few = p .1 .0; lists = lists-iff _ _ _ .0 (p .1 .1 .0, p .1 .1 .1); matched = left-all (p .0) }
 
 mul-match-list : tie.Need-mul-match-list Inv-loop μ-loop
 mul-match-list c = search needs
@@ -46,13 +48,17 @@ add-match-list-2 : tie.Need-add-match-list-2 Inv-loop μ-loop
 add-match-list-2 c = search needs
 
 match-list-requires : tie.Need-match-list-requires Inv-loop μ-loop
-match-list-requires c κs = (c .before .before .before .loop .inv .matched .inside, column-list (c .before .before .before .loop .inv .few) (c .before .before .before .loop .inv .lists) (c .before .before .loop-test .taken))
+match-list-requires c κs =
+    let l = c .before .before .before .loop .inv in
+    (l .matched .inside, column-list (l .few) (l .lists) (c .before .before .loop-test .taken))
 
 enum-known-place : tie.Need-enum-known-place Inv-loop μ-loop
 enum-known-place c = search needs
 
 returns : tie.Need-returns Inv-loop μ-loop
-returns c = differs-numbers (c .before .before .before .before .before .before .before .loop .inv .matched) _ _ (numbers-next (c .before .before .before .before .before .before .before .loop .inv .few) (c .before .before .before .before .before .before .before .loop .inv .lists) (c .before .before .before .before .before .before .loop-test .taken)) (c .before .before .before .match-list .ensures) (c .before .place .given .1)
+returns c =
+    let l = c .before .before .before .before .before .before .before .loop .inv in
+    differs-numbers (l .matched) _ _ (numbers-next (l .few) (l .lists) (c .before .before .before .before .before .before .loop-test .taken)) (c .before .before .before .match-list .ensures) (c .before .place .given .1)
 
 enum-known-next : tie.Need-enum-known-next Inv-loop μ-loop
 enum-known-next c = search needs
@@ -69,7 +75,9 @@ loop-again c =
     record { few = l .few; lists = l .lists; matched = left-numbers (l .matched) _ _ (numbers-next (l .few) (l .lists) (c .before .before .before .before .before .before .loop-test .taken)) (c .before .before .before .match-list .ensures) (c .before .next .given .1) }
 
 returns-2 : tie.Need-returns-2 Inv-loop μ-loop
-returns-2 c = left-none (c .before .loop .inv .matched) (numbers-none (c .before .loop .inv .few) (c .before .loop .inv .lists) (c .loop-test .left))
+returns-2 c =
+    let l = c .before .loop .inv in
+    left-none (l .matched) (numbers-none (l .few) (l .lists) (c .loop-test .left))
 
 pub match-lists-spec : {M : Type 1} → statement M
 match-lists-spec =

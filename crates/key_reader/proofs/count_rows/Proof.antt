@@ -4,7 +4,7 @@ use Prim.Native.Nat.{_+_, _-_}
 use mathlib.Core.List.{[]}
 use mathlib.Core.Path.{refl}
 use borrow.Author.Needs.{needs}
-use Rattle.list_reader.specs.Reading.{refuses}
+use Rattle.field_reader.specs.Reading.{refuses}
 use Rattle.plan_reader.proofs.Lists.{lists-long, Lists, lists-start, lists-turn, lists-fault, lists-stop}
 use Rattle.key_reader.proofs.Wholes.{told-alone}
 use Rattle.key_reader.proofs.count_rows.Statement.{statement}

@@ -1,7 +1,7 @@
 -- Edition and size are two fields, and mark and limit stand behind them.
 -- Assumes nothing.
 use borrow.Author.Needs.{needs}
-use Rattle.list_reader.proofs.Answers.{field-refused, field-found}
+use Rattle.field_reader.proofs.Answers.{field-refused, field-found}
 use Rattle.key_reader.proofs.Heads.{no-edition, no-columns, columns-mark}
 use Rattle.key_reader.proofs.read_head.Statement.{statement}
 use Rattle.key_reader.proofs.read_head.Tie as tie

@@ -1,7 +1,7 @@
 -- A key is its head, its lists and the end: the first part at fault makes it unreadable.
 -- Assumes nothing.
 use borrow.Author.Needs.{needs}
-use Rattle.list_reader.proofs.Answers.{told-found, told-refused}
+use Rattle.field_reader.proofs.Answers.{told-found, told-refused}
 use Rattle.key_reader.proofs.Heads.{head-found, head-faulty, head-fits}
 use Rattle.key_reader.proofs.Wholes.{no-head, no-lists, bytes-after, key-whole}
 use Rattle.key_reader.proofs.read_key.Statement.{statement}

@@ -1,7 +1,7 @@
 -- Mark and limit are two fields, one behind the other; either at fault is the head's fault.
 -- Assumes nothing.
 use borrow.Author.Needs.{needs}
-use Rattle.list_reader.proofs.Answers.{field-refused, field-found}
+use Rattle.field_reader.proofs.Answers.{field-refused, field-found}
 use Rattle.key_reader.proofs.Heads.{no-mark, no-limit, mark-limit}
 use Rattle.key_reader.proofs.read_mark.Statement.{statement}
 use Rattle.key_reader.proofs.read_mark.Tie as tie

@@ -8,8 +8,8 @@ use denote.Ref.{now}
 use Rattle.list_reader.proofs.keep_row.Statement.{statement}
 use Rattle.list_reader.proofs.keep_row.Tie as tie
 
-narrow-requires : tie.Need-narrow-requires
-narrow-requires c κs = search needs
+narrow32-requires : tie.Need-narrow32-requires
+narrow32-requires c κs = search needs
 
 mul-rows : tie.Need-mul-rows
 mul-rows c = search needs
@@ -21,11 +21,11 @@ same-length : tie.Need-same-length
 same-length c = search needs
 
 returns : tie.Need-returns
-returns c = ap (set (now (c .before .before .before .args .rows)) (c .before .before .before .args .i)) (c .narrow .ensures)
+returns c = ap (set (now (c .before .before .before .args .rows)) (c .before .before .before .args .i)) (c .narrow32 .ensures)
 
 returns-2 : tie.Need-returns-2
 returns-2 c = sym (set-out (now (c .before .before .args .rows)) (c .before .before .args .i) (c .before .before .args .row) (c .if1 .left))
 
 pub keep-row-spec : {M : Type 1} → statement M
 keep-row-spec =
-    tie.close (tie.spec narrow-requires mul-rows slice-write-rows same-length returns returns-2)
+    tie.close (tie.spec narrow32-requires mul-rows slice-write-rows same-length returns returns-2)

@@ -1,16 +1,15 @@
 -- A list is its count and, behind it, its rows. Where the quick reader leaves off, the other one begins again and keeps its rows over those kept.
 -- Assumes nothing.
-use mathlib.Core.Path.{refl}
-use native.Mathlib.Omega.{arith}
+use mathlib.Core.Path.{refl, _∙_}
 use borrow.Author.Needs.{needs}
-use Rattle.list_reader.specs.Reading.{refuses}
-use Rattle.list_reader.proofs.Answers.{field-refused, field-found, told-of}
-use Rattle.list_reader.proofs.Rows.{list-bad, list-got, quick-told, quick-again}
+use Rattle.field_reader.specs.Reading.{refuses}
+use Rattle.field_reader.proofs.Answers.{field-refused, field-found, told-of}
+use Rattle.list_reader.proofs.Lists.{list-bad, list-got, place-behind, count-few, total-fits, quick-told, quick-again}
 use Rattle.list_reader.proofs.read_list.Statement.{statement}
 use Rattle.list_reader.proofs.read_list.Tie as tie
 
 sub-read-field : tie.Need-sub-read-field
-sub-read-field c = search needs
+sub-read-field c = c .before .before .pre .2
 
 read-field-requires : tie.Need-read-field-requires
 read-field-requires c κs = search needs
@@ -26,34 +25,36 @@ enum-known-count c = search needs
 
 quick-rows-requires : tie.Need-quick-rows-requires
 quick-rows-requires c κs =
-    let f = field-found _ _ _ _ (c .before .before .before .before .read-field .ensures) (c .before .before .count .given .1) .1 in
-    let on = f .on in
-    let high = f .high in
-    let m = c .before .before .before .before .before .before .before .pre .1 in
-    let p = c .before .before .before .before .before .before .before .pre .3 in
-    (f .inside, c .before .before .before .before .before .before .before .pre .1, c .before .before .before .before .before .before .before .pre .2, omega arith, omega arith)
+    let (inside, few, low, before) = c .before .before .before .before .before .before .before .pre in
+    let found = field-found _ _ _ _ (c .before .before .before .before .read-field .ensures) (c .before .before .count .given .1) .1 in
+    (found .inside, few, low, place-behind _ _ few before found, count-few _ _ few before found)
 
 add-t18 : tie.Need-add-t18
-add-t18 c = let f = field-found _ _ _ _ (c .before .before .before .before .before .before .before .before .read-field .ensures) (c .before .before .before .before .before .before .count .given .1) .1 in let on = f .high in let i = c .before .before .before .before .before .before .before .before .before .before .before .pre .3 in let l = c .before .before .before .before .before .before .before .before .before .before .before .pre .0 in let m = c .before .before .before .before .before .before .before .before .before .before .before .pre .1 in omega arith
+add-t18 c =
+    let (inside, few, low, before) = c .before .before .before .before .before .before .before .before .before .before .before .pre in
+    total-fits _ _ few before (field-found _ _ _ _ (c .before .before .before .before .before .before .before .before .read-field .ensures) (c .before .before .before .before .before .before .count .given .1) .1) inside (c .before .before .before .before .before .before .before .before .before .before .before .good .0 .1)
 
 same-length : tie.Need-same-length
-same-length c = search needs
+same-length c = c .before .before .before .quick-rows .kept .1 .1 .1 .1 .1 .1 .0
 
 returns-2 : tie.Need-returns-2
-returns-2 c = told-of (list-got _ _ _ _ (field-found _ _ _ _ (c .before .before .before .before .before .before .before .before .read-field .ensures) (c .before .before .before .before .before .before .count .given .1) .0)) (quick-told (c .before .before .before .quick-rows .ensures) (c .if1 .taken))
+returns-2 c =
+    let found = field-found _ _ _ _ (c .before .before .before .before .before .before .before .before .read-field .ensures) (c .before .before .before .before .before .before .count .given .1) .0 in
+    told-of (list-got _ _ _ _ found) (quick-told (c .before .before .before .quick-rows .ensures) (c .if1 .taken))
 
 read-rows-requires : tie.Need-read-rows-requires
 read-rows-requires c κs =
-    let f = field-found _ _ _ _ (c .before .before .before .before .before .before .before .before .before .read-field .ensures) (c .before .before .before .before .before .before .before .count .given .1) .1 in
-    let on = f .on in
-    let p = c .before .before .before .before .before .before .before .before .before .before .before .before .pre .3 in
-    (f .inside, c .before .before .before .before .before .before .before .before .before .before .before .before .pre .1, c .before .before .before .before .before .before .before .before .before .before .before .before .pre .2, omega arith)
+    let (inside, few, low, before) = c .before .before .before .before .before .before .before .before .before .before .before .before .pre in
+    let found = field-found _ _ _ _ (c .before .before .before .before .before .before .before .before .before .read-field .ensures) (c .before .before .before .before .before .before .before .count .given .1) .1 in
+    (found .inside, few, low, place-behind _ _ few before found)
 
 same-length-2 : tie.Need-same-length-2
-same-length-2 c = search needs
+same-length-2 c = c .before .before .read-rows .kept .1 .1 .1 .1 .1 .1 .0 ∙ c .before .before .before .before .before .before .before .quick-rows .kept .1 .1 .1 .1 .1 .1 .0
 
 returns-3 : tie.Need-returns-3
-returns-3 c = told-of (list-got _ _ _ _ (field-found _ _ _ _ (c .before .before .before .before .before .before .before .before .before .before .before .before .read-field .ensures) (c .before .before .before .before .before .before .before .before .before .before .count .given .1) .0)) (quick-again (c .before .before .before .before .before .before .before .quick-rows .ensures) (c .before .before .read-rows .ensures))
+returns-3 c =
+    let found = field-found _ _ _ _ (c .before .before .before .before .before .before .before .before .before .before .before .before .read-field .ensures) (c .before .before .before .before .before .before .before .before .before .before .count .given .1) .0 in
+    told-of (list-got _ _ _ _ found) (quick-again (c .before .before .before .before .before .before .before .quick-rows .ensures) (c .before .before .read-rows .ensures))
 
 pub read-list-spec : {M : Type 1} → statement M
 read-list-spec =

@@ -1,11 +1,15 @@
 -- The loop's invariant: the rows before place total are read and kept, and those left, put onto them, are the column's. The measure is the rows left.
 -- Assumes nothing.
 use mathlib.Core.Path.{refl}
-use native.Mathlib.Omega.{arith}
+use native.Mathlib.Nat.{lt-of-le-of-lt, lt-of-lt-of-le}
 use borrow.Author.Needs.{needs}
-use Rattle.list_reader.specs.Reading.{refuses, RowsRead}
-use Rattle.list_reader.proofs.Answers.{field-refused, field-found}
-use Rattle.list_reader.proofs.Rows.{rows-start, rows-one, rows-both, rows-long, rows-fault, rows-stop}
+use mir.Facts.{fits-bits}
+use Rattle.field_reader.specs.Reading.{refuses}
+use Rattle.row_reader.specs.Rows.{RowsRead}
+use Rattle.field_reader.proofs.Answers.{field-refused, field-found}
+use Rattle.field_reader.proofs.Places.{next-fits, none-left, one-less}
+use Rattle.row_reader.proofs.Rows.{rows-start, rows-one, rows-both, rows-long, rows-paced, row-narrow}
+use Rattle.list_reader.proofs.Lists.{rows-fault, rows-stop}
 use Rattle.list_reader.proofs.read_rows.Statement.{statement}
 use Rattle.list_reader.proofs.read_rows.Tie as tie
 
@@ -37,28 +41,37 @@ enum-known-gap : tie.Need-enum-known-gap Inv-loop μ-loop
 enum-known-gap c = search needs
 
 add-row : tie.Need-add-row Inv-loop μ-loop
-add-row c = let h = field-found _ _ _ _ (c .before .before .before .read-field .ensures) (c .before .gap .given .1) .1 .high in let y = c .before .before .before .before .before .loop .inv .high in omega arith
+add-row c =
+    let found = field-found _ _ _ _ (c .before .before .before .read-field .ensures) (c .before .gap .given .1) .1 in
+    fits-bits 32 tt (row-narrow (c .before .before .before .before .before .before .before .before .pre .1) (c .before .before .before .before .before .loop .inv .high) (found .high))
 
 keep-row-requires : tie.Need-keep-row-requires Inv-loop μ-loop
-keep-row-requires c κs = let h = field-found _ _ _ _ (c .before .before .before .before .read-field .ensures) (c .before .before .gap .given .1) .1 .high in let y = c .before .before .before .before .before .before .loop .inv .high in let p = c .before .before .before .before .before .before .before .before .before .pre .1 in omega arith
+keep-row-requires c κs =
+    let found = field-found _ _ _ _ (c .before .before .before .before .read-field .ensures) (c .before .before .gap .given .1) .1 in
+    row-narrow (c .before .before .before .before .before .before .before .before .before .pre .1) (c .before .before .before .before .before .before .loop .inv .high) (found .high)
 
 add-total : tie.Need-add-total Inv-loop μ-loop
-add-total c = let p = c .before .before .before .before .before .before .before .before .before .loop .inv .placed in let q = c .before .before .before .before .before .before .before .before .before .loop .inv .paced in let i = c .before .before .before .before .before .before .before .before .before .loop .inv .inside in let o = c .before .before .before .before .before .before .before .before .before .before .before .before .pre .3 in search needs
+add-total c =
+    let found = field-found _ _ _ _ (c .before .before .before .before .before .before .before .read-field .ensures) (c .before .before .before .before .before .gap .given .1) .1 in
+    next-fits (c .before .before .before .before .before .before .before .before .before .before .before .before .good .0 .0) (lt-of-le-of-lt (rows-paced (c .before .before .before .before .before .before .before .before .before .loop .inv) (c .before .before .before .before .before .before .before .before .before .before .before .before .pre .3)) (lt-of-lt-of-le (found .on) (found .inside)))
 
 sub-left : tie.Need-sub-left Inv-loop μ-loop
-sub-left c = search needs
+sub-left c = c .before .before .before .before .before .before .before .before .loop-test .taken
 
 loop-less : tie.Need-loop-less Inv-loop μ-loop
-loop-less c = search needs
+loop-less c = one-less (c .before .before .before .before .before .before .before .before .loop-test .taken)
 
 loop-again : tie.Need-loop-again Inv-loop μ-loop
-loop-again c = rows-both (c .before .before .before .before .before .before .before .before .before .loop .inv) (rows-one _ _ _ _ _ _ _ (c .before .before .before .before .before .before .before .before .loop-test .taken) (c .before .before .before .before .before .before .before .before .before .loop .inv .high) (field-found _ _ _ _ (c .before .before .before .before .before .before .before .read-field .ensures) (c .before .before .before .before .before .gap .given .1)) (c .before .before .keep-row .ensures))
+loop-again c =
+    let x = c .before .before .before .before .before .before .before .before .before .loop .inv in
+    let found = field-found _ _ _ _ (c .before .before .before .before .before .before .before .read-field .ensures) (c .before .before .before .before .before .gap .given .1) in
+    rows-both x (rows-one _ _ _ _ _ _ _ (c .before .before .before .before .before .before .before .before .loop-test .taken) (x .high) found (c .before .before .keep-row .ensures))
 
 same-length-2 : tie.Need-same-length-2 Inv-loop μ-loop
 same-length-2 c = rows-long (c .before .loop .inv)
 
 returns-2 : tie.Need-returns-2 Inv-loop μ-loop
-returns-2 c = rows-stop (c .before .loop .inv) (omega arith)
+returns-2 c = rows-stop (c .before .loop .inv) (none-left (c .loop-test .left))
 
 pub read-rows-spec : {M : Type 1} → statement M
 read-rows-spec =

@@ -6,7 +6,7 @@ use native.Mathlib.Omega.{arith}
 use lib.ListN.{length-set}
 use borrow.Author.Needs.{needs}
 use denote.Ref.{now}
-use Rattle.list_reader.specs.Reading.{refuses}
+use Rattle.field_reader.specs.Reading.{refuses}
 use Rattle.plan_reader.proofs.Lists.{Lists, lists-start, lists-long, lists-turn, lists-fault, lists-stop}
 use Rattle.plan_reader.proofs.read_lists.Statement.{statement}
 use Rattle.plan_reader.proofs.read_lists.Tie as tie

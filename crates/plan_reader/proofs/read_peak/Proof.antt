@@ -1,7 +1,7 @@
 -- The peak is a field, and the plan ends behind it or the first byte after it is 15.
 -- Assumes nothing.
 use borrow.Author.Needs.{needs}
-use Rattle.list_reader.proofs.Answers.{field-refused, field-found}
+use Rattle.field_reader.proofs.Answers.{field-refused, field-found}
 use Rattle.plan_reader.proofs.Wholes.{no-peak, bytes-after, at-the-end}
 use Rattle.plan_reader.proofs.read_peak.Statement.{statement}
 use Rattle.plan_reader.proofs.read_peak.Tie as tie

@@ -2,7 +2,7 @@
 -- Assumes nothing.
 use borrow.Author.Needs.{needs}
 use Rattle.bytes_laws.proofs.Reaches.{steps-reach, lists-reach}
-use Rattle.list_reader.proofs.Answers.{told-found, told-refused}
+use Rattle.field_reader.proofs.Answers.{told-found, told-refused}
 use Rattle.plan_reader.proofs.Wholes.{no-steps, no-lists, plan-faulty, plan-whole}
 use Rattle.plan_reader.proofs.read_plan.Statement.{statement}
 use Rattle.plan_reader.proofs.read_plan.Tie as tie
@@ -14,10 +14,10 @@ enum-known-number : tie.Need-enum-known-number
 enum-known-number c = search needs
 
 same-length : tie.Need-same-length
-same-length c = search needs
+same-length c = c .before .before .before .before .before .before .before .read-steps .kept .1 .1 .1 .0
 
 same-length-2 : tie.Need-same-length-2
-same-length-2 c = search needs
+same-length-2 c = c .before .before .before .before .before .before .before .read-steps .kept .1 .1 .1 .1 .0
 
 returns : tie.Need-returns
 returns c = plan-faulty (no-steps _ _ _ (told-refused (c .before .before .before .before .before .before .before .read-steps .ensures) (c .before .number .given .1)))
@@ -28,22 +28,23 @@ enum-known-behind c = search needs
 read-lists-requires : tie.Need-read-lists-requires
 read-lists-requires c κs =
     let steps = told-found (c .before .before .before .before .before .before .before .before .before .read-steps .ensures) (c .before .before .before .behind .given .1) in
-    (steps-reach _ _ _ _ _ _ (steps .1) .1 .inside (c .before .before .before .before .before .before .before .before .before .before .before .before .before .before .before .before .before .pre .1), c .before .before .before .before .before .before .before .before .before .before .before .before .before .before .before .before .before .pre .0, c .before .before .before .before .before .before .before .before .before .before .before .before .before .before .before .before .before .pre .4)
+    let (few, inside, order, pops, starts) = c .before .before .before .before .before .before .before .before .before .before .before .before .before .before .before .before .before .pre in
+    (steps-reach _ _ _ _ _ _ (steps .1) .1 .inside inside, few, starts)
 
 enum-known-number-2 : tie.Need-enum-known-number-2
 enum-known-number-2 c = search needs
 
 same-length-3 : tie.Need-same-length-3
-same-length-3 c = search needs
+same-length-3 c = c .before .before .before .before .before .before .before .before .before .before .before .before .before .before .before .before .before .read-steps .kept .1 .1 .1 .0
 
 same-length-4 : tie.Need-same-length-4
-same-length-4 c = search needs
+same-length-4 c = c .before .before .before .before .before .before .before .before .before .before .before .before .before .before .before .before .before .read-steps .kept .1 .1 .1 .1 .0
 
 same-length-5 : tie.Need-same-length-5
-same-length-5 c = search needs
+same-length-5 c = c .before .before .before .before .before .before .before .read-lists .kept .1 .1 .1 .0
 
 same-length-6 : tie.Need-same-length-6
-same-length-6 c = search needs
+same-length-6 c = c .before .before .before .before .before .before .before .read-lists .kept .1 .1 .1 .1 .0
 
 returns-2 : tie.Need-returns-2
 returns-2 c =
@@ -60,16 +61,16 @@ read-peak-requires c κs =
     lists-reach _ _ _ _ _ _ _ (lists .1) .1 .inside (steps-reach _ _ _ _ _ _ (steps .1) .1 .inside (c .before .before .before .before .before .before .before .before .before .before .before .before .before .before .before .before .before .before .before .before .before .before .before .before .before .pre .1))
 
 same-length-7 : tie.Need-same-length-7
-same-length-7 c = search needs
+same-length-7 c = c .before .before .before .before .before .before .before .before .before .before .before .before .before .before .before .before .before .before .read-steps .kept .1 .1 .1 .0
 
 same-length-8 : tie.Need-same-length-8
-same-length-8 c = search needs
+same-length-8 c = c .before .before .before .before .before .before .before .before .before .before .before .before .before .before .before .before .before .before .read-steps .kept .1 .1 .1 .1 .0
 
 same-length-9 : tie.Need-same-length-9
-same-length-9 c = search needs
+same-length-9 c = c .before .before .before .before .before .before .before .before .read-lists .kept .1 .1 .1 .0
 
 same-length-10 : tie.Need-same-length-10
-same-length-10 c = search needs
+same-length-10 c = c .before .before .before .before .before .before .before .before .read-lists .kept .1 .1 .1 .1 .0
 
 returns-3 : tie.Need-returns-3
 returns-3 c =

@@ -5,8 +5,8 @@ use native.Mathlib.Omega.{arith}
 use lib.ListN.{set}
 use borrow.Author.Needs.{needs}
 use denote.Ref.{now}
-use Rattle.list_reader.proofs.Answers.{field-refused, field-found}
-use Rattle.list_reader.specs.Reading.{finds, refuses}
+use Rattle.field_reader.proofs.Answers.{field-refused, field-found}
+use Rattle.field_reader.specs.Reading.{finds, refuses}
 use Rattle.plan_reader.proofs.Steps.{step-no-column, step-no-pops, step-got}
 use Rattle.plan_reader.proofs.read_step.Statement.{statement}
 use Rattle.plan_reader.proofs.read_step.Tie as tie
@@ -38,8 +38,8 @@ returns-2 c = refuses _ _ (step-no-pops _ _ _ (field-found _ _ _ _ (c .before .b
 enum-known-popped : tie.Need-enum-known-popped
 enum-known-popped c = search needs
 
-narrow-requires : tie.Need-narrow-requires
-narrow-requires c κs = let h = field-found _ _ _ _ (c .before .before .before .before .before .before .before .read-field .ensures) (c .before .before .before .before .before .column .given .1) .1 .high in let p = c .before .before .before .before .before .before .before .before .before .before .before .pre .1 in omega arith
+narrow32-requires : tie.Need-narrow32-requires
+narrow32-requires c κs = let h = field-found _ _ _ _ (c .before .before .before .before .before .before .before .read-field .ensures) (c .before .before .before .before .before .column .given .1) .1 .high in let p = c .before .before .before .before .before .before .before .before .before .before .before .pre .1 in omega arith
 
 mul-order : tie.Need-mul-order
 mul-order c = search needs
@@ -47,8 +47,8 @@ mul-order c = search needs
 slice-write-order : tie.Need-slice-write-order
 slice-write-order c = search needs
 
-narrow-requires-2 : tie.Need-narrow-requires-2
-narrow-requires-2 c κs = let h = field-found _ _ _ _ (c .before .before .before .before .read-field2 .ensures) (c .before .before .popped .given .1) .1 .high in let p = c .before .before .before .before .before .before .before .before .before .before .before .before .pre .1 in omega arith
+narrow32-requires-2 : tie.Need-narrow32-requires-2
+narrow32-requires-2 c κs = let h = field-found _ _ _ _ (c .before .before .before .before .read-field2 .ensures) (c .before .before .popped .given .1) .1 .high in let p = c .before .before .before .before .before .before .before .before .before .before .before .before .pre .1 in omega arith
 
 mul-pops : tie.Need-mul-pops
 mul-pops c = search needs
@@ -65,7 +65,7 @@ same-length-2 c = search needs
 returns-3 : tie.Need-returns-3
 returns-3 c =
     finds _ _ (step-got _ _ _ (field-found _ _ _ _ (c .before .before .before .before .before .before .before .before .before .read-field .ensures) (c .before .before .before .before .before .before .before .column .given .1) .0) (field-found _ _ _ _ (c .before .before .before .before .before .read-field2 .ensures) (c .before .before .before .popped .given .1) .0)) refl
-    (ap (set (now (c .before .before .before .before .before .before .before .before .before .before .before .before .before .args .order)) (c .before .before .before .before .before .before .before .before .before .before .before .before .before .args .i)) (c .before .narrow .ensures), ap (set (now (c .before .before .before .before .before .before .before .before .before .before .before .before .before .args .pops)) (c .before .before .before .before .before .before .before .before .before .before .before .before .before .args .i)) (c .narrow2 .ensures))
+    (ap (set (now (c .before .before .before .before .before .before .before .before .before .before .before .before .before .args .order)) (c .before .before .before .before .before .before .before .before .before .before .before .before .before .args .i)) (c .before .narrow32 .ensures), ap (set (now (c .before .before .before .before .before .before .before .before .before .before .before .before .before .args .pops)) (c .before .before .before .before .before .before .before .before .before .before .before .before .before .args .i)) (c .narrow322 .ensures))
 
 pub read-step-spec : {M : Type 1} → statement M
 read-step-spec =
@@ -80,10 +80,10 @@ read-step-spec =
     enum-known-number-2
     returns-2
     enum-known-popped
-    narrow-requires
+    narrow32-requires
     mul-order
     slice-write-order
-    narrow-requires-2
+    narrow32-requires-2
     mul-pops
     slice-write-pops
     same-length

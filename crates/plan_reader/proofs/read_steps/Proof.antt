@@ -4,7 +4,7 @@ use Prim.Native.Nat.{_-_}
 use mathlib.Core.Path.{refl, _∙_}
 use native.Mathlib.Omega.{arith}
 use borrow.Author.Needs.{needs}
-use Rattle.list_reader.specs.Reading.{refuses}
+use Rattle.field_reader.specs.Reading.{refuses}
 use Rattle.plan_reader.proofs.Steps.{Steps, steps-start, steps-long, steps-turn, steps-fault, steps-stop}
 use Rattle.plan_reader.proofs.read_steps.Statement.{statement}
 use Rattle.plan_reader.proofs.read_steps.Tie as tie

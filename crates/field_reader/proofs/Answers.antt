@@ -15,9 +15,9 @@ use Rattle.papers.specs.declared.Number.the-variants.{Value, Ended, TooLong, No
 use Rattle.papers.specs.declared.Number.{Number}
 use Rattle.bytes_laws.proofs.Fields as fields
 use Rattle.bytes_laws.proofs.NumberReading.{read-last, read-more, shown-some, last-shown}
-use Rattle.list_reader.specs.Reading.{reading, Told, finds, refuses}
-use Rattle.list_reader.specs.declared.Reading.the-variants.{Found, Refused}
-use Rattle.list_reader.specs.declared.Reading.{Reading}
+use Rattle.field_reader.specs.Reading.{reading, Told, finds, refuses}
+use Rattle.field_reader.specs.declared.Reading.the-variants.{Found, Refused}
+use Rattle.field_reader.specs.declared.Reading.{Reading}
 
 -- ---- a field, by its number
 

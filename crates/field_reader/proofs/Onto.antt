@@ -1,6 +1,6 @@
 -- Parts put onto those read before: what a loop that reads a list part by part needs of `onto`. It is the whole list that is found, or refused.
 -- Assumes nothing.
-use Prim.Native.Nat.{ℕ, _+_, _-_}
+use Prim.Native.Nat.{ℕ, _+_}
 use mathlib.Core.List.{List, [], _∷_, _++_, append-assoc, append-nil}
 use mathlib.Core.Path.{_≡_, refl, sym, ap, _∙_}
 use lib.ListN.{length, length-append}

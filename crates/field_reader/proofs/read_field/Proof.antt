@@ -1,15 +1,15 @@
 -- A byte below 128 is a number by itself, two bytes may be one; any other number is what read_long reads. Either way the field is that number in its range.
 -- Assumes nothing.
 use borrow.Author.Needs.{needs}
-use Rattle.list_reader.proofs.Answers.{field-by-number, one-group}
-use Rattle.list_reader.proofs.read_field.Statement.{statement}
-use Rattle.list_reader.proofs.read_field.Tie as tie
+use Rattle.field_reader.proofs.Answers.{field-by-number, one-group}
+use Rattle.field_reader.proofs.read_field.Statement.{statement}
+use Rattle.field_reader.proofs.read_field.Tie as tie
 
-shared-slice-read-wide : tie.Need-shared-slice-read-wide
-shared-slice-read-wide c = search needs
+shared-slice-read-wide8 : tie.Need-shared-slice-read-wide8
+shared-slice-read-wide8 c = search needs
 
-wide-requires : tie.Need-wide-requires
-wide-requires c κs = search needs
+wide8-requires : tie.Need-wide8-requires
+wide8-requires c κs = search needs
 
 add-in-range : tie.Need-add-in-range
 add-in-range c = search needs
@@ -18,7 +18,7 @@ in-range-requires : tie.Need-in-range-requires
 in-range-requires c κs = search needs
 
 returns : tie.Need-returns
-returns c = field-by-number _ _ _ _ (one-group _ _ (c .before .before .before .before .if1 .taken) (c .before .before .wide .ensures .0) (c .before .if2 .taken)) (c .in-range .ensures)
+returns c = field-by-number _ _ _ _ (one-group _ _ (c .before .before .before .before .if1 .taken) (c .before .before .wide8 .ensures .0) (c .before .if2 .taken)) (c .in-range .ensures)
 
 two-groups-requires : tie.Need-two-groups-requires
 two-groups-requires c κs = search needs
@@ -30,7 +30,7 @@ in-range-requires-2 : tie.Need-in-range-requires-2
 in-range-requires-2 c κs = search needs
 
 returns-2 : tie.Need-returns-2
-returns-2 c = field-by-number _ _ _ _ (c .before .before .two-groups .ensures .0 (c .before .if3 .taken)) (c .in-range2 .ensures)
+returns-2 c = field-by-number _ _ _ _ (c .before .before .two-groups .ensures (c .before .if3 .taken)) (c .in-range2 .ensures)
 
 read-long-requires : tie.Need-read-long-requires
 read-long-requires c κs = search needs
@@ -42,8 +42,8 @@ pub read-field-spec : {M : Type 1} → statement M
 read-field-spec =
     tie.close
     (tie.spec
-    shared-slice-read-wide
-    wide-requires
+    shared-slice-read-wide8
+    wide8-requires
     add-in-range
     in-range-requires
     returns

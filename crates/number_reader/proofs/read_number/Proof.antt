@@ -5,9 +5,9 @@ use Prim.Native.Nat.{_-_}
 use mathlib.Core.Logic.{⊎-elim, inl, inr}
 use native.Mathlib.Omega.{arith}
 use borrow.Author.Needs.{needs}
-use Rattle.groups.proofs.Carried.{Carried, start, carried-below, stop-end, stop-long, stop-zero, stop-value, turn}
-use Rattle.groups.proofs.get.Statement.{statement}
-use Rattle.groups.proofs.get.Tie as tie
+use Rattle.number_reader.proofs.Carried.{Carried, start, carried-below, stop-end, stop-long, stop-zero, stop-value, turn}
+use Rattle.number_reader.proofs.read_number.Statement.{statement}
+use Rattle.number_reader.proofs.read_number.Tie as tie
 
 abbrev Inv-loop : tie.InvT-loop
 Inv-loop s at i₀ low₀ w₀ k₀ i low w k = Carried s at i low w k
@@ -21,23 +21,23 @@ loop-holds c = start _ _
 returns : tie.Need-returns Inv-loop μ-loop
 returns c = stop-long (c .before .before .loop .inv) (c .before .loop-test .taken) (c .if1 .taken)
 
-shared-slice-read-wide : tie.Need-shared-slice-read-wide Inv-loop μ-loop
-shared-slice-read-wide c = search needs
+shared-slice-read-wide8 : tie.Need-shared-slice-read-wide8 Inv-loop μ-loop
+shared-slice-read-wide8 c = search needs
 
-wide-requires : tie.Need-wide-requires Inv-loop μ-loop
-wide-requires c κs = search needs
+wide8-requires : tie.Need-wide8-requires Inv-loop μ-loop
+wide8-requires c κs = search needs
 
 returns-2 : tie.Need-returns-2 Inv-loop μ-loop
 returns-2 c =
     let inv = c .before .before .before .before .before .before .before .loop .inv in
     let there = c .before .before .before .before .before .before .loop-test .taken in
-    stop-zero inv there _ (c .before .before .before .wide .ensures .0) (omega arith) (c .before .if3 .taken) (c .if4 .taken)
+    stop-zero inv there _ (c .before .before .before .wide8 .ensures .0) (omega arith) (c .before .if3 .taken) (c .if4 .taken)
 
 mul-t14 : tie.Need-mul-t14 Inv-loop μ-loop
-mul-t14 c = omega (arith, carried-below (c .before .before .wide .result) (c .before .before .before .before .before .before .loop .inv) (c .before .if2 .taken))
+mul-t14 c = omega (arith, carried-below (c .before .before .wide8 .result) (c .before .before .before .before .before .before .loop .inv) (c .before .if2 .taken))
 
 add-t15 : tie.Need-add-t15 Inv-loop μ-loop
-add-t15 c = omega (arith, carried-below (c .before .before .wide .result) (c .before .before .before .before .before .before .loop .inv) (c .before .if2 .taken))
+add-t15 c = omega (arith, carried-below (c .before .before .wide8 .result) (c .before .before .before .before .before .before .loop .inv) (c .before .if2 .taken))
 
 add-t16 : tie.Need-add-t16 Inv-loop μ-loop
 add-t16 c = search needs
@@ -46,14 +46,14 @@ returns-3 : tie.Need-returns-3 Inv-loop μ-loop
 returns-3 c =
     let inv = c .before .before .before .before .before .before .loop .inv in
     let there = c .before .before .before .before .before .loop-test .taken in
-    stop-value inv there _ (c .before .before .wide .ensures .0) (omega arith) (c .before .if2 .taken)
+    stop-value inv there _ (c .before .before .wide8 .ensures .0) (omega arith) (c .before .if2 .taken)
     (⊎-elim (λ t. inl (let h = t .1 .left in omega arith)) (λ t. inr (let h = t .left in omega arith)) (c .if3 .came))
 
 mul-low : tie.Need-mul-low Inv-loop μ-loop
-mul-low c = omega (arith, carried-below (c .before .wide .result - 128) (c .before .before .before .before .before .loop .inv) (omega arith))
+mul-low c = omega (arith, carried-below (c .before .wide8 .result - 128) (c .before .before .before .before .before .loop .inv) (omega arith))
 
 add-low : tie.Need-add-low Inv-loop μ-loop
-add-low c = omega (arith, carried-below (c .before .wide .result - 128) (c .before .before .before .before .before .loop .inv) (omega arith))
+add-low c = omega (arith, carried-below (c .before .wide8 .result - 128) (c .before .before .before .before .before .loop .inv) (omega arith))
 
 mul-w : tie.Need-mul-w Inv-loop μ-loop
 mul-w c = omega (arith, carried-below 0 (c .before .before .before .before .before .loop .inv) (omega arith))
@@ -71,21 +71,21 @@ loop-again : tie.Need-loop-again Inv-loop μ-loop
 loop-again c =
     let inv = c .before .before .before .before .before .loop .inv in
     let there = c .before .before .before .before .loop-test .taken in
-    turn inv there (c .before .wide .result) (c .before .wide .ensures .0) (omega arith) (c .if2 .left) (c .before .wide .ensures .1)
+    turn inv there (c .before .wide8 .result) (c .before .wide8 .ensures .0) (omega arith) (c .if2 .left) (c .before .wide8 .ensures .1)
 
 returns-4 : tie.Need-returns-4 Inv-loop μ-loop
 returns-4 c = stop-end (c .before .loop .inv) (c .loop-test .left)
 
-pub get-spec : {M : Type 1} → statement M
-get-spec =
+pub read-number-spec : {M : Type 1} → statement M
+read-number-spec =
     tie.close
     (tie.spec
     Inv-loop
     μ-loop
     loop-holds
     returns
-    shared-slice-read-wide
-    wide-requires
+    shared-slice-read-wide8
+    wide8-requires
     returns-2
     mul-t14
     add-t15

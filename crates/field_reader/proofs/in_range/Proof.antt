@@ -3,9 +3,9 @@
 use mathlib.Core.Logic.{⊎-elim}
 use borrow.Author.Needs.{needs}
 use borrow.Author.Tests.{ltb-true, ltb-false}
-use Rattle.list_reader.proofs.Answers.{below-range, above-range, in-range}
-use Rattle.list_reader.proofs.in_range.Statement.{statement}
-use Rattle.list_reader.proofs.in_range.Tie as tie
+use Rattle.field_reader.proofs.Answers.{below-range, above-range, in-range}
+use Rattle.field_reader.proofs.in_range.Statement.{statement}
+use Rattle.field_reader.proofs.in_range.Tie as tie
 
 add-t9 : tie.Need-add-t9
 add-t9 c = search needs

@@ -1,0 +1,56 @@
+-- Any number is what read_number reads, and the field is that number in its range.
+-- Assumes nothing.
+use mathlib.Core.Path.{sym, _∙_}
+use borrow.Author.Needs.{needs}
+use Rattle.field_reader.proofs.Answers.{ended-is-12, too-long-is-13, not-shortest-is-13, field-by-number}
+use Rattle.field_reader.proofs.read_long.Statement.{statement}
+use Rattle.field_reader.proofs.read_long.Tie as tie
+
+add-place : tie.Need-add-place
+add-place c = search needs
+
+read-number-requires : tie.Need-read-number-requires
+read-number-requires c κs = search needs
+
+enum-known-value : tie.Need-enum-known-value
+enum-known-value c = search needs
+
+in-range-requires : tie.Need-in-range-requires
+in-range-requires c κs = search needs
+
+returns : tie.Need-returns
+returns c = field-by-number _ _ _ _ (sym (c .before .before .value .given .1) ∙ c .before .before .before .before .read-number .ensures) (c .in-range .ensures)
+
+enum-told : tie.Need-enum-told
+enum-told c = search needs
+
+returns-2 : tie.Need-returns-2
+returns-2 c = field-by-number _ _ _ _ (sym (c .enum-told .given .1) ∙ c .before .before .read-number .ensures) (ended-is-12 _ _ _)
+
+enum-told-2 : tie.Need-enum-told-2
+enum-told-2 c = search needs
+
+returns-3 : tie.Need-returns-3
+returns-3 c = field-by-number _ _ _ _ (sym (c .enum-told2 .given .1) ∙ c .before .before .read-number .ensures) (too-long-is-13 _ _ _)
+
+enum-told-3 : tie.Need-enum-told-3
+enum-told-3 c = search needs
+
+returns-4 : tie.Need-returns-4
+returns-4 c = field-by-number _ _ _ _ (sym (c .enum-told3 .given .1) ∙ c .before .before .read-number .ensures) (not-shortest-is-13 _ _ _)
+
+pub read-long-spec : {M : Type 1} → statement M
+read-long-spec =
+    tie.close
+    (tie.spec
+    add-place
+    read-number-requires
+    enum-known-value
+    in-range-requires
+    returns
+    enum-told
+    returns-2
+    enum-told-2
+    returns-3
+    enum-told-3
+    returns-4)

@@ -1,0 +1,65 @@
+-- A byte of 128 or more and one from 1 to 127 behind it are a number.
+-- Assumes nothing.
+use mathlib.Core.Path.{refl}
+use mathlib.Core.Logic.{_≢_}
+use native.Mathlib.Omega.{arith}
+use borrow.Author.Tests.{eqb-false, ltb-false}
+use borrow.Author.Needs.{needs}
+use Rattle.field_reader.proofs.Answers.{two-groups}
+use Rattle.field_reader.proofs.two_groups.Statement.{statement}
+use Rattle.field_reader.proofs.two_groups.Tie as tie
+
+sub-if1 : tie.Need-sub-if1
+sub-if1 c = search needs
+
+returns : tie.Need-returns
+returns c = λ z. absurd (z refl)
+
+shared-slice-read-wide8 : tie.Need-shared-slice-read-wide8
+shared-slice-read-wide8 c = search needs
+
+wide8-requires : tie.Need-wide8-requires
+wide8-requires c κs = search needs
+
+add-wide8 : tie.Need-add-wide8
+add-wide8 c = search needs
+
+shared-slice-read-wide8-2 : tie.Need-shared-slice-read-wide8-2
+shared-slice-read-wide8-2 c = search needs
+
+wide8-requires-2 : tie.Need-wide8-requires-2
+wide8-requires-2 c κs = search needs
+
+returns-2 : tie.Need-returns-2
+returns-2 c = λ z. absurd (z refl)
+
+mul-result : tie.Need-mul-result
+mul-result c = search needs
+
+add-result : tie.Need-add-result
+add-result c = search needs
+
+returns-3 : tie.Need-returns-3
+returns-3 c =
+    let some : c .before .before .before .wide82 .result ≢ 0 = eqb-false (c .before .before .before .wide82 .result) 0 (c .before .if3 .left) in
+    let last = ltb-false 127 (c .before .before .before .wide82 .result) (c .if4 .left) in
+    let more = c .before .before .if2 .left in
+    let there = c .before .before .before .before .before .before .before .if1 .left in
+    let inside = c .before .before .before .before .before .before .before .before .before .pre in
+    λ z. two-groups _ _ (omega arith) (c .before .before .before .before .before .wide8 .ensures .0) more (c .before .before .before .wide82 .ensures .0) some (omega arith)
+
+pub two-groups-spec : {M : Type 1} → statement M
+two-groups-spec =
+    tie.close
+    (tie.spec
+    sub-if1
+    returns
+    shared-slice-read-wide8
+    wide8-requires
+    add-wide8
+    shared-slice-read-wide8-2
+    wide8-requires-2
+    returns-2
+    mul-result
+    add-result
+    returns-3)

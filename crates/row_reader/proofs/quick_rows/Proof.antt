@@ -1,0 +1,132 @@
+-- The loop's invariant is that of read_rows: the rows before place total are read and kept, and the rest, put onto them, are the column's. The measure is
+-- the rest.
+-- Assumes nothing.
+use mathlib.Core.Path.{_∙_}
+use native.Mathlib.Nat.{le-trans, pos-of-ne-zero}
+use borrow.Author.Tests.{leb-false, ltb-false}
+use mir.Facts.{fits-bits}
+use Rattle.field_reader.proofs.Places.{bytes-fit, fewer, inside-fits, next-fits, none-left}
+use Rattle.row_reader.specs.Rows.{RowsRead}
+use Rattle.row_reader.proofs.Rows.{rows-start, rows-both, rows-long, rows-few, rows-paced, row-narrow}
+use Rattle.row_reader.proofs.Quick.{quick-room, quick-found, quick-turn, quick-over, quick-stop, quick-part}
+use Rattle.row_reader.proofs.quick_rows.Statement.{statement}
+use Rattle.row_reader.proofs.quick_rows.Tie as tie
+
+abbrev Inv-loop : tie.InvT-loop
+Inv-loop plan at n j count t rows₀ k₀ row₀ rest₀ total₀ rows k row rest total = RowsRead n plan j count at t rows₀ rows k row rest total
+
+abbrev μ-loop : tie.MeasureT-loop
+μ-loop plan at n j count t rows₀ k₀ row₀ rest₀ total₀ rows k row rest total = rest
+
+loop-holds : tie.Need-loop-holds Inv-loop μ-loop
+loop-holds c = rows-start _ _ _ _ _ _ _ (c .before .before .pre .0) (c .before .before .pre .2)
+
+short-rows-requires : tie.Need-short-rows-requires Inv-loop μ-loop
+short-rows-requires c κs = let x = c .before .before .loop .inv in let p = c .before .before .before .before .before .pre in (x .inside, le-trans (x .high) (p .1), le-trans (rows-few x) (p .4))
+
+same-length : tie.Need-same-length Inv-loop μ-loop
+same-length c = c .before .before .before .before .short-rows .kept .1 .1 .1 .1 .1 .0 ∙ rows-long (c .before .before .before .before .before .before .before .loop .inv)
+
+returns : tie.Need-returns Inv-loop μ-loop
+returns c = quick-over (c .before .before .before .before .before .before .before .loop .inv) (c .before .before .before .before .short-rows .ensures)
+
+add-k : tie.Need-add-k Inv-loop μ-loop
+add-k c = inside-fits (c .before .before .before .before .before .before .before .before .before .before .before .good .0 .0) (c .before .before .before .before .before .short-rows .ensures .read _ (c .before .if1 .left) .inside)
+
+add-total : tie.Need-add-total Inv-loop μ-loop
+add-total c =
+    let x = rows-both (c .before .before .before .before .before .before .before .before .before .loop .inv) (c .before .before .before .before .before .before .short-rows .ensures .read _ (c .before .before .if1 .left)) in
+    inside-fits (c .before .before .before .before .before .before .before .before .before .before .before .before .good .0 .0) (le-trans (rows-paced x (c .before .before .before .before .before .before .before .before .before .before .before .before .pre .3)) (x .inside))
+
+sub-rest : tie.Need-sub-rest Inv-loop μ-loop
+sub-rest c = c .before .before .before .before .before .before .short-rows .ensures .few
+
+two-groups-requires : tie.Need-two-groups-requires Inv-loop μ-loop
+two-groups-requires c κs = c .before .before .before .before .before .before .before .short-rows .ensures .read _ (c .before .before .before .if1 .left) .inside
+
+sub-if4 : tie.Need-sub-if4 Inv-loop μ-loop
+sub-if4 c = c .before .before .before .before .before .if1 .left
+
+same-length-2 : tie.Need-same-length-2 Inv-loop μ-loop
+same-length-2 c = rows-long (rows-both (c .before .before .before .before .before .before .before .before .before .before .before .before .loop .inv) (c .before .before .before .before .before .before .before .before .before .short-rows .ensures .read _ (c .before .before .before .before .before .if1 .left)))
+
+returns-2 : tie.Need-returns-2 Inv-loop μ-loop
+returns-2 c = quick-part (rows-both (c .before .before .before .before .before .before .before .before .before .before .before .before .loop .inv) (c .before .before .before .before .before .before .before .before .before .short-rows .ensures .read _ (c .before .before .before .before .before .if1 .left)))
+
+add-row : tie.Need-add-row Inv-loop μ-loop
+add-row c = fits-bits 32 tt (row-narrow (c .before .before .before .before .before .before .before .before .before .before .before .before .before .before .before .before .before .pre .1) (c .before .before .before .before .before .before .before .if1 .left) (ltb-false _ _ (c .before .if4 .left)))
+
+narrow32-requires : tie.Need-narrow32-requires Inv-loop μ-loop
+narrow32-requires c κs = row-narrow (c .before .before .before .before .before .before .before .before .before .before .before .before .before .before .before .before .before .pre .1) (c .before .before .before .before .before .before .before .if1 .left) (ltb-false _ _ (c .before .if4 .left))
+
+mul-rows : tie.Need-mul-rows Inv-loop μ-loop
+mul-rows c =
+    let x = rows-both (c .before .before .before .before .before .before .before .before .before .before .before .before .before .before .before .loop .inv) (c .before .before .before .before .before .before .before .before .before .before .before .before .short-rows .ensures .read _ (c .before .before .before .before .before .before .before .before .if1 .left)) in
+    bytes-fit (quick-room x (c .before .if5 .left)) (c .before .before .before .before .before .before .before .before .before .before .before .before .before .before .before .before .before .before .good .1 .1 .1 .1 .1 .1 .0 .1)
+
+slice-write-rows : tie.Need-slice-write-rows Inv-loop μ-loop
+slice-write-rows c = leb-false _ _ (c .before .if5 .left)
+
+add-total-2 : tie.Need-add-total-2 Inv-loop μ-loop
+add-total-2 c =
+    let x = rows-both (c .before .before .before .before .before .before .before .before .before .before .before .before .before .before .before .loop .inv) (c .before .before .before .before .before .before .before .before .before .before .before .before .short-rows .ensures .read _ (c .before .before .before .before .before .before .before .before .if1 .left)) in
+    next-fits (c .before .before .before .before .before .before .before .before .before .before .before .before .before .before .before .before .before .before .good .1 .1 .1 .1 .1 .1 .0 .0) (quick-room x (c .before .if5 .left))
+
+add-k-2 : tie.Need-add-k-2 Inv-loop μ-loop
+add-k-2 c =
+    let x = rows-both (c .before .before .before .before .before .before .before .before .before .before .before .before .before .before .before .loop .inv) (c .before .before .before .before .before .before .before .before .before .before .before .before .short-rows .ensures .read _ (c .before .before .before .before .before .before .before .before .if1 .left)) in
+    inside-fits (c .before .before .before .before .before .before .before .before .before .before .before .before .before .before .before .before .before .before .good .0 .0) (quick-found x (c .before .before .before .if3 .left) (c .before .before .before .before .two-groups .ensures) (c .before .before .if4 .left) .inside)
+
+sub-rest-2 : tie.Need-sub-rest-2 Inv-loop μ-loop
+sub-rest-2 c = pos-of-ne-zero (c .before .before .before .before .before .if2 .left)
+
+loop-less : tie.Need-loop-less Inv-loop μ-loop
+loop-less c = fewer _ _ (pos-of-ne-zero (c .before .before .before .before .before .if2 .left))
+
+loop-again : tie.Need-loop-again Inv-loop μ-loop
+loop-again c =
+    let x = rows-both (c .before .before .before .before .before .before .before .before .before .before .before .before .before .before .before .loop .inv) (c .before .before .before .before .before .before .before .before .before .before .before .before .short-rows .ensures .read _ (c .before .before .before .before .before .before .before .before .if1 .left)) in
+    quick-turn x (c .before .before .before .if3 .left) (c .before .before .before .before .two-groups .ensures) (c .before .before .if4 .left) (pos-of-ne-zero (c .before .before .before .before .before .if2 .left)) (c .narrow32 .ensures)
+
+same-length-3 : tie.Need-same-length-3 Inv-loop μ-loop
+same-length-3 c = rows-long (c .before .loop .inv)
+
+returns-3 : tie.Need-returns-3 Inv-loop μ-loop
+returns-3 c = quick-stop (c .before .loop .inv) (none-left (c .loop-test .left))
+
+same-length-4 : tie.Need-same-length-4 Inv-loop μ-loop
+same-length-4 c = rows-long (rows-both (c .before .before .before .before .before .before .before .before .before .before .loop .inv) (c .before .before .before .before .before .before .before .short-rows .ensures .read _ (c .before .before .before .if1 .left)))
+
+returns-4 : tie.Need-returns-4 Inv-loop μ-loop
+returns-4 c = quick-stop (rows-both (c .before .before .before .before .before .before .before .before .before .before .loop .inv) (c .before .before .before .before .before .before .before .short-rows .ensures .read _ (c .before .before .before .if1 .left))) (c .if2 .taken)
+
+pub quick-rows-spec : {M : Type 1} → statement M
+quick-rows-spec =
+    tie.close
+    (tie.spec
+    Inv-loop
+    μ-loop
+    loop-holds
+    short-rows-requires
+    same-length
+    returns
+    add-k
+    add-total
+    sub-rest
+    two-groups-requires
+    sub-if4
+    same-length-2
+    returns-2
+    add-row
+    narrow32-requires
+    mul-rows
+    slice-write-rows
+    add-total-2
+    add-k-2
+    sub-rest-2
+    loop-less
+    loop-again
+    same-length-3
+    returns-3
+    same-length-4
+    returns-4)

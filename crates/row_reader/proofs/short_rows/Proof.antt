@@ -1,0 +1,101 @@
+-- The loop's invariant: i rows are kept by i bytes, and read where the last is in its range. Each turn reads one byte that is a gap. The measure is how many
+-- may come.
+-- Assumes nothing.
+use Prim.Native.Nat.{_-_}
+use native.Mathlib.Nat.{le-of-lt, lt-of-lt-of-le, pos-of-ne-zero}
+use borrow.Author.Needs.{needs}
+use mir.Facts.{fits-bits}
+use Rattle.field_reader.proofs.Places.{before-end, bytes-fit, count-fits, inside-fits, nearer}
+use Rattle.row_reader.specs.Rows.{ShortRead}
+use Rattle.row_reader.proofs.Short.{short-start, short-long, short-narrow, short-place, short-gap, short-turn}
+use Rattle.row_reader.proofs.short_rows.Statement.{statement}
+use Rattle.row_reader.proofs.short_rows.Tie as tie
+
+abbrev Inv-loop : tie.InvT-loop
+Inv-loop plan at b left t rows₀ most i₀ last₀ rows i last = ShortRead plan b left at t rows₀ rows i last
+
+abbrev μ-loop : tie.MeasureT-loop
+μ-loop plan at b left t rows₀ most i₀ last₀ rows i last = most - i
+
+sub-most-short : tie.Need-sub-most-short Inv-loop μ-loop
+sub-most-short c = c .before .before .pre .0
+
+most-short-requires : tie.Need-most-short-requires Inv-loop μ-loop
+most-short-requires c κs = search needs
+
+loop-holds : tie.Need-loop-holds Inv-loop μ-loop
+loop-holds c = short-start _ _ _ _ _ _ (c .before .before .before .pre .0)
+
+add-wide8 : tie.Need-add-wide8 Inv-loop μ-loop
+add-wide8 c = inside-fits (c .before .before .before .before .before .good .0 .0) (le-of-lt (before-end _ (c .loop-test .taken) (c .before .before .most-short .ensures .1)))
+
+shared-slice-read-wide8 : tie.Need-shared-slice-read-wide8 Inv-loop μ-loop
+shared-slice-read-wide8 c = before-end _ (c .before .loop-test .taken) (c .before .before .before .most-short .ensures .1)
+
+wide8-requires : tie.Need-wide8-requires Inv-loop μ-loop
+wide8-requires c κs = search needs
+
+same-length : tie.Need-same-length Inv-loop μ-loop
+same-length c = short-long (c .before .before .before .before .loop .inv)
+
+returns : tie.Need-returns Inv-loop μ-loop
+returns c = c .before .before .before .before .loop .inv
+
+add-last : tie.Need-add-last Inv-loop μ-loop
+add-last c = let p = c .before .before .before .before .before .before .before .before .before .pre in fits-bits 32 tt (short-narrow (c .before .before .before .before .before .loop .inv) (p .1) (p .2) (c .before .before .wide8 .ensures .1))
+
+narrow32-requires : tie.Need-narrow32-requires Inv-loop μ-loop
+narrow32-requires c κs = let p = c .before .before .before .before .before .before .before .before .before .pre in short-narrow (c .before .before .before .before .before .loop .inv) (p .1) (p .2) (c .before .before .wide8 .ensures .1)
+
+add-rows : tie.Need-add-rows Inv-loop μ-loop
+add-rows c = inside-fits (c .before .before .before .before .before .before .before .before .before .before .good .1 .1 .1 .1 .1 .0 .0) (le-of-lt (before-end _ (c .before .before .before .before .before .loop-test .taken) (c .before .before .before .before .before .before .before .most-short .ensures .2)))
+
+mul-rows : tie.Need-mul-rows Inv-loop μ-loop
+mul-rows c = bytes-fit (before-end _ (c .before .before .before .before .before .loop-test .taken) (c .before .before .before .before .before .before .before .most-short .ensures .2)) (c .before .before .before .before .before .before .before .before .before .before .good .1 .1 .1 .1 .1 .0 .1)
+
+slice-write-rows : tie.Need-slice-write-rows Inv-loop μ-loop
+slice-write-rows c = short-place (c .before .before .before .before .before .before .loop .inv) (c .before .before .before .before .before .loop-test .taken) (c .before .before .before .before .before .before .before .most-short .ensures .2)
+
+add-i : tie.Need-add-i Inv-loop μ-loop
+add-i c = count-fits _ (c .before .before .before .before .before .loop-test .taken) (c .before .before .before .before .before .before .before .most-short .ensures .1) (c .before .before .before .before .before .before .before .before .before .before .good .0 .0)
+
+loop-less : tie.Need-loop-less Inv-loop μ-loop
+loop-less c = nearer (c .before .before .before .before .before .loop-test .taken)
+
+loop-again : tie.Need-loop-again Inv-loop μ-loop
+loop-again c =
+    let (few, there, room) = c .before .before .before .before .before .before .before .most-short .ensures in
+    let next = c .before .before .before .before .before .loop-test .taken in
+    let gap = c .before .before .before .wide8 in
+    short-turn (c .before .before .before .before .before .before .loop .inv) (lt-of-lt-of-le next few) (before-end _ next there) (gap .ensures .0) (pos-of-ne-zero (c .before .before .if1 .left)) (short-gap (c .before .if2 .left)) (c .narrow32 .ensures)
+
+same-length-2 : tie.Need-same-length-2 Inv-loop μ-loop
+same-length-2 c = short-long (c .before .loop .inv)
+
+returns-2 : tie.Need-returns-2 Inv-loop μ-loop
+returns-2 c = c .before .loop .inv
+
+pub short-rows-spec : {M : Type 1} → statement M
+short-rows-spec =
+    tie.close
+    (tie.spec
+    Inv-loop
+    μ-loop
+    sub-most-short
+    most-short-requires
+    loop-holds
+    add-wide8
+    shared-slice-read-wide8
+    wide8-requires
+    same-length
+    returns
+    add-last
+    narrow32-requires
+    add-rows
+    mul-rows
+    slice-write-rows
+    add-i
+    loop-less
+    loop-again
+    same-length-2
+    returns-2)
