@@ -108,14 +108,6 @@ count-of-zeros w x z f h e =
     let c = groups-of-digits m (grouped (maxGroups - 1) x h) u l in
     (omega arith, omega arith)
 
--- a number above 0 has fewer of them than bits
-pub some-bit : (w x : ℕ) → 0 < x → x < 2 ^ w → leadingZeros w x < w
-some-bit w x p f = let (m, d, u, l) = leading-length w x f in go m d u
-  where
-    go : (m : ℕ) → leadingZeros w x + m ≡ w → x < 2 ^ m → leadingZeros w x < w
-    go zero d u = absurd (omega arith)
-    go (suc m) d u = omega arith
-
 -- ---- numbers one after the other
 
 -- more numbers are written behind the first ones

@@ -1,2 +1,2 @@
 pub mod Written
-pub mod Copied
+pub mod LittleArray

@@ -8,13 +8,13 @@ use native.Mathlib.Omega.{arith}
 use native.Mathlib.Numerals.{add-one}
 use lib.ListN.{length, getD, drop, length-append, drop-of-length-le}
 use lib.Seq.{slice, drop-cons, sets}
-use Rattle.papers.specs.Bounds.{maxColumns, maxGroups}
+use Rattle.papers.specs.Bounds.{maxColumns}
 use Rattle.papers.specs.Numbers.{encode}
 use Rattle.papers.specs.Job.{columnOf}
 use Rattle.papers.specs.Key.{listNumbers, listsNumbers, listsOf}
 use Rattle.list_laws.proofs.Ascending.{asc-length}
 use Rattle.bytes_laws.proofs.Gaps.{ListsFit, length-gaps}
-use Rattle.bytes_laws.proofs.Writing.{encode-short, left-short, Writes, writes-numbers, writes-none}
+use Rattle.bytes_laws.proofs.Writing.{writes-near, Writes, writes-numbers, writes-none}
 use Rattle.job_laws.proofs.Starts.{start-at, start-within, column-at}
 use Rattle.job_laws.proofs.Passed.{PassedLists, lists-below}
 use Rattle.job_laws.proofs.Laid.{length-lists, lists-at, column-length}
@@ -73,9 +73,6 @@ module _ {n : ℕ} {starts rows : List ℕ} (few : n ≤ maxColumns) (p : Passed
       let fit = lists-fit n (columnOf starts rows) (λ j. (below .ascending j, λ i m. below .within i j m)) n in
       omega (arith, numbers-few 1 (listsOf n (columnOf starts rows)) fit, length-lists (columnOf starts rows) n)
 
-  pub lists-short : length (encode (listsNumbers 1 (listsOf n (columnOf starts rows)))) ≤ maxGroups * ((maxColumns + 1) * maxColumns)
-  lists-short = omega (arith, encode-short (listsNumbers 1 (listsOf n (columnOf starts rows))), lists-few)
-
 -- ---- written
 
 -- the numbers of the first `done` columns are written
@@ -89,7 +86,7 @@ pub record WritesColumns (n : ℕ) (starts rows d₀ : List ℕ) (first : ℕ) (
 module _ {n : ℕ} {starts rows d₀ : List ℕ} {first : ℕ} {d : List ℕ} {next done : ℕ} (w : WritesColumns n starts rows d₀ first d next done) where
   -- the place of the next list is near too
   pub list-near : next < 2 ^ 61
-  list-near = let near = w .near in omega (arith, left-short (w .written .left), lists-few (w .few) (w .lists))
+  list-near = let near = w .near in omega (arith, writes-near (w .written), lists-few (w .few) (w .lists))
 
   module _ (h : done < n) where
     pub lists-turn : {m : ℕ} {d′ : List ℕ} → m ≡ next + length (encode (listNumbers (done + 1) (slice (getD starts done 0) (getD starts (done + 1) 0) rows)))

@@ -12,7 +12,7 @@ use Rattle.papers.specs.Lists.{_∈_, Asc}
 use Rattle.papers.specs.Numbers.{bytesOf, encode}
 use Rattle.papers.specs.Key.{gapsOf, listNumbers}
 use Rattle.bytes_laws.proofs.Gaps.{length-gaps}
-use Rattle.bytes_laws.proofs.Writing.{left-short, Writes, writes-all, writes-number, writes-none, writes-last}
+use Rattle.bytes_laws.proofs.Writing.{writes-near, Writes, writes-all, writes-number, writes-none, writes-last}
 use Rattle.list_writer.specs.ListAt.{ListAt}
 
 -- the rows from i up to `to` are left, behind the row `before`
@@ -73,7 +73,7 @@ module _ {j : ℕ} {rows : List ℕ} {from to : ℕ} {d₀ : List ℕ} {first : 
   pub place-near : ListAt j rows from to → next ≤ first + maxGroups * maxColumns
   place-near l =
       let few = l .few in
-      omega (arith, left-short (w .written .left), length-gaps j (slice from to rows), length-slice from to rows (l .inside))
+      omega (arith, writes-near (w .written), length-gaps j (slice from to rows), length-slice from to rows (l .inside))
 
   pub write-turn : i < to → {row : ℕ} → row ≡ getD rows i 0 → {m : ℕ} {d′ : List ℕ} → m ≡ next + length (bytesOf (row - before)) → d′ ≡ sets d next (bytesOf (row - before))
       → WritesRows j rows from to d₀ first d′ m row (i + 1)

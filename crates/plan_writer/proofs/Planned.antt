@@ -13,7 +13,7 @@ use Rattle.papers.specs.Job.{Job, columnOf}
 use Rattle.papers.specs.Key.{listsNumbers, listsOf, keyNumbers, keyOf}
 use Rattle.papers.specs.Plan.{planNumbers, planBytes}
 use Rattle.bytes_laws.proofs.Numbers.{encode-append}
-use Rattle.bytes_laws.proofs.Writing.{left-short, Writes, writes-all, writes-number, writes-numbers, writes-none}
+use Rattle.bytes_laws.proofs.Writing.{writes-near, Writes, writes-all, writes-number, writes-numbers, writes-none}
 use Rattle.job_laws.proofs.Passed.{Passed, passes-iff, lists-iff}
 use Rattle.list_writer.proofs.Columns.{lists-few}
 use Rattle.plan_writer.specs.Lists.{planIn, Writable}
@@ -56,7 +56,7 @@ module _ {job : Job} {order pops starts rows : List ℕ} {peak : ℕ} (w : Writa
 
   -- every place among the bytes of the plan
   pub place-near : {d₀ left d : List ℕ} {k : ℕ} → Writes (wholeNumbers job order pops starts rows peak) d₀ 0 left d k → k < 2 ^ 59
-  place-near s = omega (arith, left-short (s .left), whole-few)
+  place-near s = omega (arith, writes-near s, whole-few)
 
 -- ---- put one behind the other
 

@@ -10,7 +10,7 @@ use lib.Seq.{drop-cons, sets}
 use Rattle.papers.specs.Bounds.{maxColumns, maxGroups}
 use Rattle.papers.specs.Numbers.{bytesOf, encode}
 use Rattle.papers.specs.Plan.{columnsIn, popsIn, stepNumbers}
-use Rattle.bytes_laws.proofs.Writing.{left-short, Writes, writes-number, writes-none}
+use Rattle.bytes_laws.proofs.Writing.{writes-near, Writes, writes-number, writes-none}
 use Rattle.plan_writer.specs.Lists.{stepsIn}
 
 -- steps taken apart and put together again
@@ -53,7 +53,7 @@ pub record WritesSteps (order pops d₀ : List ℕ) (first : ℕ) (d : List ℕ)
 module _ {order pops d₀ : List ℕ} {first : ℕ} {d : List ℕ} {next i : ℕ} (w : WritesSteps order pops d₀ first d next i) where
   -- no place is far behind the first
   near : {left d′ : List ℕ} {k : ℕ} → Writes (numbersOf order pops) d₀ first left d′ k → k ≤ first + 2 * maxGroups * maxColumns
-  near s = let few = w .few in omega (arith, left-short (s .left), steps-few order pops)
+  near s = let few = w .few in omega (arith, writes-near s, steps-few order pops)
 
   pub column-near : next ≤ first + 2 * maxGroups * maxColumns
   column-near = near (w .written)

@@ -8,7 +8,7 @@ use borrow.Author.Needs.{needs}
 use Rattle.papers.specs.Bounds.{maxGroups}
 use Rattle.papers.specs.Numbers.{bytesOf}
 use Rattle.bytes_laws.proofs.Numbers.{bytes-length}
-use Rattle.groups.proofs.Copied.{array-byte}
+use Rattle.groups.proofs.LittleArray.{array-byte}
 use Rattle.key_match.proofs.Bytes.{Bytes, bytes-start, bytes-lack, bytes-other, bytes-turn, bytes-stop}
 use Rattle.key_match.proofs.match_groups.Statement.{statement}
 use Rattle.key_match.proofs.match_groups.Tie as tie
