@@ -1,11 +1,12 @@
 -- The loop over the steps: the steps left, put onto those read, are all steps; and those read are kept.
 -- Assumes nothing.
-use Prim.Native.Nat.{zero, suc, ℕ, _+_, _-_, _<_, _≤_}
+use Prim.Native.Nat.{zero, suc, ℕ, _+_, _-_, _^_, _<_, _≤_}
 use mathlib.Core.List.{List, [], _∷_, _++_, map-append}
 use mathlib.Core.Path.{_≡_, refl, ap, _∙_}
 use native.Mathlib.Omega.{arith}
 use lib.ListN.{length, length-map}
 use lib.Seq.{sets, length-sets}
+use Rattle.papers.specs.Bounds.{maxColumns}
 use Rattle.papers.specs.Plan.{field, got, columnsIn, popsIn, bad, onto, readStep, readSteps}
 use Rattle.list_laws.proofs.Stores.{sets-more}
 use Rattle.bytes_laws.proofs.Fields.{then-got, then-bad}
@@ -16,6 +17,14 @@ use Rattle.field_reader.specs.Reading.{Told, finds}
 use Rattle.field_reader.specs.declared.Reading.the-variants.{Found, Refused}
 use Rattle.field_reader.specs.declared.Reading.{Reading}
 use Rattle.plan_reader.specs.Plans.{StepIn, StepsIn}
+
+-- ---- a column and its pops are numbers of 32 bits
+
+pub column-narrow : {n column : ℕ} → n ≤ maxColumns → column ≤ n → column < 2 ^ 32
+column-narrow few h = omega arith
+
+pub pops-narrow : {n pops : ℕ} → n ≤ maxColumns → pops ≤ n - 1 → pops < 2 ^ 32
+pops-narrow few h = omega arith
 
 -- ---- a step and the steps behind it
 

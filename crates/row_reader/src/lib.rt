@@ -1,4 +1,4 @@
-// The rows of a column read in one go, where their gaps are as short as nearly all gaps are: one group, or two. What else there is is left to the reader of lists.
+// The rows of a column read in one go, where each gap has one group or two, as nearly all have. Any other list is left to the reader of lists.
 ghost use Prim.Native.Nat.{_-_, _≤_};
 ghost use lib.ListN.{length};
 ghost use Rattle.papers.specs.Bounds.{maxColumns};

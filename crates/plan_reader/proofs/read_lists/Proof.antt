@@ -24,19 +24,25 @@ loop-holds : tie.Need-loop-holds Inv-loop μ-loop
 loop-holds c = lists-start _ _ _ (now (c .before .before .before .args .starts)) _ (c .before .before .before .pre .0)
 
 read-list-requires : tie.Need-read-list-requires Inv-loop μ-loop
-read-list-requires c κs = (c .before .before .loop .inv .inside, c .before .before .before .before .before .before .pre .1, c .before .loop-test .taken, c .before .before .loop .inv .paced)
+read-list-requires c κs =
+    let l = c .before .before .loop .inv in
+    (l .inside, c .before .before .before .before .before .before .pre .1, c .before .loop-test .taken, l .paced)
 
 enum-known-number : tie.Need-enum-known-number Inv-loop μ-loop
 enum-known-number c = search needs
 
 same-length : tie.Need-same-length Inv-loop μ-loop
-same-length c = lists-long (c .before .before .before .before .before .before .before .before .loop .inv) .0 ∙ length-set (now (c .before .before .before .before .before .before .before .before .before .before .before .before .args .starts)) 0 0
+same-length c =
+    let starts = now (c .before .before .before .before .before .before .before .before .before .before .before .before .args .starts) in
+    lists-long (c .before .before .before .before .before .before .before .before .loop .inv) .0 ∙ length-set starts 0 0
 
 same-length-2 : tie.Need-same-length-2 Inv-loop μ-loop
 same-length-2 c = c .before .before .before .before .before .read-list .kept .1 .1 .1 .1 .1 .0 ∙ lists-long (c .before .before .before .before .before .before .before .before .loop .inv) .1
 
 returns : tie.Need-returns Inv-loop μ-loop
-returns c = refuses _ _ (lists-fault (c .before .before .before .before .before .before .before .before .loop .inv) (c .before .before .before .before .before .before .before .loop-test .taken) (c .before .before .before .before .before .read-list .ensures) (c .before .number .given .1)) refl
+returns c =
+    let l = c .before .before .before .before .before .before .before .before .loop .inv in
+    refuses _ _ (lists-fault l (c .before .before .before .before .before .before .before .loop-test .taken) (c .before .before .before .before .before .read-list .ensures) (c .before .number .given .1)) refl
 
 enum-known-value : tie.Need-enum-known-value Inv-loop μ-loop
 enum-known-value c = search needs
@@ -45,7 +51,11 @@ mul-starts : tie.Need-mul-starts Inv-loop μ-loop
 mul-starts c = search needs
 
 slice-write-starts-2 : tie.Need-slice-write-starts-2 Inv-loop μ-loop
-slice-write-starts-2 c = let h = lists-long (c .before .before .before .before .before .before .before .before .loop .inv) .0 ∙ length-set (now (c .before .before .before .before .before .before .before .before .before .before .before .before .args .starts)) 0 0 in let g = c .before .before .before .before .before .before .before .loop-test .taken in omega arith
+slice-write-starts-2 c =
+    let starts = now (c .before .before .before .before .before .before .before .before .before .before .before .before .args .starts) in
+    let long = lists-long (c .before .before .before .before .before .before .before .before .loop .inv) .0 ∙ length-set starts 0 0 in
+    let next = c .before .before .before .before .before .before .before .loop-test .taken in
+    omega arith
 
 add-j : tie.Need-add-j Inv-loop μ-loop
 add-j c = search needs
@@ -54,7 +64,9 @@ loop-less : tie.Need-loop-less Inv-loop μ-loop
 loop-less c = search needs
 
 loop-again : tie.Need-loop-again Inv-loop μ-loop
-loop-again c = lists-turn (c .before .before .before .before .before .before .before .before .loop .inv) (c .before .before .before .before .before .before .before .loop-test .taken) (c .before .before .before .before .before .read-list .ensures) (c .before .value .given .1) refl
+loop-again c =
+    let l = c .before .before .before .before .before .before .before .before .loop .inv in
+    lists-turn l (c .before .before .before .before .before .before .before .loop-test .taken) (c .before .before .before .before .before .read-list .ensures) (c .before .value .given .1) refl
 
 same-length-3 : tie.Need-same-length-3 Inv-loop μ-loop
 same-length-3 c = lists-long (c .before .loop .inv) .0 ∙ length-set (now (c .before .before .before .before .before .args .starts)) 0 0

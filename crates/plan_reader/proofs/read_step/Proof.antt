@@ -1,13 +1,12 @@
 -- A step is its column and, behind it, its pops; either at fault is the step's fault.
 -- Assumes nothing.
 use mathlib.Core.Path.{refl, ap}
-use native.Mathlib.Omega.{arith}
-use lib.ListN.{set}
+use lib.ListN.{set, length-set}
 use borrow.Author.Needs.{needs}
 use denote.Ref.{now}
 use Rattle.field_reader.proofs.Answers.{field-refused, field-found}
 use Rattle.field_reader.specs.Reading.{finds, refuses}
-use Rattle.plan_reader.proofs.Steps.{step-no-column, step-no-pops, step-got}
+use Rattle.plan_reader.proofs.Steps.{column-narrow, pops-narrow, step-no-column, step-no-pops, step-got}
 use Rattle.plan_reader.proofs.read_step.Statement.{statement}
 use Rattle.plan_reader.proofs.read_step.Tie as tie
 
@@ -33,13 +32,17 @@ enum-known-number-2 : tie.Need-enum-known-number-2
 enum-known-number-2 c = search needs
 
 returns-2 : tie.Need-returns-2
-returns-2 c = refuses _ _ (step-no-pops _ _ _ (field-found _ _ _ _ (c .before .before .before .before .before .before .before .read-field .ensures) (c .before .before .before .before .before .column .given .1) .0) (field-refused _ _ _ _ (c .before .before .before .read-field2 .ensures) (c .before .number2 .given .1))) refl
+returns-2 c =
+    let column = field-found _ _ _ _ (c .before .before .before .before .before .before .before .read-field .ensures) (c .before .before .before .before .before .column .given .1) .0 in
+    refuses _ _ (step-no-pops _ _ _ column (field-refused _ _ _ _ (c .before .before .before .read-field2 .ensures) (c .before .number2 .given .1))) refl
 
 enum-known-popped : tie.Need-enum-known-popped
 enum-known-popped c = search needs
 
 narrow32-requires : tie.Need-narrow32-requires
-narrow32-requires c κs = let h = field-found _ _ _ _ (c .before .before .before .before .before .before .before .read-field .ensures) (c .before .before .before .before .before .column .given .1) .1 .high in let p = c .before .before .before .before .before .before .before .before .before .before .before .pre .1 in omega arith
+narrow32-requires c κs =
+    let column = field-found _ _ _ _ (c .before .before .before .before .before .before .before .read-field .ensures) (c .before .before .before .before .before .column .given .1) .1 in
+    column-narrow (c .before .before .before .before .before .before .before .before .before .before .before .pre .1) (column .high)
 
 mul-order : tie.Need-mul-order
 mul-order c = search needs
@@ -48,7 +51,9 @@ slice-write-order : tie.Need-slice-write-order
 slice-write-order c = search needs
 
 narrow32-requires-2 : tie.Need-narrow32-requires-2
-narrow32-requires-2 c κs = let h = field-found _ _ _ _ (c .before .before .before .before .read-field2 .ensures) (c .before .before .popped .given .1) .1 .high in let p = c .before .before .before .before .before .before .before .before .before .before .before .before .pre .1 in omega arith
+narrow32-requires-2 c κs =
+    let popped = field-found _ _ _ _ (c .before .before .before .before .read-field2 .ensures) (c .before .before .popped .given .1) .1 in
+    pops-narrow (c .before .before .before .before .before .before .before .before .before .before .before .before .pre .1) (popped .high)
 
 mul-pops : tie.Need-mul-pops
 mul-pops c = search needs
@@ -57,15 +62,17 @@ slice-write-pops : tie.Need-slice-write-pops
 slice-write-pops c = search needs
 
 same-length : tie.Need-same-length
-same-length c = search needs
+same-length c = let lent = c .before .before .before .before .before .before .before .before .before .before .before .before .before .args in length-set (now (lent .order)) (lent .i) _
 
 same-length-2 : tie.Need-same-length-2
-same-length-2 c = search needs
+same-length-2 c = let lent = c .before .before .before .before .before .before .before .before .before .before .before .before .before .args in length-set (now (lent .pops)) (lent .i) _
 
 returns-3 : tie.Need-returns-3
 returns-3 c =
-    finds _ _ (step-got _ _ _ (field-found _ _ _ _ (c .before .before .before .before .before .before .before .before .before .read-field .ensures) (c .before .before .before .before .before .before .before .column .given .1) .0) (field-found _ _ _ _ (c .before .before .before .before .before .read-field2 .ensures) (c .before .before .before .popped .given .1) .0)) refl
-    (ap (set (now (c .before .before .before .before .before .before .before .before .before .before .before .before .before .args .order)) (c .before .before .before .before .before .before .before .before .before .before .before .before .before .args .i)) (c .before .narrow32 .ensures), ap (set (now (c .before .before .before .before .before .before .before .before .before .before .before .before .before .args .pops)) (c .before .before .before .before .before .before .before .before .before .before .before .before .before .args .i)) (c .narrow322 .ensures))
+    let lent = c .before .before .before .before .before .before .before .before .before .before .before .before .before .args in
+    let column = field-found _ _ _ _ (c .before .before .before .before .before .before .before .before .before .read-field .ensures) (c .before .before .before .before .before .before .before .column .given .1) .0 in
+    let popped = field-found _ _ _ _ (c .before .before .before .before .before .read-field2 .ensures) (c .before .before .before .popped .given .1) .0 in
+    finds _ _ (step-got _ _ _ column popped) refl (ap (set (now (lent .order)) (lent .i)) (c .before .narrow32 .ensures), ap (set (now (lent .pops)) (lent .i)) (c .narrow322 .ensures))
 
 pub read-step-spec : {M : Type 1} → statement M
 read-step-spec =

@@ -19,7 +19,11 @@ loop-holds : tie.Need-loop-holds Inv-loop μ-loop
 loop-holds c = steps-start _ _ _ _ _ (c .before .before .before .pre .0)
 
 read-step-requires : tie.Need-read-step-requires Inv-loop μ-loop
-read-step-requires c κs = let (a, b) = steps-long (c .before .before .before .loop .inv) in let t = c .before .before .loop-test .taken in let p = c .before .before .before .before .before .before .before .pre in (c .before .before .before .loop .inv .inside, p .1, t, omega arith, omega arith)
+read-step-requires c κs =
+    let l = c .before .before .before .loop .inv in
+    let (order, pops) = steps-long l in
+    let p = c .before .before .before .before .before .before .before .pre in
+    (l .inside, p .1, c .before .before .loop-test .taken, omega arith, omega arith)
 
 enum-known-number : tie.Need-enum-known-number Inv-loop μ-loop
 enum-known-number c = search needs
@@ -31,7 +35,9 @@ same-length-2 : tie.Need-same-length-2 Inv-loop μ-loop
 same-length-2 c = c .before .before .before .before .before .before .before .read-step .kept .1 .1 .1 .1 .1 .0 ∙ steps-long (c .before .before .before .before .before .before .before .before .before .before .before .loop .inv) .1
 
 returns : tie.Need-returns Inv-loop μ-loop
-returns c = refuses _ _ (steps-fault (c .before .before .before .before .before .before .before .before .before .before .before .loop .inv) (c .before .before .before .before .before .before .before .before .before .before .loop-test .taken) (c .before .before .before .before .before .before .before .read-step .ensures) (c .before .number .given .1)) refl
+returns c =
+    let l = c .before .before .before .before .before .before .before .before .before .before .before .loop .inv in
+    refuses _ _ (steps-fault l (c .before .before .before .before .before .before .before .before .before .before .loop-test .taken) (c .before .before .before .before .before .before .before .read-step .ensures) (c .before .number .given .1)) refl
 
 enum-known-next : tie.Need-enum-known-next Inv-loop μ-loop
 enum-known-next c = search needs
@@ -43,7 +49,9 @@ loop-less : tie.Need-loop-less Inv-loop μ-loop
 loop-less c = search needs
 
 loop-again : tie.Need-loop-again Inv-loop μ-loop
-loop-again c = steps-turn (c .before .before .before .before .before .before .before .before .before .before .before .loop .inv) (c .before .before .before .before .before .before .before .before .before .before .loop-test .taken) (c .before .before .before .before .before .before .before .read-step .ensures) (c .before .next .given .1)
+loop-again c =
+    let l = c .before .before .before .before .before .before .before .before .before .before .before .loop .inv in
+    steps-turn l (c .before .before .before .before .before .before .before .before .before .before .loop-test .taken) (c .before .before .before .before .before .before .before .read-step .ensures) (c .before .next .given .1)
 
 same-length-3 : tie.Need-same-length-3 Inv-loop μ-loop
 same-length-3 c = steps-long (c .before .loop .inv) .0

@@ -35,8 +35,9 @@ add-k c = inside-fits (c .before .before .before .before .before .before .before
 
 add-total : tie.Need-add-total Inv-loop μ-loop
 add-total c =
-    let x = rows-both (c .before .before .before .before .before .before .before .before .before .loop .inv) (c .before .before .before .before .before .before .short-rows .ensures .read _ (c .before .before .if1 .left)) in
-    inside-fits (c .before .before .before .before .before .before .before .before .before .before .before .before .good .0 .0) (le-trans (rows-paced x (c .before .before .before .before .before .before .before .before .before .before .before .before .pre .3)) (x .inside))
+    let here = c .before .before in
+    let x = rows-both (here .before .before .before .before .before .before .before .loop .inv) (here .before .before .before .before .short-rows .ensures .read _ (here .if1 .left)) in
+    inside-fits (here .before .before .before .before .before .before .before .before .before .before .good .0 .0) (le-trans (rows-paced x (here .before .before .before .before .before .before .before .before .before .before .pre .3)) (x .inside))
 
 sub-rest : tie.Need-sub-rest Inv-loop μ-loop
 sub-rest c = c .before .before .before .before .before .before .short-rows .ensures .few
@@ -48,34 +49,43 @@ sub-if4 : tie.Need-sub-if4 Inv-loop μ-loop
 sub-if4 c = c .before .before .before .before .before .if1 .left
 
 same-length-2 : tie.Need-same-length-2 Inv-loop μ-loop
-same-length-2 c = rows-long (rows-both (c .before .before .before .before .before .before .before .before .before .before .before .before .loop .inv) (c .before .before .before .before .before .before .before .before .before .short-rows .ensures .read _ (c .before .before .before .before .before .if1 .left)))
+same-length-2 c =
+    let here = c .before .before .before .before .before in
+    let x = rows-both (here .before .before .before .before .before .before .before .loop .inv) (here .before .before .before .before .short-rows .ensures .read _ (here .if1 .left)) in
+    rows-long x
 
 returns-2 : tie.Need-returns-2 Inv-loop μ-loop
-returns-2 c = quick-part (rows-both (c .before .before .before .before .before .before .before .before .before .before .before .before .loop .inv) (c .before .before .before .before .before .before .before .before .before .short-rows .ensures .read _ (c .before .before .before .before .before .if1 .left)))
+returns-2 c =
+    let here = c .before .before .before .before .before in
+    let x = rows-both (here .before .before .before .before .before .before .before .loop .inv) (here .before .before .before .before .short-rows .ensures .read _ (here .if1 .left)) in
+    quick-part x
 
 add-row : tie.Need-add-row Inv-loop μ-loop
-add-row c = fits-bits 32 tt (row-narrow (c .before .before .before .before .before .before .before .before .before .before .before .before .before .before .before .before .before .pre .1) (c .before .before .before .before .before .before .before .if1 .left) (ltb-false _ _ (c .before .if4 .left)))
+add-row c = let here = c .before .before .before .before .before .before .before in fits-bits 32 tt (row-narrow (here .before .before .before .before .before .before .before .before .before .before .pre .1) (here .if1 .left) (ltb-false _ _ (c .before .if4 .left)))
 
 narrow32-requires : tie.Need-narrow32-requires Inv-loop μ-loop
-narrow32-requires c κs = row-narrow (c .before .before .before .before .before .before .before .before .before .before .before .before .before .before .before .before .before .pre .1) (c .before .before .before .before .before .before .before .if1 .left) (ltb-false _ _ (c .before .if4 .left))
+narrow32-requires c κs = let here = c .before .before .before .before .before .before .before in row-narrow (here .before .before .before .before .before .before .before .before .before .before .pre .1) (here .if1 .left) (ltb-false _ _ (c .before .if4 .left))
 
 mul-rows : tie.Need-mul-rows Inv-loop μ-loop
 mul-rows c =
-    let x = rows-both (c .before .before .before .before .before .before .before .before .before .before .before .before .before .before .before .loop .inv) (c .before .before .before .before .before .before .before .before .before .before .before .before .short-rows .ensures .read _ (c .before .before .before .before .before .before .before .before .if1 .left)) in
-    bytes-fit (quick-room x (c .before .if5 .left)) (c .before .before .before .before .before .before .before .before .before .before .before .before .before .before .before .before .before .before .good .1 .1 .1 .1 .1 .1 .0 .1)
+    let here = c .before .before .before .before .before .before .before .before in
+    let x = rows-both (here .before .before .before .before .before .before .before .loop .inv) (here .before .before .before .before .short-rows .ensures .read _ (here .if1 .left)) in
+    bytes-fit (quick-room x (c .before .if5 .left)) (here .before .before .before .before .before .before .before .before .before .before .good .1 .1 .1 .1 .1 .1 .0 .1)
 
 slice-write-rows : tie.Need-slice-write-rows Inv-loop μ-loop
 slice-write-rows c = leb-false _ _ (c .before .if5 .left)
 
 add-total-2 : tie.Need-add-total-2 Inv-loop μ-loop
 add-total-2 c =
-    let x = rows-both (c .before .before .before .before .before .before .before .before .before .before .before .before .before .before .before .loop .inv) (c .before .before .before .before .before .before .before .before .before .before .before .before .short-rows .ensures .read _ (c .before .before .before .before .before .before .before .before .if1 .left)) in
-    next-fits (c .before .before .before .before .before .before .before .before .before .before .before .before .before .before .before .before .before .before .good .1 .1 .1 .1 .1 .1 .0 .0) (quick-room x (c .before .if5 .left))
+    let here = c .before .before .before .before .before .before .before .before in
+    let x = rows-both (here .before .before .before .before .before .before .before .loop .inv) (here .before .before .before .before .short-rows .ensures .read _ (here .if1 .left)) in
+    next-fits (here .before .before .before .before .before .before .before .before .before .before .good .1 .1 .1 .1 .1 .1 .0 .0) (quick-room x (c .before .if5 .left))
 
 add-k-2 : tie.Need-add-k-2 Inv-loop μ-loop
 add-k-2 c =
-    let x = rows-both (c .before .before .before .before .before .before .before .before .before .before .before .before .before .before .before .loop .inv) (c .before .before .before .before .before .before .before .before .before .before .before .before .short-rows .ensures .read _ (c .before .before .before .before .before .before .before .before .if1 .left)) in
-    inside-fits (c .before .before .before .before .before .before .before .before .before .before .before .before .before .before .before .before .before .before .good .0 .0) (quick-found x (c .before .before .before .if3 .left) (c .before .before .before .before .two-groups .ensures) (c .before .before .if4 .left) .inside)
+    let here = c .before .before .before .before .before .before .before .before in
+    let x = rows-both (here .before .before .before .before .before .before .before .loop .inv) (here .before .before .before .before .short-rows .ensures .read _ (here .if1 .left)) in
+    inside-fits (here .before .before .before .before .before .before .before .before .before .before .good .0 .0) (quick-found x (c .before .before .before .if3 .left) (c .before .before .before .before .two-groups .ensures) (c .before .before .if4 .left) .inside)
 
 sub-rest-2 : tie.Need-sub-rest-2 Inv-loop μ-loop
 sub-rest-2 c = pos-of-ne-zero (c .before .before .before .before .before .if2 .left)
@@ -85,7 +95,8 @@ loop-less c = fewer _ _ (pos-of-ne-zero (c .before .before .before .before .befo
 
 loop-again : tie.Need-loop-again Inv-loop μ-loop
 loop-again c =
-    let x = rows-both (c .before .before .before .before .before .before .before .before .before .before .before .before .before .before .before .loop .inv) (c .before .before .before .before .before .before .before .before .before .before .before .before .short-rows .ensures .read _ (c .before .before .before .before .before .before .before .before .if1 .left)) in
+    let here = c .before .before .before .before .before .before .before .before in
+    let x = rows-both (here .before .before .before .before .before .before .before .loop .inv) (here .before .before .before .before .short-rows .ensures .read _ (here .if1 .left)) in
     quick-turn x (c .before .before .before .if3 .left) (c .before .before .before .before .two-groups .ensures) (c .before .before .if4 .left) (pos-of-ne-zero (c .before .before .before .before .before .if2 .left)) (c .narrow32 .ensures)
 
 same-length-3 : tie.Need-same-length-3 Inv-loop μ-loop
@@ -95,10 +106,16 @@ returns-3 : tie.Need-returns-3 Inv-loop μ-loop
 returns-3 c = quick-stop (c .before .loop .inv) (none-left (c .loop-test .left))
 
 same-length-4 : tie.Need-same-length-4 Inv-loop μ-loop
-same-length-4 c = rows-long (rows-both (c .before .before .before .before .before .before .before .before .before .before .loop .inv) (c .before .before .before .before .before .before .before .short-rows .ensures .read _ (c .before .before .before .if1 .left)))
+same-length-4 c =
+    let here = c .before .before .before in
+    let x = rows-both (here .before .before .before .before .before .before .before .loop .inv) (here .before .before .before .before .short-rows .ensures .read _ (here .if1 .left)) in
+    rows-long x
 
 returns-4 : tie.Need-returns-4 Inv-loop μ-loop
-returns-4 c = quick-stop (rows-both (c .before .before .before .before .before .before .before .before .before .before .loop .inv) (c .before .before .before .before .before .before .before .short-rows .ensures .read _ (c .before .before .before .if1 .left))) (c .if2 .taken)
+returns-4 c =
+    let here = c .before .before .before in
+    let x = rows-both (here .before .before .before .before .before .before .before .loop .inv) (here .before .before .before .before .short-rows .ensures .read _ (here .if1 .left)) in
+    quick-stop x (c .if2 .taken)
 
 pub quick-rows-spec : {M : Type 1} → statement M
 quick-rows-spec =
