@@ -47,9 +47,9 @@ module _ {n : ℕ} {starts rows stack : List ℕ} {held : Held} (factor : Factor
   top-within h i e = omega (arith, rw i at e, total-top h)
 
   module _ {c : ℕ} (column : Column n c) {rs : List ℕ} (e : rs ≡ columnOf starts rows c) where
-    -- a front has at most all columns
-    pub front-fits : length rs + 1 ≤ maxColumns
-    front-fits = let few = factor .few in let low = column .0 in rw e (omega (arith, column-fits factor column))
+    -- the rows of a front are few enough for their entries
+    pub front-fits : length rs + 1 ≤ maxColumns + 1
+    front-fits = let few = factor .few in rw e (omega (arith, column-fits factor column))
 
     module _ {front : ℕ} (f : front ≡ t (length rs + 1)) where
       front-is : front ≡ t (suc (length (columnOf starts rows c)))

@@ -87,7 +87,7 @@ fn room_in_use(
     requires column { ⌜ Column n column ⌝ }
     ensures { λ r. ⌜ r ≡ roomAt pops (length (columnOf (now (starts .entry)) (now (rows .entry)) column)) (entries (factorOf n (now (starts .entry)) (now (rows .entry))) (heldIn (held .count) (now (stack .entry)))) ⌝ }
 {
-    let front = front::triangle(front::rows_of(n, starts, rows, column).len() as u64 + 1);
+    let front = triangle::entries(front::rows_of(n, starts, rows, column).len() as u64 + 1);
     if pops == 0 {
         return held.entries + front;
     }

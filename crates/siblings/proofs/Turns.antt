@@ -2,7 +2,7 @@
 -- Assumes nothing.
 -- the first i children are done
 use Prim.Native.Nat.{ℕ, suc, _+_, _*_, _<_, _≤_, max}
-use mathlib.Core.Path.{_≡_, refl}
+use mathlib.Core.Path.{_≡_, refl, ap}
 use mathlib.Core.List.{List, [], _∷_, _++_, map, map-append}
 use native.Mathlib.Omega.{arith}
 use native.Mathlib.Numerals.{add-one}
@@ -17,6 +17,7 @@ use Rattle.order_laws.proofs.Greatest.{sum-append}
 use Rattle.order_laws.proofs.Needs.{in-turn-next, but-last-next}
 use Rattle.tree.proofs.Sums.{sum-nil, sum-cons}
 use Rattle.room.specs.Rows.{rowsIn, Column, mostEntries}
+use Rattle.room.proofs.Entries.{entries-fit}
 use Rattle.siblings.specs.Arranged.{needAt, Kids}
 
 pub record Turned (factor rooms kids : List ℕ) (most before held i : ℕ) : Type 0 where
@@ -56,9 +57,9 @@ module _ (factor rooms kids : List ℕ) (j : ℕ) where
       pub turned-light : held + getD rooms (getD kids i 0) 0 ≤ 2 * (maxColumns * mostEntries)
       turned-light = omega (arith, inv .light, pre .few, pre .light (getD kids i 0) child)
 
-      pub turned-turn : {m v : ℕ} → m ≡ max most (held + getD rooms (getD kids i 0) 0) → (v ≡ t (rowsIn factor (getD kids i 0))) × (v ≤ mostEntries)
+      pub turned-turn : {m r v : ℕ} → m ≡ max most (held + getD rooms (getD kids i 0) 0) → (r ≡ rowsIn factor (getD kids i 0)) × (r ≤ maxColumns) → v ≡ t r
           → Turned factor rooms kids m held (held + v) (i + 1)
-      turned-turn {m} {v} em ev =
+      turned-turn {m} {r} {v} em er ev =
           let c = getD kids i 0 in
           let need : ℕ → ℕ = λ c. getD rooms c 0 in
           let entries : ℕ → ℕ = λ c. t (rowsIn factor c) in
@@ -70,8 +71,8 @@ module _ (factor rooms kids : List ℕ) (j : ℕ) where
           record {
             so-far = rw one (omega (arith, turn, em, inv .so-far, inv .updates));
             but-last = rw one (omega (arith, last, inv .updates));
-            updates = rw one (omega (arith, sums, ev .0, inv .updates));
-            light = omega (arith, inv .light, ev .1);
+            updates = rw one (omega (arith, sums, ev, ap t (er .0), inv .updates));
+            light = omega (arith, inv .light, ev, entries-fit r (omega (arith, er .1)));
             lighter = omega arith;
             seen = omega arith;
           }

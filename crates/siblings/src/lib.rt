@@ -12,7 +12,7 @@ fn sibling_key(mark: u64, above: u64, rows: u64, w: u64) -> u64
     requires { ⌜ rows ≤ maxColumns ⌝ }
     ensures { λ r. ⌜ r ≡ siblingKey mark above rows w ⌝ }
 {
-    let update = room::triangle(rows);
+    let update = triangle::entries(rows);
     if mark == 0 {
         return 0;
     }
@@ -60,12 +60,15 @@ fn room_alone(factor: &[u64], rooms: &[u64], kids: &[u32], j: usize) -> u64
     let mut i = 0;
     while i < kids.len() {
         let c = kids[i] as usize;
-        most = room::greater(most, held + rooms[c]);
+        most = basics::greater(most, held + rooms[c]);
         before = held;
-        held = held + room::triangle(room::rows_of(factor, c));
+        held = held + triangle::entries(room::rows_of(factor, c));
         i += 1;
     }
-    room::greater(most, before + room::triangle(room::rows_of(factor, j) + 1))
+    basics::greater(
+        most,
+        before + triangle::entries(room::rows_of(factor, j) + 1),
+    )
 }
 
 // Arranges the children of column j, in their place in the lists, and stores the W of j: the keys, the sort, and W from the sorted children.

@@ -9,17 +9,17 @@ use Rattle.run_step.proofs.room_in_use.Tie as tie
 rows-of-requires : tie.Need-rows-of-requires
 rows-of-requires c κs = search needs
 
-add-triangle : tie.Need-add-triangle
-add-triangle c = search needs
+add-entries : tie.Need-add-entries
+add-entries c = search needs
 
-triangle-requires : tie.Need-triangle-requires
-triangle-requires c κs = front-fits (c .before .before .before .before .pre .0) (c .before .before .before .before .pre .1 .0) (c .before .before .before .before .pre .1 .1 .1) (c .rows-of .ensures)
+entries-requires : tie.Need-entries-requires
+entries-requires c κs = front-fits (c .before .before .before .before .pre .0) (c .before .before .before .before .pre .1 .0) (c .before .before .before .before .pre .1 .1 .1) (c .rows-of .ensures)
 
 add-result : tie.Need-add-result
-add-result c = omega (arith, room-fits (c .before .before .before .before .before .before .before .pre .0) (c .before .before .before .before .before .before .before .pre .1 .0) (c .before .before .before .before .before .before .before .pre .1 .1 .1) (c .before .before .before .rows-of .ensures) (c .before .before .triangle .ensures))
+add-result c = omega (arith, room-fits (c .before .before .before .before .before .before .before .pre .0) (c .before .before .before .before .before .before .before .pre .1 .0) (c .before .before .before .before .before .before .before .pre .1 .1 .1) (c .before .before .before .rows-of .ensures) (c .before .before .entries .ensures))
 
 returns : tie.Need-returns
-returns c = room-above (c .before .before .before .before .before .before .before .pre .0) (c .before .before .before .before .before .before .before .pre .1 .0) (c .before .before .before .before .before .before .before .pre .1 .1 .1) (c .before .before .before .rows-of .ensures) (c .before .before .triangle .ensures) (c .before .if1 .taken)
+returns c = room-above (c .before .before .before .before .before .before .before .pre .0) (c .before .before .before .before .before .before .before .pre .1 .0) (c .before .before .before .before .before .before .before .pre .1 .1 .1) (c .before .before .before .rows-of .ensures) (c .before .before .entries .ensures) (c .before .if1 .taken)
 
 held-column-requires : tie.Need-held-column-requires
 held-column-requires c κs = search needs
@@ -31,18 +31,18 @@ sub-result : tie.Need-sub-result
 sub-result c = top-within (c .before .before .before .before .before .before .before .before .before .pre .0) (c .before .before .before .before .before .before .before .before .before .pre .1 .0) (omega arith) (c .before .before .held-column .ensures .0) (c .before .entries-of .ensures)
 
 add-result-2 : tie.Need-add-result-2
-add-result-2 c = omega (arith, room-fits (c .before .before .before .before .before .before .before .before .before .pre .0) (c .before .before .before .before .before .before .before .before .before .pre .1 .0) (c .before .before .before .before .before .before .before .before .before .pre .1 .1 .1) (c .before .before .before .before .before .rows-of .ensures) (c .before .before .before .before .triangle .ensures))
+add-result-2 c = omega (arith, room-fits (c .before .before .before .before .before .before .before .before .before .pre .0) (c .before .before .before .before .before .before .before .before .before .pre .1 .0) (c .before .before .before .before .before .before .before .before .before .pre .1 .1 .1) (c .before .before .before .before .before .rows-of .ensures) (c .before .before .before .before .entries .ensures))
 
 returns-2 : tie.Need-returns-2
-returns-2 c = room-on-top (c .before .before .before .before .before .before .before .before .before .pre .0) (c .before .before .before .before .before .before .before .before .before .pre .1 .0) (c .before .before .before .before .before .before .before .before .before .pre .1 .1 .1) (c .before .before .before .before .before .rows-of .ensures) (c .before .before .before .before .triangle .ensures) (omega arith) (c .before .before .before .before .before .before .before .before .before .pre .1 .1 .0) (c .before .before .held-column .ensures .0) (c .before .entries-of .ensures)
+returns-2 c = room-on-top (c .before .before .before .before .before .before .before .before .before .pre .0) (c .before .before .before .before .before .before .before .before .before .pre .1 .0) (c .before .before .before .before .before .before .before .before .before .pre .1 .1 .1) (c .before .before .before .before .before .rows-of .ensures) (c .before .before .before .before .entries .ensures) (omega arith) (c .before .before .before .before .before .before .before .before .before .pre .1 .1 .0) (c .before .before .held-column .ensures .0) (c .before .entries-of .ensures)
 
 pub room-in-use-spec : {M : Type 1} → statement M
 room-in-use-spec =
     tie.close
     (tie.spec
     rows-of-requires
-    add-triangle
-    triangle-requires
+    add-entries
+    entries-requires
     add-result
     returns
     held-column-requires

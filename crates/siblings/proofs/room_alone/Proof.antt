@@ -1,9 +1,10 @@
 -- The loop's invariant: the room, the updates and those but the last of the first i children. The measure is how many are left.
 -- Assumes nothing.
-use Prim.Native.Nat.{_-_}
+use Prim.Native.Nat.{_+_, _-_}
 use native.Mathlib.Omega.{arith}
 use lib.ListN.{length}
 use borrow.Author.Needs.{needs}
+use Rattle.room.proofs.Entries.{entries-fit}
 use Rattle.siblings.proofs.Turns.{Turned, turned-start, turned-stop, turned-column, turned-known, turned-light, turned-turn}
 use Rattle.siblings.proofs.room_alone.Statement.{statement}
 use Rattle.siblings.proofs.room_alone.Tie as tie
@@ -41,11 +42,11 @@ greater-requires c κs = search needs
 rows-of-requires : tie.Need-rows-of-requires Inv-loop μ-loop
 rows-of-requires c κs = turned-column _ _ _ (c .before .before .before .before .before .before .before .before .args .j) (c .before .before .before .before .loop .inv) (c .before .before .before .before .before .before .before .before .pre) (c .before .before .before .loop-test .taken)
 
-triangle-requires : tie.Need-triangle-requires Inv-loop μ-loop
-triangle-requires c κs = search needs
+entries-requires : tie.Need-entries-requires Inv-loop μ-loop
+entries-requires c κs = search needs
 
 add-held : tie.Need-add-held Inv-loop μ-loop
-add-held c = search needs
+add-held c = omega (arith, c .entries .ensures, entries-fit (c .before .rows-of .result) (omega (arith, c .before .rows-of .ensures .1)))
 
 add-i : tie.Need-add-i Inv-loop μ-loop
 add-i c = search needs
@@ -54,25 +55,25 @@ loop-less : tie.Need-loop-less Inv-loop μ-loop
 loop-less c = search needs
 
 loop-again : tie.Need-loop-again Inv-loop μ-loop
-loop-again c = turned-turn _ _ _ (c .before .before .before .before .before .before .before .before .before .before .args .j) (c .before .before .before .before .before .before .loop .inv) (c .before .before .before .before .before .before .before .before .before .before .pre) (c .before .before .before .before .before .loop-test .taken) (c .before .before .greater .ensures) (rw (← (c .before .rows-of .ensures .0)) (c .triangle .ensures))
+loop-again c = turned-turn _ _ _ (c .before .before .before .before .before .before .before .before .before .before .args .j) (c .before .before .before .before .before .before .loop .inv) (c .before .before .before .before .before .before .before .before .before .before .pre) (c .before .before .before .before .before .loop-test .taken) (c .before .before .greater .ensures) (c .before .rows-of .ensures) (c .entries .ensures)
 
 rows-of-requires-2 : tie.Need-rows-of-requires-2 Inv-loop μ-loop
 rows-of-requires-2 c κs = search needs
 
-add-triangle : tie.Need-add-triangle Inv-loop μ-loop
-add-triangle c = search needs
+add-entries : tie.Need-add-entries Inv-loop μ-loop
+add-entries c = search needs
 
-triangle-requires-2 : tie.Need-triangle-requires-2 Inv-loop μ-loop
-triangle-requires-2 c κs = search needs
+entries-requires-2 : tie.Need-entries-requires-2 Inv-loop μ-loop
+entries-requires-2 c κs = search needs
 
 add-greater-2 : tie.Need-add-greater-2 Inv-loop μ-loop
-add-greater-2 c = search needs
+add-greater-2 c = omega (arith, c .entries2 .ensures, entries-fit (c .before .rows-of2 .result + 1) (omega (arith, c .before .rows-of2 .ensures .1)))
 
 greater-requires-2 : tie.Need-greater-requires-2 Inv-loop μ-loop
 greater-requires-2 c κs = search needs
 
 returns : tie.Need-returns Inv-loop μ-loop
-returns c = turned-stop _ _ _ (c .before .before .before .before .before .before .before .before .args .j) (c .before .before .before .before .loop .inv) (c .before .before .before .loop-test .left) (rw (← (c .before .before .rows-of2 .ensures .0)) (c .before .triangle2 .ensures .0)) (c .greater2 .ensures)
+returns c = turned-stop _ _ _ (c .before .before .before .before .before .before .before .before .args .j) (c .before .before .before .before .loop .inv) (c .before .before .before .loop-test .left) (rw (← (c .before .before .rows-of2 .ensures .0)) (c .before .entries2 .ensures)) (c .greater2 .ensures)
 
 pub room-alone-spec : {M : Type 1} → statement M
 room-alone-spec =
@@ -89,14 +90,14 @@ room-alone-spec =
     add-greater
     greater-requires
     rows-of-requires
-    triangle-requires
+    entries-requires
     add-held
     add-i
     loop-less
     loop-again
     rows-of-requires-2
-    add-triangle
-    triangle-requires-2
+    add-entries
+    entries-requires-2
     add-greater-2
     greater-requires-2
     returns)
