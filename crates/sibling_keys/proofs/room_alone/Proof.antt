@@ -5,9 +5,9 @@ use native.Mathlib.Omega.{arith}
 use lib.ListN.{length}
 use borrow.Author.Needs.{needs}
 use Rattle.room.proofs.Entries.{entries-fit}
-use Rattle.siblings.proofs.Turns.{Turned, turned-start, turned-stop, turned-column, turned-known, turned-light, turned-turn}
-use Rattle.siblings.proofs.room_alone.Statement.{statement}
-use Rattle.siblings.proofs.room_alone.Tie as tie
+use Rattle.sibling_keys.proofs.Turns.{Turned, turned-start, turned-stop, turned-column, turned-known, turned-light, turned-turn}
+use Rattle.sibling_keys.proofs.room_alone.Statement.{statement}
+use Rattle.sibling_keys.proofs.room_alone.Tie as tie
 
 abbrev Inv-loop : tie.InvT-loop
 Inv-loop factor rooms kids j most₀ before₀ held₀ i₀ most before held i = Turned factor rooms kids most before held i

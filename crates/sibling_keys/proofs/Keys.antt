@@ -15,7 +15,7 @@ use Rattle.papers.specs.Order.{siblingKey}
 use Rattle.list_laws.proofs.Members.{at-place}
 use Rattle.tree.proofs.Children.{equal-or}
 use Rattle.tree.specs.Laid.{part}
-use Rattle.siblings.specs.Arranged.{Kids, Keyed}
+use Rattle.sibling_keys.specs.Kids.{Kids, Keyed}
 
 pub key-none : (mark above rows w : ℕ) → mark ≡ 0 → siblingKey mark above rows w ≡ 0
 unfolding siblingKey

@@ -18,7 +18,7 @@ use Rattle.order_laws.proofs.Needs.{in-turn-next, but-last-next}
 use Rattle.tree.proofs.Sums.{sum-nil, sum-cons}
 use Rattle.room.specs.Rows.{rowsIn, Column, mostEntries}
 use Rattle.room.proofs.Entries.{entries-fit}
-use Rattle.siblings.specs.Arranged.{needAt, Kids}
+use Rattle.sibling_keys.specs.Kids.{needAt, Kids}
 
 pub record Turned (factor rooms kids : List ℕ) (most before held i : ℕ) : Type 0 where
   pub so-far : most ≡ inTurn (rowsIn factor) (λ c. getD rooms c 0) 0 (take i kids)

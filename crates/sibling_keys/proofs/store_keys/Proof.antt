@@ -5,11 +5,11 @@ use Prim.Native.Nat.{_-_}
 use native.Mathlib.Omega.{arith}
 use lib.ListN.{length}
 use borrow.Author.Needs.{needs}
-use Rattle.siblings.proofs.Keys.{same-key, keying-places, Keying, keying-start, keying-stop, keying-reads, keying-turn}
+use Rattle.sibling_keys.proofs.Keys.{same-key, keying-places, Keying, keying-start, keying-stop, keying-reads, keying-turn}
 use Rattle.tree.specs.Laid.{part}
-use Rattle.siblings.specs.Arranged.{keyAt}
-use Rattle.siblings.proofs.store_keys.Statement.{statement}
-use Rattle.siblings.proofs.store_keys.Tie as tie
+use Rattle.sibling_keys.specs.Kids.{keyAt}
+use Rattle.sibling_keys.proofs.store_keys.Statement.{statement}
+use Rattle.sibling_keys.proofs.store_keys.Tie as tie
 use Rattle.list_laws.proofs.Members.{at-place}
 
 abbrev Inv-loop : tie.InvT-loop

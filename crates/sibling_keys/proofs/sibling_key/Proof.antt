@@ -3,9 +3,9 @@
 use mathlib.Core.Path.{sym, _∙_}
 use native.Mathlib.Omega.{arith}
 use borrow.Author.Needs.{needs}
-use Rattle.siblings.proofs.Keys.{key-none, key-one, key-two}
-use Rattle.siblings.proofs.sibling_key.Statement.{statement}
-use Rattle.siblings.proofs.sibling_key.Tie as tie
+use Rattle.sibling_keys.proofs.Keys.{key-none, key-one, key-two}
+use Rattle.sibling_keys.proofs.sibling_key.Statement.{statement}
+use Rattle.sibling_keys.proofs.sibling_key.Tie as tie
 
 entries-requires : tie.Need-entries-requires
 entries-requires c κs = search needs
