@@ -1,6 +1,2 @@
-pub mod Stack
-pub mod Entries
-pub mod Popped
-pub mod Uses
 pub mod Faults
 pub mod Taken

@@ -17,9 +17,10 @@ use Rattle.order_laws.proofs.Steps.{column-at}
 use Rattle.held.specs.declared.Held.{Held}
 use Rattle.held.specs.Record.{steppedOf, Takes}
 use Rattle.front.specs.Factor.{Column}
-use Rattle.run_step.specs.Kept.{heldIn, callOf, stateOf, Kept, Ready}
-use Rattle.run_step.proofs.Stack.{held-drop, held-push}
-use Rattle.run_step.proofs.Entries.{total, total-cons, total-parts, total-small, update-small}
+use Rattle.held_updates.specs.Kept.{heldIn, callOf, Kept}
+use Rattle.held_updates.proofs.Stack.{held-drop, held-push}
+use Rattle.held_updates.proofs.Entries.{total, total-cons, total-parts, total-small, update-small}
+use Rattle.run_step.specs.Ready.{stateOf, Ready}
 use Rattle.run_step.proofs.Faults.{pops-at, used, used-is}
 
 module _ (call : RunCall) (c : ℕ) (held : List ℕ) where

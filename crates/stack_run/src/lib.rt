@@ -10,7 +10,7 @@ ghost use lib.ListN.{length};
 ghost use Rattle.papers.specs.Refusals.{Outcome};
 ghost use Rattle.papers.specs.Run.{ran};
 ghost use Rattle.front.specs.Factor.{Factor};
-ghost use Rattle.run_step.specs.Kept.{callOf};
+ghost use Rattle.held_updates.specs.Kept.{callOf};
 ghost use Rattle.stack_run.specs.Steps.{stepsAnswer};
 
 // 7: whether columns, pops or stack list are shorter than n.

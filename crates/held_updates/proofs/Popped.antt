@@ -12,9 +12,9 @@ use Rattle.papers.specs.Job.{columnOf}
 use Rattle.papers.specs.Tree.{t}
 use Rattle.papers.specs.Run.{fits, rowsIn}
 use Rattle.front.proofs.Every.{every-none, every-yes, every-no}
-use Rattle.run_step.specs.Kept.{heldIn, factorOf}
-use Rattle.run_step.proofs.Stack.{popped-next, popped-none}
-use Rattle.run_step.proofs.Entries.{total, total-none, total-cons}
+use Rattle.held_updates.specs.Kept.{heldIn, factorOf}
+use Rattle.held_updates.proofs.Stack.{popped-next, popped-none}
+use Rattle.held_updates.proofs.Entries.{total, total-none, total-cons}
 
 module _ (n : ℕ) (starts rows stack : List ℕ) where
   -- the popped columns that are left

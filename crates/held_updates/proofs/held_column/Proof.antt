@@ -4,8 +4,8 @@ use Prim.Native.Nat.{_-_}
 use mathlib.Core.Path.{refl}
 use native.Mathlib.Omega.{arith}
 use borrow.Author.Needs.{needs}
-use Rattle.run_step.proofs.held_column.Statement.{statement}
-use Rattle.run_step.proofs.held_column.Tie as tie
+use Rattle.held_updates.proofs.held_column.Statement.{statement}
+use Rattle.held_updates.proofs.held_column.Tie as tie
 
 sub-result : tie.Need-sub-result
 sub-result c = search needs

@@ -15,9 +15,9 @@ use Rattle.order_laws.proofs.Rooms.{room-none, room-over}
 use Rattle.held.specs.declared.Held.{Held}
 use Rattle.front.specs.Factor.{Factor, Column}
 use Rattle.front.proofs.Columns.{column-fits}
-use Rattle.run_step.specs.Kept.{heldIn, factorOf, Kept}
-use Rattle.run_step.proofs.Stack.{held-top}
-use Rattle.run_step.proofs.Entries.{total, total-cons, total-small, front-small}
+use Rattle.held_updates.specs.Kept.{heldIn, factorOf, Kept}
+use Rattle.held_updates.proofs.Stack.{held-top}
+use Rattle.held_updates.proofs.Entries.{total, total-cons, total-small, front-small}
 
 entries-cons : (n : ℕ) (starts rows : List ℕ) (c : ℕ) (cs : List ℕ)
     → entries (factorOf n starts rows) (c ∷ cs) ≡ t (length (columnOf starts rows c)) ∷ entries (factorOf n starts rows) cs

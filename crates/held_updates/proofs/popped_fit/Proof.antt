@@ -5,10 +5,10 @@ use native.Mathlib.Omega.{arith}
 use lib.ListN.{take}
 use borrow.Author.Needs.{needs}
 use Rattle.front.proofs.Columns.{column-ascends}
-use Rattle.run_step.specs.Kept.{heldIn}
-use Rattle.run_step.proofs.Popped.{Looked, looked-start, looked-end, looked-next, looked-outside}
-use Rattle.run_step.proofs.popped_fit.Statement.{statement}
-use Rattle.run_step.proofs.popped_fit.Tie as tie
+use Rattle.held_updates.specs.Kept.{heldIn}
+use Rattle.held_updates.proofs.Popped.{Looked, looked-start, looked-end, looked-next, looked-outside}
+use Rattle.held_updates.proofs.popped_fit.Statement.{statement}
+use Rattle.held_updates.proofs.popped_fit.Tie as tie
 
 abbrev Inv-loop : tie.InvT-loop
 Inv-loop n starts rows stack pops column front count end top₀ top = Looked n starts rows stack column (take pops (heldIn count stack)) end count top

@@ -2,9 +2,9 @@
 -- Assumes nothing.
 use native.Mathlib.Omega.{arith}
 use borrow.Author.Needs.{needs}
-use Rattle.run_step.proofs.Uses.{top-within, front-fits, room-fits, room-above, room-on-top}
-use Rattle.run_step.proofs.room_in_use.Statement.{statement}
-use Rattle.run_step.proofs.room_in_use.Tie as tie
+use Rattle.held_updates.proofs.Uses.{top-within, front-fits, room-fits, room-above, room-on-top}
+use Rattle.held_updates.proofs.room_in_use.Statement.{statement}
+use Rattle.held_updates.proofs.room_in_use.Tie as tie
 
 rows-of-requires : tie.Need-rows-of-requires
 rows-of-requires c κs = search needs

@@ -9,7 +9,7 @@ use native.Mathlib.Numerals.{add-one}
 use lib.ListN.{length, getD, set, take, drop}
 use lib.Seq.{getD-set-same, getD-set-other}
 use Rattle.papers.specs.Lists.{_∈_}
-use Rattle.run_step.specs.Kept.{heldIn}
+use Rattle.held_updates.specs.Kept.{heldIn}
 
 module _ (stack : List ℕ) where
   pub held-none : heldIn 0 stack ≡ []

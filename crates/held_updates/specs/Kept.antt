@@ -1,13 +1,13 @@
--- How the lent stack list and the record hold the state of a run.
+-- How the lent stack list and the record hold the updates of a run.
 -- Assumes nothing.
 use Prim.Native.Nat.{ℕ, zero, suc, _<_, _≤_}
 use mathlib.Core.Path.{_≡_}
 use mathlib.Core.List.{List, [], _∷_}
 use lib.ListN.{length, getD}
 use Rattle.papers.specs.Lists.{sum}
-use Rattle.papers.specs.Run.{RunCall, State, entries}
+use Rattle.papers.specs.Run.{RunCall, entries}
 use Rattle.held.specs.declared.Held.{Held}
-use Rattle.front.specs.Factor.{Factor, Column}
+use Rattle.front.specs.Factor.{Column}
 
 -- the columns held, the top one first: the stack list has them bottom first
 unfoldable pub heldIn : ℕ → List ℕ → List ℕ
@@ -23,10 +23,6 @@ callOf n starts rows columns pops room stack =
 abbrev pub factorOf : ℕ → List ℕ → List ℕ → RunCall
 factorOf n starts rows = callOf n starts rows [] [] 0 []
 
--- the state that the record and the stack list hold
-abbrev pub stateOf : Held → List ℕ → State
-stateOf held stack = record { held = heldIn (held .count) stack; greatest = held .greatest }
-
 -- the first k of the stack list are columns of 1 to n
 abbrev pub Columns : ℕ → ℕ → List ℕ → Type 0
 Columns n k stack = (i : ℕ) → i < k → Column n (getD stack i 0)
@@ -37,12 +33,3 @@ pub record Kept (n : ℕ) (starts rows stack : List ℕ) (held : Held) : Type 0 
   pub listed : n ≤ length stack
   pub columns : Columns n (held .count) stack
   pub entries-are : held .entries ≡ sum (entries (factorOf n starts rows) (heldIn (held .count) stack))
-
--- the step behind `done` steps can be taken: it is listed, its column is one, it pops no more than is held, and there is a place for its update
-pub record Ready (n : ℕ) (starts rows columns pops stack : List ℕ) (held : Held) (done : ℕ) : Type 0 where
-  pub factor : Factor n starts rows
-  pub kept : Kept n starts rows stack held
-  pub listed : (done < length columns) × (done < length pops)
-  pub column : Column n (getD columns done 0)
-  pub enough : getD pops done 0 ≤ held .count
-  pub free : held .count < n

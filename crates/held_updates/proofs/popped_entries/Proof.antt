@@ -4,11 +4,11 @@ use Prim.Native.Nat.{_-_}
 use native.Mathlib.Omega.{arith}
 use lib.ListN.{take}
 use borrow.Author.Needs.{needs}
-use Rattle.run_step.specs.Kept.{heldIn}
-use Rattle.run_step.proofs.Entries.{popped-small}
-use Rattle.run_step.proofs.Popped.{Added, added-start, added-end, added-next, added-within}
-use Rattle.run_step.proofs.popped_entries.Statement.{statement}
-use Rattle.run_step.proofs.popped_entries.Tie as tie
+use Rattle.held_updates.specs.Kept.{heldIn}
+use Rattle.held_updates.proofs.Entries.{popped-small}
+use Rattle.held_updates.proofs.Popped.{Added, added-start, added-end, added-next, added-within}
+use Rattle.held_updates.proofs.popped_entries.Statement.{statement}
+use Rattle.held_updates.proofs.popped_entries.Tie as tie
 
 abbrev Inv-loop : tie.InvT-loop
 Inv-loop n starts rows stack pops count end top₀ total₀ top total = Added n starts rows stack (take pops (heldIn count stack)) end count top total

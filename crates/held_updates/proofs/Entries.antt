@@ -15,8 +15,8 @@ use Rattle.order_laws.proofs.Triangles.{t-grows}
 use Rattle.held.specs.declared.Held.{Held}
 use Rattle.front.specs.Factor.{Factor, Column}
 use Rattle.front.proofs.Columns.{column-fits}
-use Rattle.run_step.specs.Kept.{heldIn, factorOf, Kept}
-use Rattle.run_step.proofs.Stack.{held-length, held-each}
+use Rattle.held_updates.specs.Kept.{heldIn, factorOf, Kept}
+use Rattle.held_updates.proofs.Stack.{held-length, held-each}
 
 module _ (n : ℕ) (starts rows : List ℕ) where
   -- the sum of the entries of a list of columns
