@@ -1,6 +1,5 @@
 -- The sibling keys of the three marks, and the pass that stores those of a column's children.
 -- Assumes nothing.
--- ---- the marks
 use Prim.Native.Nat.{ℕ, zero, suc, _+_, _-_, _<_, _≤_}
 use mathlib.Core.Path.{_≡_, refl, sym, ap, _∙_}
 use mathlib.Core.Logic.{_⊎_, inl, inr, _≢_}
@@ -16,6 +15,8 @@ use Rattle.list_laws.proofs.Members.{at-place}
 use Rattle.tree.proofs.Children.{equal-or}
 use Rattle.tree.specs.Laid.{part}
 use Rattle.sibling_keys.specs.Kids.{Kids, Keyed}
+
+-- ---- the marks
 
 pub key-none : (mark above rows w : ℕ) → mark ≡ 0 → siblingKey mark above rows w ≡ 0
 unfolding siblingKey

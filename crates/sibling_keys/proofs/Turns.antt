@@ -1,6 +1,5 @@
 -- The W of a column from those of its children: the pass goes on from the first i children to one more.
 -- Assumes nothing.
--- the first i children are done
 use Prim.Native.Nat.{ℕ, suc, _+_, _*_, _<_, _≤_, max}
 use mathlib.Core.Path.{_≡_, refl, ap}
 use mathlib.Core.List.{List, [], _∷_, _++_, map, map-append}
@@ -20,6 +19,7 @@ use Rattle.room.specs.Rows.{rowsIn, Column, mostEntries}
 use Rattle.room.proofs.Entries.{entries-fit}
 use Rattle.sibling_keys.specs.Kids.{needAt, Kids}
 
+-- the first i children are done
 pub record Turned (factor rooms kids : List ℕ) (most before held i : ℕ) : Type 0 where
   pub so-far : most ≡ inTurn (rowsIn factor) (λ c. getD rooms c 0) 0 (take i kids)
   pub but-last : before ≡ butLast (rowsIn factor) (take i kids)

@@ -1,3 +1,4 @@
 pub mod Placing
 pub mod Works
 pub mod Arranging
+pub mod OneArranged

@@ -1,6 +1,5 @@
 -- One column: the keys are stored behind the W, the children are sorted by them in their place, and the W of the column goes to its own.
 -- Assumes nothing.
--- children in another order are the same children
 use Prim.Native.Nat.{ℕ, _+_, _-_}
 use mathlib.Core.Path.{_≡_, sym, ap, _∙_}
 use mathlib.Core.List.{List, _++_}
@@ -15,6 +14,7 @@ use Rattle.sibling_keys.specs.Kids.{keyAt, needAt, Kids, Keyed}
 use Rattle.siblings.specs.Arranged.{Sortable, sortedBy, Sorted, siblingsAt, Placed, Arranged}
 use Rattle.tree.proofs.Parts.{part-length, part-at, part-same, part-set, back-sets}
 
+-- children in another order are the same children
 kids-sorted : (key : ℕ → ℕ) {factor rooms kids : List ℕ} {j : ℕ} → Kids factor rooms kids j → Kids factor rooms (sort key kids) j
 kids-sorted key {factor} {rooms} {kids} pre = record {
   top = pre .top;

@@ -29,7 +29,9 @@ entries-of-requires : tie.Need-entries-of-requires Inv-loop μ-loop
 entries-of-requires c κs = (c .before .before .before .before .before .before .pre .0, c .held-column .ensures .1)
 
 add-total : tie.Need-add-total Inv-loop μ-loop
-add-total c = omega (arith, added-within _ _ _ _ (c .before .before .before .loop .inv) (c .before .before .loop-test .taken) (c .before .held-column .ensures .0) (c .entries-of .ensures), popped-small _ _ _ (c .before .before .before .before .before .before .before .pre .0) (c .before .before .before .before .before .before .before .pre .1 .0) (c .before .before .before .before .before .before .before .args .pops))
+add-total c =
+    let pre = c .before .before .before .before .before .before .before .pre in
+    omega (arith, added-within _ _ _ _ (c .before .before .before .loop .inv) (c .before .before .loop-test .taken) (c .before .held-column .ensures .0) (c .entries-of .ensures), popped-small _ _ _ (pre .0) (pre .1 .0) (c .before .before .before .before .before .before .before .args .pops))
 
 sub-top : tie.Need-sub-top Inv-loop μ-loop
 sub-top c = search needs

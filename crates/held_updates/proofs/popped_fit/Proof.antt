@@ -32,7 +32,9 @@ rows-of-requires-2 : tie.Need-rows-of-requires-2 Inv-loop μ-loop
 rows-of-requires-2 c κs = (c .before .before .before .before .before .before .before .pre .0, c .held-column .ensures .1)
 
 stands-in-requires : tie.Need-stands-in-requires Inv-loop μ-loop
-stands-in-requires c κs = (rw (c .before .before .before .before .rows-of .ensures) (column-ascends (c .before .before .before .before .before .before .before .before .pre .0) (c .before .before .before .before .before .before .before .before .pre .1 .1 .1)), rw (c .rows-of2 .ensures) (column-ascends (c .before .before .before .before .before .before .before .before .pre .0) (c .before .held-column .ensures .1)))
+stands-in-requires c κs =
+    let pre = c .before .before .before .before .before .before .before .before .pre in
+    (rw (c .before .before .before .before .rows-of .ensures) (column-ascends (pre .0) (pre .1 .1 .1)), rw (c .rows-of2 .ensures) (column-ascends (pre .0) (c .before .held-column .ensures .1)))
 
 sub-top : tie.Need-sub-top Inv-loop μ-loop
 sub-top c = search needs

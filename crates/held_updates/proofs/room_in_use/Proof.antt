@@ -16,10 +16,14 @@ entries-requires : tie.Need-entries-requires
 entries-requires c κs = front-fits (c .before .before .before .before .pre .0) (c .before .before .before .before .pre .1 .0) (c .before .before .before .before .pre .1 .1 .1) (c .rows-of .ensures)
 
 add-result : tie.Need-add-result
-add-result c = omega (arith, room-fits (c .before .before .before .before .before .before .before .pre .0) (c .before .before .before .before .before .before .before .pre .1 .0) (c .before .before .before .before .before .before .before .pre .1 .1 .1) (c .before .before .before .rows-of .ensures) (c .before .before .entries .ensures))
+add-result c =
+    let pre = c .before .before .before .before .before .before .before .pre in
+    omega (arith, room-fits (pre .0) (pre .1 .0) (pre .1 .1 .1) (c .before .before .before .rows-of .ensures) (c .before .before .entries .ensures))
 
 returns : tie.Need-returns
-returns c = room-above (c .before .before .before .before .before .before .before .pre .0) (c .before .before .before .before .before .before .before .pre .1 .0) (c .before .before .before .before .before .before .before .pre .1 .1 .1) (c .before .before .before .rows-of .ensures) (c .before .before .entries .ensures) (c .before .if1 .taken)
+returns c =
+    let pre = c .before .before .before .before .before .before .before .pre in
+    room-above (pre .0) (pre .1 .0) (pre .1 .1 .1) (c .before .before .before .rows-of .ensures) (c .before .before .entries .ensures) (c .before .if1 .taken)
 
 held-column-requires : tie.Need-held-column-requires
 held-column-requires c κs = search needs
@@ -31,10 +35,14 @@ sub-result : tie.Need-sub-result
 sub-result c = top-within (c .before .before .before .before .before .before .before .before .before .pre .0) (c .before .before .before .before .before .before .before .before .before .pre .1 .0) (omega arith) (c .before .before .held-column .ensures .0) (c .before .entries-of .ensures)
 
 add-result-2 : tie.Need-add-result-2
-add-result-2 c = omega (arith, room-fits (c .before .before .before .before .before .before .before .before .before .pre .0) (c .before .before .before .before .before .before .before .before .before .pre .1 .0) (c .before .before .before .before .before .before .before .before .before .pre .1 .1 .1) (c .before .before .before .before .before .rows-of .ensures) (c .before .before .before .before .entries .ensures))
+add-result-2 c =
+    let pre = c .before .before .before .before .before .before .before .before .before .pre in
+    omega (arith, room-fits (pre .0) (pre .1 .0) (pre .1 .1 .1) (c .before .before .before .before .before .rows-of .ensures) (c .before .before .before .before .entries .ensures))
 
 returns-2 : tie.Need-returns-2
-returns-2 c = room-on-top (c .before .before .before .before .before .before .before .before .before .pre .0) (c .before .before .before .before .before .before .before .before .before .pre .1 .0) (c .before .before .before .before .before .before .before .before .before .pre .1 .1 .1) (c .before .before .before .before .before .rows-of .ensures) (c .before .before .before .before .entries .ensures) (omega arith) (c .before .before .before .before .before .before .before .before .before .pre .1 .1 .0) (c .before .before .held-column .ensures .0) (c .before .entries-of .ensures)
+returns-2 c =
+    let pre = c .before .before .before .before .before .before .before .before .before .pre in
+    room-on-top (pre .0) (pre .1 .0) (pre .1 .1 .1) (c .before .before .before .before .before .rows-of .ensures) (c .before .before .before .before .entries .ensures) (omega arith) (pre .1 .1 .0) (c .before .before .held-column .ensures .0) (c .before .entries-of .ensures)
 
 pub room-in-use-spec : {M : Type 1} → statement M
 room-in-use-spec =

@@ -4,7 +4,8 @@ use mathlib.Core.Path.{sym, _∙_}
 use native.Mathlib.Omega.{arith}
 use lib.Seq.{length-take-le}
 use borrow.Author.Needs.{needs}
-use Rattle.order.proofs.Walked.{walk-asked, walk-wrote, arrange-asked, lists-lie, starts-lie}
+use Rattle.order.proofs.Walked.{walk-asked, walk-wrote}
+use Rattle.order.proofs.Lying.{arrange-asked, lists-lie, starts-lie}
 use Rattle.order.proofs.write_steps.Statement.{statement}
 use Rattle.order.proofs.write_steps.Tie as tie
 
@@ -27,10 +28,14 @@ lay-out-requires : tie.Need-lay-out-requires
 lay-out-requires c κs = search needs
 
 arrange-requires : tie.Need-arrange-requires
-arrange-requires c κs = arrange-asked (c .before .before .before .before .before .before .before .before .before .before .before .before .before .before .before .pre) (c .before .before .before .before .before .before .before .lay-out .ensures) (c .before .before .before .before .before .before .before .lay-out .kept .1 .0) (c .before .before .before .before .before .before .before .lay-out .kept .1 .1 .0)
+arrange-requires c κs =
+    let lay-out = c .before .before .before .before .before .before .before .lay-out in
+    arrange-asked (c .before .before .before .before .before .before .before .before .before .before .before .before .before .before .before .pre) (lay-out .ensures) (lay-out .kept .1 .0) (lay-out .kept .1 .1 .0)
 
 slice-aggregate-steps : tie.Need-slice-aggregate-steps
-slice-aggregate-steps c = sym (length-take-le _ (c .before .before .before .before .before .before .before .before .arrange .last .1 .1 .1 .1 .0) (omega (arith, c .before .before .before .before .before .before .before .before .arrange .kept .1 .1 .1 .1 .0, c .before .before .before .before .before .before .before .before .before .before .before .before .before .before .before .before .lay-out .kept .1 .1 .0, c .before .before .before .before .before .before .before .before .before .before .before .before .before .before .before .before .before .before .before .before .before .before .before .before .pre .work-length)))
+slice-aggregate-steps c =
+    let arrange = c .before .before .before .before .before .before .before .before .arrange in
+    sym (length-take-le _ (arrange .last .1 .1 .1 .1 .0) (omega (arith, arrange .kept .1 .1 .1 .1 .0, c .before .before .before .before .before .before .before .before .before .before .before .before .before .before .before .before .lay-out .kept .1 .1 .0, c .before .before .before .before .before .before .before .before .before .before .before .before .before .before .before .before .before .before .before .before .before .before .before .before .pre .work-length)))
 
 mul-steps : tie.Need-mul-steps
 mul-steps c = search needs
@@ -45,7 +50,11 @@ part-steps-end : tie.Need-part-steps-end
 part-steps-end c = search needs
 
 steps-requires : tie.Need-steps-requires
-steps-requires c κs = walk-asked (lists-lie (c .before .before .before .before .before .before .before .before .before .before .before .before .before .before .before .before .before .before .before .before .before .before .before .before .before .before .before .pre) (c .before .before .before .before .before .before .before .before .before .before .before .before .before .before .before .before .before .before .before .lay-out .ensures) (c .before .before .before .before .before .before .before .before .before .before .before .before .before .before .before .before .before .before .before .lay-out .kept .1 .0) (c .before .before .before .before .before .before .before .before .before .before .before .before .before .before .before .before .before .before .before .lay-out .kept .1 .1 .0) (c .before .before .before .before .before .before .before .before .before .before .before .arrange .ensures) (c .before .before .before .before .before .before .before .before .before .before .before .arrange .kept .1 .1 .0)) _ (c .before .before .before .before .before .before .before .before .before .before .before .arrange .kept .1 .1 .1 .0 ∙ c .before .before .before .before .before .before .before .before .before .before .before .before .before .before .before .before .before .before .before .before .before .before .before .before .before .before .before .pre .order-length)
+steps-requires c κs =
+    let pre = c .before .before .before .before .before .before .before .before .before .before .before .before .before .before .before .before .before .before .before .before .before .before .before .before .before .before .before .pre in
+    let lay-out = c .before .before .before .before .before .before .before .before .before .before .before .before .before .before .before .before .before .before .before .lay-out in
+    let arrange = c .before .before .before .before .before .before .before .before .before .before .before .arrange in
+    walk-asked (lists-lie pre (lay-out .ensures) (lay-out .kept .1 .0) (lay-out .kept .1 .1 .0) (arrange .ensures) (arrange .kept .1 .1 .0)) _ (arrange .kept .1 .1 .1 .0 ∙ pre .order-length)
 
 same-length : tie.Need-same-length
 same-length c = search needs
@@ -57,7 +66,11 @@ same-length-3 : tie.Need-same-length-3
 same-length-3 c = search needs
 
 returns : tie.Need-returns
-returns c = (walk-wrote (lists-lie (c .before .before .before .before .before .before .before .before .before .before .before .before .before .before .before .before .before .before .before .before .before .before .before .before .before .before .before .before .before .before .pre) (c .before .before .before .before .before .before .before .before .before .before .before .before .before .before .before .before .before .before .before .before .before .before .lay-out .ensures) (c .before .before .before .before .before .before .before .before .before .before .before .before .before .before .before .before .before .before .before .before .before .before .lay-out .kept .1 .0) (c .before .before .before .before .before .before .before .before .before .before .before .before .before .before .before .before .before .before .before .before .before .before .lay-out .kept .1 .1 .0) (c .before .before .before .before .before .before .before .before .before .before .before .before .before .before .arrange .ensures) (c .before .before .before .before .before .before .before .before .before .before .before .before .before .before .arrange .kept .1 .1 .0)) (c .before .before .before .before .before .before .before .before .before .before .before .before .before .before .arrange .last .1 .1 .1 .0) (c .before .before .before .before .before .before .before .before .before .before .before .before .before .before .arrange .kept .1 .1 .1 .0 ∙ c .before .before .before .before .before .before .before .before .before .before .before .before .before .before .before .before .before .before .before .before .before .before .before .before .before .before .before .before .before .before .pre .order-length) (c .before .before .steps .ensures), starts-lie (c .before .before .before .before .before .before .before .before .before .before .before .before .before .before .before .before .before .before .before .before .before .before .before .before .before .before .before .before .before .before .pre) (c .before .before .before .before .before .before .before .before .before .before .before .before .before .before .before .before .before .before .before .before .before .before .lay-out .ensures) (c .before .before .before .before .before .before .before .before .before .before .before .before .before .before .before .before .before .before .before .before .before .before .lay-out .kept .1 .0) (c .before .before .before .before .before .before .before .before .before .before .before .before .before .before .before .before .before .before .before .before .before .before .lay-out .kept .1 .1 .0) (c .before .before .before .before .before .before .before .before .before .before .before .before .before .before .arrange .ensures) (c .before .before .before .before .before .before .before .before .before .before .before .before .before .before .arrange .kept .1 .1 .0))
+returns c =
+    let pre = c .before .before .before .before .before .before .before .before .before .before .before .before .before .before .before .before .before .before .before .before .before .before .before .before .before .before .before .before .before .before .pre in
+    let lay-out = c .before .before .before .before .before .before .before .before .before .before .before .before .before .before .before .before .before .before .before .before .before .before .lay-out in
+    let arrange = c .before .before .before .before .before .before .before .before .before .before .before .before .before .before .arrange in
+    (walk-wrote (lists-lie pre (lay-out .ensures) (lay-out .kept .1 .0) (lay-out .kept .1 .1 .0) (arrange .ensures) (arrange .kept .1 .1 .0)) (arrange .last .1 .1 .1 .0) (arrange .kept .1 .1 .1 .0 ∙ pre .order-length) (c .before .before .steps .ensures), starts-lie pre (lay-out .ensures) (lay-out .kept .1 .0) (lay-out .kept .1 .1 .0) (arrange .ensures) (arrange .kept .1 .1 .0))
 
 pub write-steps-spec : {M : Type 1} → statement M
 write-steps-spec =

@@ -37,25 +37,37 @@ rows-of-requires-2 : tie.Need-rows-of-requires-2 Inv-loop μ-loop
 rows-of-requires-2 c κs = c .before .before .before .before .before .before .before .pre .0 .column _ (at-place _ _ (c .before .loop-test .taken))
 
 add-sibling-key : tie.Need-add-sibling-key Inv-loop μ-loop
-add-sibling-key c = let p = keying-places (c .before .before .before .loop .inv) (c .before .before .before .before .before .before .before .before .pre .0) (c .before .before .before .before .before .before .before .before .pre .1 .0) (c .before .before .before .before .before .before .before .before .pre .1 .1) (c .before .before .loop-test .taken) in search needs
+add-sibling-key c =
+    let pre = c .before .before .before .before .before .before .before .before .pre in
+    let p = keying-places (c .before .before .before .loop .inv) (pre .0) (pre .1 .0) (pre .1 .1) (c .before .before .loop-test .taken) in search needs
 
 mul-sibling-key : tie.Need-mul-sibling-key Inv-loop μ-loop
-mul-sibling-key c = let p = keying-places (c .before .before .before .loop .inv) (c .before .before .before .before .before .before .before .before .pre .0) (c .before .before .before .before .before .before .before .before .pre .1 .0) (c .before .before .before .before .before .before .before .before .pre .1 .1) (c .before .before .loop-test .taken) in search needs
+mul-sibling-key c =
+    let pre = c .before .before .before .before .before .before .before .before .pre in
+    let p = keying-places (c .before .before .before .loop .inv) (pre .0) (pre .1 .0) (pre .1 .1) (c .before .before .loop-test .taken) in search needs
 
 slice-read-sibling-key : tie.Need-slice-read-sibling-key Inv-loop μ-loop
-slice-read-sibling-key c = let p = keying-places (c .before .before .before .before .loop .inv) (c .before .before .before .before .before .before .before .before .before .pre .0) (c .before .before .before .before .before .before .before .before .before .pre .1 .0) (c .before .before .before .before .before .before .before .before .before .pre .1 .1) (c .before .before .before .loop-test .taken) in search needs
+slice-read-sibling-key c =
+    let pre = c .before .before .before .before .before .before .before .before .before .pre in
+    let p = keying-places (c .before .before .before .before .loop .inv) (pre .0) (pre .1 .0) (pre .1 .1) (c .before .before .before .loop-test .taken) in search needs
 
 sibling-key-requires : tie.Need-sibling-key-requires Inv-loop μ-loop
 sibling-key-requires c κs = search needs
 
 add-work : tie.Need-add-work Inv-loop μ-loop
-add-work c = let p = keying-places (c .before .before .before .before .before .loop .inv) (c .before .before .before .before .before .before .before .before .before .before .pre .0) (c .before .before .before .before .before .before .before .before .before .before .pre .1 .0) (c .before .before .before .before .before .before .before .before .before .before .pre .1 .1) (c .before .before .before .before .loop-test .taken) in search needs
+add-work c =
+    let pre = c .before .before .before .before .before .before .before .before .before .before .pre in
+    let p = keying-places (c .before .before .before .before .before .loop .inv) (pre .0) (pre .1 .0) (pre .1 .1) (c .before .before .before .before .loop-test .taken) in search needs
 
 mul-work : tie.Need-mul-work Inv-loop μ-loop
-mul-work c = let p = keying-places (c .before .before .before .before .before .loop .inv) (c .before .before .before .before .before .before .before .before .before .before .pre .0) (c .before .before .before .before .before .before .before .before .before .before .pre .1 .0) (c .before .before .before .before .before .before .before .before .before .before .pre .1 .1) (c .before .before .before .before .loop-test .taken) in search needs
+mul-work c =
+    let pre = c .before .before .before .before .before .before .before .before .before .before .pre in
+    let p = keying-places (c .before .before .before .before .before .loop .inv) (pre .0) (pre .1 .0) (pre .1 .1) (c .before .before .before .before .loop-test .taken) in search needs
 
 slice-write-work : tie.Need-slice-write-work Inv-loop μ-loop
-slice-write-work c = let p = keying-places (c .before .before .before .before .before .loop .inv) (c .before .before .before .before .before .before .before .before .before .before .pre .0) (c .before .before .before .before .before .before .before .before .before .before .pre .1 .0) (c .before .before .before .before .before .before .before .before .before .before .pre .1 .1) (c .before .before .before .before .loop-test .taken) in p .1
+slice-write-work c =
+    let pre = c .before .before .before .before .before .before .before .before .before .before .pre in
+    let p = keying-places (c .before .before .before .before .before .loop .inv) (pre .0) (pre .1 .0) (pre .1 .1) (c .before .before .before .before .loop-test .taken) in p .1
 
 add-i : tie.Need-add-i Inv-loop μ-loop
 add-i c = search needs
