@@ -10,22 +10,22 @@ use Rattle.order.proofs.write_steps.Statement.{statement}
 use Rattle.order.proofs.write_steps.Tie as tie
 
 add-m : tie.Need-add-m
-add-m c = search needs
+add-m c = omega (arith, c .before .before .before .before .before .pre .columns)
 
 add-w : tie.Need-add-w
-add-w c = search needs
+add-w c = omega (arith, c .before .before .before .before .before .pre .columns)
 
 add-w-2 : tie.Need-add-w-2
-add-w-2 c = search needs
+add-w-2 c = omega (arith, c .before .before .before .before .before .pre .columns)
 
 add-k : tie.Need-add-k
-add-k c = search needs
+add-k c = omega (arith, c .before .before .before .before .before .pre .columns)
 
 add-k-2 : tie.Need-add-k-2
-add-k-2 c = search needs
+add-k-2 c = omega (arith, c .before .before .before .before .before .pre .columns)
 
 lay-out-requires : tie.Need-lay-out-requires
-lay-out-requires c κs = search needs
+lay-out-requires c κs = (c .before .before .before .before .before .before .before .pre .rowed .tree, (c .before .before .before .before .before .before .before .pre .pops-length, omega (arith, c .before .before .before .before .before .before .before .pre .columns), omega (arith, c .before .before .before .before .before .before .before .pre .work-length)))
 
 arrange-requires : tie.Need-arrange-requires
 arrange-requires c κs =
@@ -38,10 +38,10 @@ slice-aggregate-steps c =
     sym (length-take-le _ (arrange .last .1 .1 .1 .1 .0) (omega (arith, arrange .kept .1 .1 .1 .1 .0, c .before .before .before .before .before .before .before .before .before .before .before .before .before .before .before .before .lay-out .kept .1 .1 .0, c .before .before .before .before .before .before .before .before .before .before .before .before .before .before .before .before .before .before .before .before .before .before .before .before .pre .work-length)))
 
 mul-steps : tie.Need-mul-steps
-mul-steps c = search needs
+mul-steps c = omega (arith, c .before .before .before .before .before .before .before .before .before .before .before .before .before .before .before .before .before .before .before .before .before .before .before .before .before .pre .columns)
 
 sub-steps : tie.Need-sub-steps
-sub-steps c = search needs
+sub-steps c = omega arith
 
 part-steps-start : tie.Need-part-steps-start
 part-steps-start c = search needs
@@ -57,13 +57,13 @@ steps-requires c κs =
     walk-asked (lists-lie pre (lay-out .ensures) (lay-out .kept .1 .0) (lay-out .kept .1 .1 .0) (arrange .ensures) (arrange .kept .1 .1 .0)) _ (arrange .kept .1 .1 .1 .0 ∙ pre .order-length)
 
 same-length : tie.Need-same-length
-same-length c = search needs
+same-length c = c .before .before .steps .kept .1 .1 .1 .1 .0 ∙ c .before .before .before .before .before .before .before .before .before .before .before .before .before .before .arrange .kept .1 .1 .1 .0
 
 same-length-2 : tie.Need-same-length-2
-same-length-2 c = search needs
+same-length-2 c = c .before .before .before .before .before .before .before .before .before .before .before .before .before .before .arrange .kept .1 .1 .0 ∙ c .before .before .before .before .before .before .before .before .before .before .before .before .before .before .before .before .before .before .before .before .before .before .lay-out .kept .1 .0
 
 same-length-3 : tie.Need-same-length-3
-same-length-3 c = search needs
+same-length-3 c = c .before .before .before .before .before .before .before .before .before .before .before .before .before .before .arrange .kept .1 .1 .1 .1 .0 ∙ c .before .before .before .before .before .before .before .before .before .before .before .before .before .before .before .before .before .before .before .before .before .before .lay-out .kept .1 .1 .0
 
 returns : tie.Need-returns
 returns c =

@@ -10,10 +10,10 @@ store-keys-requires : tie.Need-store-keys-requires
 store-keys-requires c κs = let p = c .before .before .before .before .before .before .pre in (p .children, (omega (arith, p .own), p .room))
 
 mul-sort-columns : tie.Need-mul-sort-columns
-mul-sort-columns c = search needs
+mul-sort-columns c = omega (arith, c .before .before .before .before .before .before .before .before .before .pre .room, c .before .before .before .before .before .before .before .before .before .good)
 
 sub-sort-columns : tie.Need-sub-sort-columns
-sub-sort-columns c = search needs
+sub-sort-columns c = omega (arith, c .before .before .before .before .before .before .before .before .before .pre .room, c .before .before .store-keys .kept .1 .1 .1 .1 .0)
 
 part-sort-columns-start : tie.Need-part-sort-columns-start
 part-sort-columns-start c = search needs
@@ -25,10 +25,12 @@ sort-columns-requires : tie.Need-sort-columns-requires
 sort-columns-requires c κs = c .before .before .before .before .before .before .before .before .before .before .before .before .before .pre .enough
 
 mul-room-alone : tie.Need-mul-room-alone
-mul-room-alone c = search needs
+mul-room-alone c =
+    let pre = c .before .before .before .before .before .before .before .before .before .before .before .before .before .before .before .before .before .before .pre in
+    omega (arith, pre .own, pre .room, c .before .before .before .before .before .before .before .before .before .before .before .before .before .before .before .before .before .before .good)
 
 sub-room-alone : tie.Need-sub-room-alone
-sub-room-alone c = search needs
+sub-room-alone c = omega (arith, c .before .before .before .before .before .before .before .before .before .before .before .before .before .before .before .before .before .before .pre .own)
 
 part-room-alone-start : tie.Need-part-room-alone-start
 part-room-alone-start c = search needs
@@ -42,19 +44,25 @@ room-alone-requires c κs =
     sorted-kids _ (k .before .before .before .before .before .before .before .pre) (k .store-keys .ensures) (k .store-keys .kept .1 .1 .1 .1 .0) (c .before .before .before .before .before .before .before .sort-columns .ensures)
 
 add-work : tie.Need-add-work
-add-work c = search needs
+add-work c =
+    let pre = c .before .before .before .before .before .before .before .before .before .before .before .before .before .before .before .before .before .before .before .before .before .before .pre in
+    omega (arith, pre .own, pre .room, c .before .before .before .before .before .before .before .before .before .before .before .before .before .before .before .before .before .before .before .before .before .before .good)
 
 mul-work : tie.Need-mul-work
-mul-work c = search needs
+mul-work c =
+    let pre = c .before .before .before .before .before .before .before .before .before .before .before .before .before .before .before .before .before .before .before .before .before .before .pre in
+    omega (arith, pre .own, pre .room, c .before .before .before .before .before .before .before .before .before .before .before .before .before .before .before .before .before .before .before .before .before .before .good)
 
 slice-write-work : tie.Need-slice-write-work
-slice-write-work c = search needs
+slice-write-work c =
+    let pre = c .before .before .before .before .before .before .before .before .before .before .before .before .before .before .before .before .before .before .before .before .before .before .pre in
+    omega (arith, pre .own, pre .room, c .before .before .before .before .before .before .before .before .before .before .before .before .before .before .before .store-keys .kept .1 .1 .1 .1 .0)
 
 same-length : tie.Need-same-length
-same-length c = search needs
+same-length c = c .before .before .before .before .before .before .before .before .sort-columns .kept .1 .0
 
 same-length-2 : tie.Need-same-length-2
-same-length-2 c = search needs
+same-length-2 c = c .before .before .before .before .before .before .before .before .sort-columns .kept .1 .1 .0
 
 same-length-3 : tie.Need-same-length-3
 same-length-3 c = search needs
