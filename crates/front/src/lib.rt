@@ -1,9 +1,7 @@
 // A column's rows in a factor, and whether an update's rows stand in a column's front.
 ghost use mathlib.Core.Path.{_≡_};
 ghost use mathlib.Core.List.{_∷_};
-ghost use Prim.Native.Nat.{_≤_, min};
 ghost use lib.ListN.{length};
-ghost use Rattle.papers.specs.Bounds.{maxColumns};
 ghost use Rattle.papers.specs.Lists.{Asc, member, every};
 ghost use Rattle.papers.specs.Job.{columnOf};
 ghost use Rattle.papers.specs.Tree.{t};
@@ -22,21 +20,13 @@ pub fn rows_of<'a>(n: u64, starts: &[u64], rows: &'a [u32], column: u64) -> &'a 
     &rows[from..end]
 }
 
-// The entries of so many rows, a lower triangle.
-pub fn triangle(rows: u64) -> u64
-    requires few { ⌜ rows ≤ maxColumns ⌝ }
-    ensures { λ r. ⌜ r ≡ t rows ⌝ }
-{
-    rows * (rows + 1) / 2
-}
-
 // The entries of a column's update.
 pub fn entries_of(n: u64, starts: &[u64], rows: &[u32], column: u64) -> u64
     requires factor { ⌜ Factor n (now starts) (now rows) ⌝ }
     requires column { ⌜ Column n column ⌝ }
     ensures { λ r. ⌜ r ≡ t (length (columnOf (now (starts .entry)) (now (rows .entry)) column)) ⌝ }
 {
-    triangle(rows_of(n, starts, rows, column).len() as u64)
+    triangle::entries(rows_of(n, starts, rows, column).len() as u64)
 }
 
 // The place of a row among ascending rows, known to lie from lo on and no later than hi. Each turn halves what lies between.
@@ -77,21 +67,11 @@ fn seek(rows: &[u32], row: u32, from: usize) -> usize
     bisect(rows, row, low, rows.len())
 }
 
-// The lesser of two lengths.
-fn lesser(a: usize, b: usize) -> usize
-    ensures { λ r. ⌜ r ≡ min a b ⌝ }
-{
-    if a < b {
-        return a;
-    }
-    b
-}
-
 // How many rows two lists have alike, from their first rows on. The first i are.
 fn alike(a: &[u32], b: &[u32]) -> usize
     ensures { λ r. ⌜ Alike (now (a .entry)) (now (b .entry)) r ⌝ }
 {
-    let end = lesser(a.len(), b.len());
+    let end = basics::lesser(a.len(), b.len());
     let mut i = 0;
     while i < end {
         if a[i] != b[i] {

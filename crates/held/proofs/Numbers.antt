@@ -1,9 +1,9 @@
--- The four numbers that a step takes, as the walks of `step` and `advance` carry them: pops, popped, update, room.
+-- What the walks of `step` and `advance` carry: the four numbers that a step takes (pops, popped, update, room), and the record's machine value.
 -- Assumes nothing.
 use Prim.Native.Nat.{ℕ, _<_, _^_}
 use mathlib.Core.List.{List, [], _∷_}
 use mir.Syntax.{w64}
-use mir.Val.{Val, vint}
+use mir.Val.{Val, vint, vstruct, vnil, vcons}
 use Rattle.held.specs.declared.Held.{Held}
 use Rattle.held.specs.Record.{steppedOf, Takes}
 
@@ -31,3 +31,6 @@ afterStep held m = steppedOf held (m .0) (m .1 .0) (m .1 .1 .0) (m .1 .1 .1 .0)
 
 abbrev pub canStep : Held → Numbers → Type 0
 canStep held m = Takes held (m .0) (m .1 .0) (m .1 .1 .0)
+
+abbrev pub machine : Held → Val
+machine h = vstruct (vcons (vint w64 (h .count)) (vcons (vint w64 (h .entries)) (vcons (vint w64 (h .greatest)) vnil)))

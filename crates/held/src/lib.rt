@@ -1,6 +1,6 @@
 // The record that each step of a run updates: how it is stepped by value, and lent to one thin step.
 ghost use mathlib.Core.Path.{_≡_};
-ghost use Prim.Native.Nat.{min, max};
+ghost use Prim.Native.Nat.{min};
 ghost use Rattle.held.specs.Record.{steppedOf, Takes};
 
 // The state of a run besides the lent stack list: how many updates are held, their entries, and the greatest room in use of the steps done.
@@ -8,16 +8,6 @@ pub struct Held {
     pub count: u64,
     pub entries: u64,
     pub greatest: u64,
-}
-
-// The greater of two numbers.
-fn greater(a: u64, b: u64) -> u64
-    ensures { λ r. ⌜ r ≡ max a b ⌝ }
-{
-    if a < b {
-        return b;
-    }
-    a
 }
 
 // How many updates a step puts on: one, unless it has no entries.
@@ -38,7 +28,7 @@ fn stepped(held: Held, pops: u64, popped: u64, update: u64, room: u64) -> Held
     Held {
         count: held.count - pops + put_on(update),
         entries: held.entries - popped + update,
-        greatest: greater(held.greatest, room),
+        greatest: basics::greater(held.greatest, room),
     }
 }
 

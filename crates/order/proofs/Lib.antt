@@ -1,4 +1,5 @@
 pub mod Marked
 pub mod Families
 pub mod Walked
+pub mod Lying
 pub mod Peaks

@@ -1,7 +1,6 @@
 -- The walk over lists arranged by a mark gives the steps of that mark; a subtree has as many steps under every mark, and in its order no step
 -- takes off more updates than are held.
 -- Assumes nothing.
--- ---- lists by the mark
 use Prim.Native.Nat.{ℕ, suc, _+_, _<_, _≤_}
 use mathlib.Core.Path.{_≡_, sym, ap, _∙_}
 use mathlib.Core.Logic.{_↔_}
@@ -26,6 +25,8 @@ use Rattle.order_laws.proofs.Takes.{step-enough}
 use Rattle.order_laws.proofs.Entries.{held-entries}
 use Rattle.tree.specs.Blocks.{block, blocks}
 use Rattle.tree.proofs.Blocks.{flatMap-same, block-is}
+
+-- ---- lists by the mark
 
 module _ (mark : ℕ) (size : ℕ → ℕ) (kids lists : ℕ → List ℕ) (n : ℕ) (lower : (j c : ℕ) → 0 < j → c ∈ kids j → (0 < c) × (c < j))
     (lists-lower : (j c : ℕ) → 0 < j → c ∈ lists j → (0 < c) × (c < j))

@@ -1,14 +1,12 @@
--- From the lists of children to the order: they lie in the first numbers of work and in the list, the descendants behind; arranged by the mark
--- they are what the walk asks for, and it writes the order of the mark.
+-- From lists of children arranged by the mark to the order: they are what the walk asks for, and it writes the order of the mark.
 -- Assumes nothing.
--- lists of children that lie arranged by the mark, those of the roots ascending, and the descendants of each column counted
 use Prim.Native.Nat.{ℕ, zero, suc, _+_, _<_, _≤_}
 use mathlib.Core.Path.{_≡_, sym, ap, _∙_}
 use mathlib.Core.Logic.{_⊎_, inl, inr}
 use mathlib.Core.List.{List, [], flatMap, append-nil, List·Memᴰ·not-nil}
 use native.Mathlib.Omega.{arith}
-use lib.ListN.{length, getD, take, drop, drop-of-length-le}
-use lib.Seq.{sets, sets-eq, length-take-le, take-take, getD-take, length-slice}
+use lib.ListN.{length, getD, drop, drop-of-length-le}
+use lib.Seq.{sets, sets-eq}
 use Rattle.papers.specs.Bounds.{maxColumns}
 use Rattle.papers.specs.Lists.{_∈_}
 use Rattle.list_laws.proofs.Tests.{below-or}
@@ -17,17 +15,16 @@ use Rattle.order_laws.proofs.Arranged.{arranged-elements}
 use Rattle.order_laws.proofs.Orders.{ordered-length, marked-ordered}
 use Rattle.tree.specs.Parents.{parentIn, kidsIn}
 use Rattle.tree.specs.Blocks.{block, blocks, kidsAt}
-use Rattle.tree.specs.Laid.{Descendants, part, LaidOut}
+use Rattle.tree.specs.Laid.{Descendants}
 use Rattle.tree.proofs.Children.{kids-lower}
-use Rattle.tree.proofs.Blocks.{flatMap-same, block-count, kids-are}
+use Rattle.tree.proofs.Blocks.{flatMap-same, block-count}
 use Rattle.walk.specs.Tasks.{Laid, Asked, kidsSteps}
 use Rattle.room.specs.Rows.{rowsIn}
-use Rattle.order.specs.Given.{Rowed, Given, stepsIn, orderIn, Starts}
-use Rattle.siblings.specs.Arranged.{arrangedIn, Arrangeable, AllArranged}
-use Rattle.tree.proofs.Parts.{part-length, part-same}
+use Rattle.order.specs.Given.{Rowed, stepsIn, orderIn}
+use Rattle.siblings.specs.Arranged.{arrangedIn}
 use Rattle.order.proofs.Marked.{block-marked, steps-count}
-use Rattle.order.proofs.Families.{family-of, lists-end, lists-are}
 
+-- lists of children that lie arranged by the mark, those of the roots ascending, and the descendants of each column counted
 pub record Lists (mark : ℕ) (parents factor starts list counts : List ℕ) : Type 0 where
   pub rowed : Rowed parents factor
   pub few : length parents ≤ maxColumns
@@ -95,78 +92,3 @@ module _ {mark : ℕ} {parents factor starts list counts : List ℕ} (lying : Li
       let count : length steps ≡ length order = ordered-length steps (marked-ordered (lying .rowed .tree) mark (rowsIn factor)) ∙ sym e in
       let none : drop (0 + length steps) order ≡ [] = drop-of-length-le order {i = 0 + length steps} (omega arith) in
       q ∙ rw (steps-are, sets-eq steps order 0 (omega arith), none) (append-nil steps)
-
--- ---- the lists laid out, and then arranged
-module _ {mark : ℕ} {parents factor list work : List ℕ} {order pops lent : ℕ} (given : Given mark parents factor order pops lent) (laid : LaidOut parents list work)
-    (list-kept : length list ≡ pops) (work-kept : length work ≡ lent)
-  where
-    abbrev columns : ℕ
-    columns = length parents
-
-    abbrev m : ℕ
-    m = columns + 2
-
-    abbrev w : ℕ
-    w = m + columns + 1
-
-    abbrev k : ℕ
-    k = w + columns + 1
-
-    list-length : length list ≡ columns
-    list-length = list-kept ∙ given .pops-length
-
-    front-length : length (take m work) ≡ m
-    front-length = length-take-le m work (omega (arith, given .work-length))
-
-    start-at : (j : ℕ) → j ≤ columns + 1 → getD work j 0 ≡ getD (take m work) j 0
-    start-at j h = sym (getD-take m work j 0 (omega arith))
-
-    kids-lie : kidsAt (take m work) list ≡ (λ j. kidsIn parents j)
-    kids-lie = lists-are parents (given .rowed .tree) (laid .lie) front-length
-
-    -- what arranging asks
-    pub arrange-asked : Arrangeable mark factor list work order w k
-    arrange-asked = record {
-      family = rw (list-length, kids-lie) (family-of (given .rowed) mark (given .columns));
-      rise = λ j h. rw (start-at j (omega (arith, list-length)), start-at (j + 1) (omega (arith, list-length))) (laid .lie .rise j (omega (arith, list-length)));
-      inside = λ j h. rw (start-at (j + 1) (omega (arith, list-length))) (laid .lie .inside j (omega (arith, list-length)));
-      starts = omega (arith, list-length);
-      rooms = omega (arith, list-length);
-      room = omega (arith, list-length, work-kept, given .work-length);
-      enough = omega (arith, list-length, given .order-length);
-    }
-
-    -- ---- arranged
-    module _ {list′ work′ : List ℕ} (all : AllArranged mark factor list work list′ work′ w) (list-same : length list′ ≡ length list) where
-      front-same : take m work′ ≡ take m work
-      front-same = sym (take-take m w work′ (omega arith)) ∙ (ap (take m) (all .same) ∙ take-take m w work (omega arith))
-
-      back-same : part m w work′ ≡ part m w work
-      back-same = part-same m w work′ work (all .same)
-
-      arranged-lists : (j : ℕ) → 0 < j → j ≤ columns → kidsAt (take m work) list′ j ≡ arrangedIn mark factor (kidsIn parents) columns j
-      arranged-lists j l u = rw (list-length, kids-lie) at (all .lists j l (omega (arith, list-length)))
-
-      root-list : kidsAt (take m work) list′ 0 ≡ kidsIn parents 0
-      root-list = (rw list-length at (all .roots)) ∙ laid .lie .same 0 (omega arith)
-
-      pub lists-lie : Lists mark parents factor (take m work′) list′ (part m w work′)
-      lists-lie = rw (front-same, back-same) (record {
-        rowed = given .rowed;
-        few = given .columns;
-        inside = λ j h. omega (arith, laid .lie .inside j h, list-same);
-        past = λ j h. lists-end parents (given .rowed .tree) (laid .lie) front-length list′ j h;
-        lists = arranged-lists;
-        roots = root-list;
-        descendants = laid .descendants;
-        long = front-length;
-        many = part-length m w work (omega arith) (omega (arith, work-kept, given .work-length)) ∙ omega arith;
-      })
-
-      -- the starts are those of the children's lists
-      pub starts-lie : Starts parents (take m work′)
-      starts-lie = rw front-same (record {
-        count = λ j h. sym (length-slice (getD (take m work) j 0) (getD (take m work) (j + 1) 0) list (laid .lie .inside j h)) ∙ ap length (sym (kids-are (take m work) list j) ∙ laid .lie .same j h);
-        rise = λ j h. laid .lie .rise j h;
-        inside = λ j h. omega (arith, laid .lie .inside j h, list-length);
-      })

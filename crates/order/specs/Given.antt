@@ -1,6 +1,5 @@
 -- The tree and the rows that an order is made from, as slices hold them; and the order, in the paper's terms.
 -- Assumes nothing.
--- parents rise, factor starts rise; a column has rows exactly if it has a parent, and no more than there may be columns
 use Prim.Native.Nat.{ℕ, _+_, _-_, _*_, _<_, _≤_}
 use mathlib.Core.Path.{_≡_}
 use mathlib.Core.Logic.{_↔_}
@@ -11,6 +10,7 @@ use Rattle.papers.specs.Order.{stepsOf}
 use Rattle.tree.specs.Parents.{parentIn, TreeIn, kidsIn}
 use Rattle.room.specs.Rows.{countAt, rowsIn}
 
+-- parents rise, factor starts rise; a column has rows exactly if it has a parent, and no more than there may be columns
 pub record Rowed (parents factor : List ℕ) : Type 0 where
   pub tree : TreeIn parents
   pub starts : length factor ≡ length parents + 1

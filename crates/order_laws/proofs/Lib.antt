@@ -19,6 +19,7 @@ pub mod Needs
 pub mod Siblings
 pub mod Works
 pub mod TogetherTest
+pub mod Missing
 pub mod Waiting
 pub mod Takes
 pub mod Entries

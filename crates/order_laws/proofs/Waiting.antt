@@ -1,47 +1,27 @@
 -- One step of an order: the columns that wait for j are its children, and lie on top, since its subtree stands right before it; after the step
 -- they wait no more, and j does, unless it is a root.
 -- Assumes nothing.
-use Prim.Native.Nat.{ℕ, zero, suc, _<_, _≤_}
+use Prim.Native.Nat.{ℕ, _<_, _≤_}
 use mathlib.Core.Path.{_≡_, refl, sym, ap, _∙_}
 use mathlib.Core.Logic.{_⊎_, inl, inr, _↔_, _≢_}
-use mathlib.Core.Bool.{Bool, true, false}
+use mathlib.Core.Bool.{Bool, false}
 use mathlib.Core.List.{List, [], _∷_, _++_, List·Memᴰ·head, List·Memᴰ·tail, List·Memᴰ·cases-cons, Memᴰ·append-left, Memᴰ·cast}
 use native.Mathlib.Omega.{arith}
 use lib.Dec.{eqb}
 use lib.ListN.{length, take, drop, length-append}
 use lib.Seq.{drop-at, take-at}
 use borrow.Author.Tests.{eqb-true, eqb-false, eq-eqb, ne-eqb}
-use Rattle.papers.specs.Lists.{_∈_, Distinct, member, keep}
+use Rattle.papers.specs.Lists.{_∈_, Distinct, keep}
 use Rattle.papers.specs.Tree.{children, Under}
-use Rattle.list_laws.proofs.Tests.{Test, passes, fails, test, true-false, not-true}
-use Rattle.list_laws.proofs.Members.{member-into, member-out}
+use Rattle.list_laws.proofs.Tests.{Test, passes, fails, test}
 use Rattle.list_laws.proofs.Keeps.{keep-yes, keep-no, keep-append, keep-none, keep-from, keep-into, keep-distinct, keep-same}
 use Rattle.list_laws.proofs.Counts.{same-length, distinct-append}
 use Rattle.order_laws.specs.Parents.{Tree}
 use Rattle.order_laws.specs.Done.{Ready}
 use Rattle.order_laws.specs.Stack.{missing, waiting, pushedOn}
+use Rattle.order_laws.proofs.Missing.{missing-done, missing-yes, missing-from, missing-more}
 use Rattle.order_laws.proofs.Trees.{under-cases, under-child}
 use Rattle.order_laws.proofs.Subtrees.{children-of, children-distinct}
-
-missing-done : (done : List ℕ) (p : ℕ) → p ∈ done → missing done p ≡ false
-unfolding missing
-missing-done done zero m = refl
-missing-done done (suc p) m = rw (member-into (suc p) done m)
-
-missing-yes : (done : List ℕ) (p : ℕ) → 0 < p → ¬ (p ∈ done) → missing done p ≡ true
-unfolding missing
-missing-yes done zero h m = absurd (omega arith)
-missing-yes done (suc p) h m = rw (member-out (suc p) done m)
-
-missing-from : (done : List ℕ) (p : ℕ) → missing done p ≡ true → (0 < p) × (¬ (p ∈ done))
-unfolding missing
-missing-from done zero e = absurd (true-false e refl)
-missing-from done (suc p) e = (omega arith, λ m. true-false (member-into (suc p) done m) (not-true (member (suc p) done) e))
-
-missing-more : (done : List ℕ) (p j : ℕ) → p ≢ j → missing (j ∷ done) p ≡ missing done p
-unfolding missing member
-missing-more done zero j h = refl
-missing-more done (suc p) j h = rw (ne-eqb (suc p) j h, member)
 
 pub pushed-root : (par : ℕ → ℕ) (j : ℕ) (held : List ℕ) → par j ≡ 0 → pushedOn par j held ≡ held
 unfolding pushedOn

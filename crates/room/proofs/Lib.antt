@@ -1,3 +1,4 @@
 pub mod Entries
+pub mod OneStep
 pub mod Stacks
 pub mod BySteps

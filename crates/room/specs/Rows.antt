@@ -1,11 +1,11 @@
 -- Lists that lie one behind the other, counted by their starts; and the entries of the largest front.
 -- Assumes nothing.
--- the length of the list from start i to the next one
 use Prim.Native.Nat.{ℕ, _+_, _-_, _*_, _/_, _<_, _≤_}
 use mathlib.Core.List.{List}
 use lib.ListN.{length, getD}
 use Rattle.papers.specs.Bounds.{maxColumns}
 
+-- the length of the list from start i to the next one
 abbrev pub countAt : List ℕ → ℕ → ℕ
 countAt starts i = getD starts (i + 1) 0 - getD starts i 0
 

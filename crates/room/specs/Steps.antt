@@ -1,6 +1,5 @@
 -- The steps of an order with their pops in two slices: what the pass for the peak is given.
 -- Assumes nothing.
--- the rows of the column of step s, the steps counted from 1
 use Prim.Native.Nat.{ℕ, suc, _+_, _*_, _^_, _<_, _≤_}
 use mathlib.Core.Path.{_≡_}
 use mathlib.Core.List.{List, []}
@@ -11,6 +10,7 @@ use Rattle.papers.specs.Order.{columnAt}
 use Rattle.order_laws.specs.Held.{heldAfterAll}
 use Rattle.room.specs.Rows.{rowsIn, Column, mostEntries}
 
+-- the rows of the column of step s, the steps counted from 1
 abbrev pub rowsAt : List ℕ → List ℕ → ℕ → ℕ
 rowsAt factor order s = rowsIn factor (columnAt order s)
 

@@ -1,29 +1,14 @@
 // Pops, room in use and the peak of an order.
 ghost use mathlib.Core.Path.{_≡_};
 ghost use mathlib.Core.List.{map};
-ghost use Prim.Native.Nat.{_+_, _-_, _<_, _≤_, min, max};
+ghost use Prim.Native.Nat.{_+_, _-_, _<_, _≤_, min};
 ghost use lib.ListN.{length, getD, set};
 ghost use Rattle.papers.specs.Bounds.{maxColumns};
 ghost use Rattle.papers.specs.Lists.{upTo};
 ghost use Rattle.papers.specs.Tree.{t};
 ghost use Rattle.papers.specs.Room.{peakOf};
-ghost use Rattle.room.specs.Rows.{countAt, rowsIn, Column, mostEntries};
+ghost use Rattle.room.specs.Rows.{countAt, rowsIn, Column};
 ghost use Rattle.room.specs.Steps.{rowsAt, popsAt, Over, Stepped, Counted};
-
-// t(rows): the entries of a lower triangle.
-pub fn triangle(rows: u64) -> u64
-    requires { ⌜ rows ≤ maxColumns + 1 ⌝ }
-    ensures { λ r. ⌜ (r ≡ t rows) × (r ≤ mostEntries) ⌝ }
-{
-    rows * (rows + 1) / 2
-}
-
-// The greater of two rooms.
-pub fn greater(a: u64, b: u64) -> u64
-    ensures { λ r. ⌜ r ≡ max a b ⌝ }
-{
-    if a < b { b } else { a }
-}
 
 // 0 of 0, and 1 of any other count.
 fn at_most_one(count: u64) -> usize
@@ -67,7 +52,7 @@ pub fn in_use(below: &[u64], depth: usize, pops: usize, rows: u64) -> u64
     requires { ⌜ Over (now below) depth pops rows ⌝ }
     ensures { λ r. ⌜ r ≡ getD (now (below .entry)) (depth - min pops 1) 0 + t (rows + 1) ⌝ }
 {
-    below[depth - at_most_one(pops as u64)] + triangle(rows + 1)
+    below[depth - at_most_one(pops as u64)] + triangle::entries(rows + 1)
 }
 
 // The step done: its pops are off and its update is on, in one store; a root leaves none. Answers how many updates are then held.
@@ -77,7 +62,7 @@ pub fn hold(below: &mut [u64], depth: usize, pops: usize, rows: u64) -> usize
     ensures sums { λ r. ⌜ now (below .exit) ≡ set (now (below .entry)) (depth - pops + 1) (getD (now (below .entry)) (depth - pops) 0 + t rows) ⌝ }
 {
     let left = depth - pops;
-    below[left + 1] = below[left] + triangle(rows);
+    below[left + 1] = below[left] + triangle::entries(rows);
     left + at_most_one(rows)
 }
 
@@ -94,7 +79,7 @@ pub fn peak(factor: &[u64], order: &[u32], pops: &[u32], below: &mut [u64]) -> u
     while k < order.len() {
         let p = pops[k] as usize;
         let rows = rows_of(factor, order[k] as usize);
-        most = greater(most, in_use(&below[..], depth, p, rows));
+        most = basics::greater(most, in_use(&below[..], depth, p, rows));
         depth = hold(below, depth, p, rows);
         k += 1;
     }

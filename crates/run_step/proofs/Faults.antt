@@ -17,8 +17,9 @@ use Rattle.list_laws.proofs.Tests.{below-or}
 use Rattle.order_laws.proofs.Steps.{column-at}
 use Rattle.held.specs.declared.Held.{Held}
 use Rattle.front.specs.Factor.{Column}
-use Rattle.run_step.specs.Kept.{heldIn, callOf, factorOf, stateOf}
-use Rattle.run_step.proofs.Stack.{held-length}
+use Rattle.held_updates.specs.Kept.{heldIn, callOf, factorOf}
+use Rattle.held_updates.proofs.Stack.{held-length}
+use Rattle.run_step.specs.Ready.{stateOf}
 
 pub pops-at : (call : RunCall) (s : ℕ) → popsAt call (suc s) ≡ getD (call .pops) s 0
 unfolding popsAt

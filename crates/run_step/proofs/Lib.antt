@@ -1,6 +1,3 @@
-pub mod Stack
-pub mod Entries
-pub mod Popped
-pub mod Uses
 pub mod Faults
+pub mod Pushed
 pub mod Taken

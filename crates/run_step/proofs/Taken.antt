@@ -2,7 +2,7 @@
 -- leaves nothing. So list and record hold the next state, and the record has its entries again.
 -- Assumes nothing.
 use Prim.Native.Nat.{ℕ, suc, _+_, _-_, _<_, _≤_, min}
-use mathlib.Core.Path.{_≡_, refl, ap, _∙_, sym}
+use mathlib.Core.Path.{_≡_, ap, _∙_, sym}
 use mathlib.Core.Logic.{_≢_}
 use mathlib.Core.List.{List, [], _∷_}
 use native.Mathlib.Omega.{arith}
@@ -12,32 +12,16 @@ use Rattle.papers.specs.Job.{columnOf}
 use Rattle.papers.specs.Tree.{t}
 use Rattle.papers.specs.Run.{RunCall, State, entries, rowsIn, pushed, stepped}
 use Rattle.list_laws.proofs.Tests.{Compare, below, level, above, compare}
-use Rattle.order_laws.proofs.Triangles.{t-is, t-suc}
 use Rattle.order_laws.proofs.Steps.{column-at}
 use Rattle.held.specs.declared.Held.{Held}
 use Rattle.held.specs.Record.{steppedOf, Takes}
 use Rattle.front.specs.Factor.{Column}
-use Rattle.run_step.specs.Kept.{heldIn, callOf, stateOf, Kept, Ready}
-use Rattle.run_step.proofs.Stack.{held-drop, held-push}
-use Rattle.run_step.proofs.Entries.{total, total-cons, total-parts, total-small, update-small}
+use Rattle.held_updates.specs.Kept.{heldIn, callOf, Kept}
+use Rattle.held_updates.proofs.Stack.{held-drop, held-push}
+use Rattle.held_updates.proofs.Entries.{total, total-cons, total-parts, total-small, update-small}
+use Rattle.run_step.specs.Ready.{stateOf, Ready}
+use Rattle.run_step.proofs.Pushed.{push-root, push-update}
 use Rattle.run_step.proofs.Faults.{pops-at, used, used-is}
-
-module _ (call : RunCall) (c : ℕ) (held : List ℕ) where
-  push-root : t (length (rowsIn call c)) ≡ 0 → pushed call c held ≡ held
-  unfolding pushed
-  push-root z = go (rowsIn call c) refl
-    where
-      go : (rs : List ℕ) → rowsIn call c ≡ rs → pushed call c held ≡ held
-      go [] e = rw (e, pushed)
-      go (r ∷ rs) e = absurd (omega (arith, z, t-suc (length rs), ap (λ l. t (length l)) e))
-
-  push-update : t (length (rowsIn call c)) ≢ 0 → pushed call c held ≡ c ∷ held
-  unfolding pushed
-  push-update h = go (rowsIn call c) refl
-    where
-      go : (rs : List ℕ) → rowsIn call c ≡ rs → pushed call c held ≡ c ∷ held
-      go [] e = absurd (h (ap (λ l. t (length l)) e ∙ t-is 0))
-      go (r ∷ rs) e = rw (e, pushed)
 
 module _ {n : ℕ} {starts rows columns pops stack : List ℕ} {held : Held} {done : ℕ} (step : Ready n starts rows columns pops stack held done) {popped update room : ℕ}
     (p : popped ≡ total n starts rows (take (getD pops done 0) (heldIn (held .count) stack))) (u : update ≡ t (length (columnOf starts rows (getD columns done 0))))

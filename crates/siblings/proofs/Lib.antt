@@ -1,5 +1,4 @@
-pub mod Keys
-pub mod Turns
 pub mod Placing
 pub mod Works
 pub mod Arranging
+pub mod OneArranged

@@ -1,6 +1,5 @@
 -- One column: the keys are stored behind the W, the children are sorted by them in their place, and the W of the column goes to its own.
 -- Assumes nothing.
--- children in another order are the same children
 use Prim.Native.Nat.{ℕ, _+_, _-_}
 use mathlib.Core.Path.{_≡_, sym, ap, _∙_}
 use mathlib.Core.List.{List, _++_}
@@ -11,9 +10,11 @@ use Rattle.papers.specs.Lists.{_∈_, sort}
 use Rattle.list_laws.proofs.Sorts.{sort-same, sort-elements, sort-length}
 use Rattle.sibling_sort.specs.Joining.{keyIn}
 use Rattle.tree.specs.Laid.{part}
-use Rattle.siblings.specs.Arranged.{keyAt, needAt, Kids, Keyed, siblingsAt, Placed, sortedIn, Arranged}
-use Rattle.tree.proofs.Parts.{part-length, part-at, part-same, part-set, back-sets, back-part}
+use Rattle.sibling_keys.specs.Kids.{keyAt, needAt, Kids, Keyed}
+use Rattle.siblings.specs.Arranged.{Sortable, sortedBy, Sorted, siblingsAt, Placed, Arranged}
+use Rattle.tree.proofs.Parts.{part-length, part-at, part-same, part-set, back-sets}
 
+-- children in another order are the same children
 kids-sorted : (key : ℕ → ℕ) {factor rooms kids : List ℕ} {j : ℕ} → Kids factor rooms kids j → Kids factor rooms (sort key kids) j
 kids-sorted key {factor} {rooms} {kids} pre = record {
   top = pre .top;
@@ -23,7 +24,34 @@ kids-sorted key {factor} {rooms} {kids} pre = record {
   few = omega (arith, pre .few, sort-length key kids);
 }
 
-module _ (mark : ℕ) {factor list work : List ℕ} {scratch j w k : ℕ} (pre : Placed factor list work scratch j w k) where
+-- ---- the children of one column
+module _ (mark : ℕ) {factor kids work work₁ ys : List ℕ} {scratch j w k : ℕ} (pre : Sortable factor kids work scratch j w k)
+    (keyed : Keyed k (keyAt mark factor (part w k work) j) kids work work₁) (long : length work₁ ≡ length work) (es : ys ≡ sort (keyIn (part k (length work₁) work₁)) kids)
+  where
+    rooms-same : part w k work₁ ≡ part w k work
+    rooms-same = part-same w k work₁ work (keyed .same)
+
+    -- the keys as the sort reads them
+    read : (c : ℕ) → c ∈ kids → keyIn (part k (length work₁) work₁) c ≡ keyAt mark factor (part w k work) j c
+    read c m = part-at k (length work₁) work₁ c (omega (arith, pre .children .known c m, length-take (k - w) (drop w work), pre .room, pre .own)) ∙ keyed .keys c m
+
+    sorted : ys ≡ sortedBy mark factor kids work j w k
+    sorted = es ∙ sort-same _ _ kids read
+
+    pub sorted-kids : Kids factor (part w k work₁) ys j
+    sorted-kids = rw (rooms-same, sorted) (kids-sorted _ (pre .children))
+
+    pub sorted-done : {r : ℕ} → r ≡ needAt factor (part w k work₁) ys j → Sorted mark factor kids work ys (set work₁ (w + j) r) j w k
+    sorted-done {r} er =
+        let need : r ≡ needAt factor (part w k work) (sortedBy mark factor kids work j w k) j = rw (rooms-same, sorted) at er in
+        record {
+          sorted = sorted;
+          rooms = part-set w k j r work₁ (pre .own) ∙ rw (rooms-same, need);
+          same = take-set-le w work₁ (w + j) r (omega arith) ∙ (sym (take-take w k work₁ (omega (arith, pre .own))) ∙ (ap (take w) (keyed .same) ∙ take-take w k work (omega (arith, pre .own))));
+        }
+
+-- ---- in their place
+module _ {factor list work : List ℕ} {scratch j w k : ℕ} (pre : Placed factor list work scratch j w k) where
   abbrev a : ℕ
   a = getD work j 0
 
@@ -33,36 +61,12 @@ module _ (mark : ℕ) {factor list work : List ℕ} {scratch j w k : ℕ} (pre :
   kids-length : length (siblingsAt work list j) ≡ e - a
   kids-length = part-length a e list (pre .rise) (pre .inside)
 
-  module _ {work₁ ys : List ℕ} (keyed : Keyed k (keyAt mark factor (part w k work) j) (siblingsAt work list j) work work₁) (long : length work₁ ≡ length work)
-      (es : ys ≡ sort (keyIn (part k (length work₁) work₁)) (siblingsAt work list j))
-    where
-      abbrev back : List ℕ
-      back = take a list ++ (ys ++ drop (e - a) (drop a list))
+  -- the children may be sorted there
+  pub placed-kids : Sortable factor (siblingsAt work list j) work scratch j w k
+  placed-kids = record { children = pre .kids; own = pre .own; room = pre .room; enough = omega (arith, kids-length, pre .inside, pre .enough) }
 
-      rooms-same : part w k work₁ ≡ part w k work
-      rooms-same = part-same w k work₁ work (keyed .same)
-
-      -- the keys as the sort reads them
-      read : (c : ℕ) → c ∈ siblingsAt work list j → keyIn (part k (length work₁) work₁) c ≡ keyAt mark factor (part w k work) j c
-      read c m = part-at k (length work₁) work₁ c (omega (arith, pre .kids .known c m, length-take (k - w) (drop w work), pre .room, pre .own)) ∙ keyed .keys c m
-
-      sorted : ys ≡ sortedIn mark factor list work j w k
-      sorted = es ∙ sort-same _ _ (siblingsAt work list j) read
-
-      sorted-length : length ys ≡ e - a
-      sorted-length = ap length sorted ∙ (sort-length _ (siblingsAt work list j) ∙ kids-length)
-
-      part-back : part a e back ≡ sortedIn mark factor list work j w k
-      part-back = back-part list ys a e (pre .rise) (pre .inside) sorted-length ∙ sorted
-
-      pub placed-kids : Kids factor (part w k work₁) (part a e back) j
-      placed-kids = rw (rooms-same, part-back) (kids-sorted _ (pre .kids))
-
-      pub placed-done : {r : ℕ} → r ≡ needAt factor (part w k work₁) (part a e back) j → Arranged mark factor list work back (set work₁ (w + j) r) j w k
-      placed-done {r} er =
-          let need : r ≡ needAt factor (part w k work) (sortedIn mark factor list work j w k) j = rw (rooms-same, part-back) at er in
-          record {
-            lists = back-sets list ys a e (pre .rise) (pre .inside) sorted-length ∙ ap (sets list a) sorted;
-            rooms = part-set w k j r work₁ (pre .own) ∙ rw (rooms-same, need);
-            same = take-set-le w work₁ (w + j) r (omega arith) ∙ (sym (take-take w k work₁ (omega (arith, pre .own))) ∙ (ap (take w) (keyed .same) ∙ take-take w k work (omega (arith, pre .own))));
-          }
+  pub placed-done : {mark : ℕ} {ys work′ : List ℕ} → Sorted mark factor (siblingsAt work list j) work ys work′ j w k
+      → Arranged mark factor list work (take a list ++ (ys ++ drop (e - a) (drop a list))) work′ j w k
+  placed-done {mark} {ys} d =
+      let l : length ys ≡ e - a = ap length (d .sorted) ∙ (sort-length _ (siblingsAt work list j) ∙ kids-length) in
+      record { lists = back-sets list ys a e (pre .rise) (pre .inside) l ∙ ap (sets list a) (d .sorted); rooms = d .rooms; same = d .same }

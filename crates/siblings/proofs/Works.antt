@@ -18,7 +18,8 @@ use Rattle.order_laws.proofs.RoomBounds.{rooms-bound}
 use Rattle.order_laws.proofs.Needs.{need-children}
 use Rattle.room.specs.Rows.{rowsIn, mostEntries}
 use Rattle.room.proofs.Entries.{entries-fit}
-use Rattle.siblings.specs.Arranged.{keyAt, needAt, Family, aloneIn, arrangedIn}
+use Rattle.sibling_keys.specs.Kids.{keyAt, needAt}
+use Rattle.siblings.specs.Arranged.{Family, aloneIn, arrangedIn}
 
 in-turn-same : (size need other : ℕ → ℕ) (h : ℕ) (cs : List ℕ) → ((c : ℕ) → c ∈ cs → need c ≡ other c) → inTurn size need h cs ≡ inTurn size other h cs
 unfolding inTurn

@@ -1,42 +1,38 @@
 -- Lists of children arranged by the mark, each in its place: what the passes over them are given and leave.
 -- Assumes nothing.
--- the key of child c of column j, where rooms has the W of each column
-use Prim.Native.Nat.{ℕ, suc, _+_, _-_, _*_, _<_, _≤_, max}
+use Prim.Native.Nat.{ℕ, _+_, _-_, _<_, _≤_}
 use mathlib.Core.Path.{_≡_}
 use mathlib.Core.List.{List}
 use lib.ListN.{length, getD, set, take}
 use lib.Seq.{sets}
 use Rattle.papers.specs.Bounds.{maxColumns}
-use Rattle.papers.specs.Lists.{_∈_, sort}
-use Rattle.papers.specs.Tree.{t}
-use Rattle.papers.specs.Order.{siblingKey, alone, arranged, stepsOf}
-use Rattle.order_laws.specs.Subtrees.{Kin, inTurn, butLast}
+use Rattle.papers.specs.Lists.{sort}
+use Rattle.papers.specs.Order.{alone, arranged, stepsOf}
+use Rattle.order_laws.specs.Subtrees.{Kin}
 use Rattle.tree.specs.Blocks.{kidsAt}
-use Rattle.room.specs.Rows.{rowsIn, Column, mostEntries}
 use Rattle.tree.specs.Laid.{part}
+use Rattle.room.specs.Rows.{rowsIn, Column}
+use Rattle.sibling_keys.specs.Kids.{keyAt, needAt, Kids}
 
-abbrev pub keyAt : ℕ → List ℕ → List ℕ → ℕ → ℕ → ℕ
-keyAt mark factor rooms j c = siblingKey mark (rowsIn factor j) (rowsIn factor c) (getD rooms c 0)
+-- ---- the children of one column: the W of the columns stand in work from w to k, and the keys have room behind
 
--- the W of column j from those of its children, done in this order: each above the updates of the earlier ones; then the front over the last
--- one's update
-abbrev pub needAt : List ℕ → List ℕ → List ℕ → ℕ → ℕ
-needAt factor rooms kids j = max (inTurn (rowsIn factor) (λ c. getD rooms c 0) 0 kids) (butLast (rowsIn factor) kids + t (suc (rowsIn factor j)))
+pub record Sortable (factor kids work : List ℕ) (scratch j w k : ℕ) : Type 0 where
+  pub children : Kids factor (part w k work) kids j
+  pub own : w + j < k
+  pub room : k + (k - w) ≤ length work
+  pub enough : length kids ≤ scratch
 
--- column j and its children, whose W are known and no greater than so many fronts
-pub record Kids (factor rooms kids : List ℕ) (j : ℕ) : Type 0 where
-  pub top : Column factor j
-  pub column : (c : ℕ) → c ∈ kids → Column factor c
-  pub known : (c : ℕ) → c ∈ kids → c < length rooms
-  pub light : (c : ℕ) → c ∈ kids → getD rooms c 0 ≤ maxColumns * mostEntries
-  pub few : length kids ≤ maxColumns
+-- the children by descending key
+abbrev pub sortedBy : ℕ → List ℕ → List ℕ → List ℕ → ℕ → ℕ → ℕ → List ℕ
+sortedBy mark factor kids work j w k = sort (keyAt mark factor (part w k work) j) kids
 
--- keys of the kids are stored from k on, and what lies before is as it was
-pub record Keyed (k : ℕ) (key : ℕ → ℕ) (kids before after : List ℕ) : Type 0 where
-  pub same : take k after ≡ take k before
-  pub keys : (c : ℕ) → c ∈ kids → getD after (k + c) 0 ≡ key c
+-- they are sorted, and the W of j stands in its place; what lies before the W is as it was
+pub record Sorted (mark : ℕ) (factor kids work kids′ work′ : List ℕ) (j w k : ℕ) : Type 0 where
+  pub sorted : kids′ ≡ sortedBy mark factor kids work j w k
+  pub rooms : part w k work′ ≡ set (part w k work) j (needAt factor (part w k work) (sortedBy mark factor kids work j w k) j)
+  pub same : take w work′ ≡ take w work
 
--- ---- one column: its list of children lies where the first numbers of work say, the W of the columns stand from w to k, the keys behind
+-- ---- one column: its list of children lies where the first numbers of work say
 
 -- the children of j as they lie
 abbrev pub siblingsAt : List ℕ → List ℕ → ℕ → List ℕ
@@ -51,9 +47,9 @@ pub record Placed (factor list work : List ℕ) (scratch j w k : ℕ) : Type 0 w
   pub room : k + (k - w) ≤ length work
   pub enough : length list ≤ scratch
 
--- the children of j by descending key
+-- the children of j as they lie, by descending key
 abbrev pub sortedIn : ℕ → List ℕ → List ℕ → List ℕ → ℕ → ℕ → ℕ → List ℕ
-sortedIn mark factor list work j w k = sort (keyAt mark factor (part w k work) j) (siblingsAt work list j)
+sortedIn mark factor list work j w k = sortedBy mark factor (siblingsAt work list j) work j w k
 
 -- they stand in their place, and the W of j in its own; what lies before the W is as it was
 pub record Arranged (mark : ℕ) (factor list work list′ work′ : List ℕ) (j w k : ℕ) : Type 0 where

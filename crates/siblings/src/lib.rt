@@ -1,74 +1,27 @@
-// Siblings arranged by the mark: their keys, each list sorted in its place, and W.
-ghost use mathlib.Core.Path.{_≡_};
-ghost use Prim.Native.Nat.{_+_, _-_, _≤_};
+// Siblings arranged by the mark: each list sorted by its keys, in its place, and the W of each column stored.
 ghost use lib.ListN.{length};
-ghost use Rattle.papers.specs.Bounds.{maxColumns};
-ghost use Rattle.papers.specs.Order.{siblingKey};
-ghost use Rattle.tree.specs.Laid.{part};
-ghost use Rattle.siblings.specs.Arranged.{keyAt, needAt, Kids, Keyed, Placed, Arranged, Arrangeable, AllArranged};
+ghost use Rattle.siblings.specs.Arranged.{Sortable, Sorted, Placed, Arranged, Arrangeable, AllArranged};
 
-// The key by which siblings descend: of a child with its rows and its W, under a parent with `above` rows.
-fn sibling_key(mark: u64, above: u64, rows: u64, w: u64) -> u64
-    requires { ⌜ rows ≤ maxColumns ⌝ }
-    ensures { λ r. ⌜ r ≡ siblingKey mark above rows w ⌝ }
-{
-    let update = room::triangle(rows);
-    if mark == 0 {
-        return 0;
-    }
-    if mark == 1 {
-        if w < update {
-            return 0;
-        }
-        return w - update;
-    }
-    update
-}
-
-// Stores the key of each child of column j: the W of the columns stand in work from w on, the keys from k on. The first i are stored.
-fn store_keys(
+// Sorts the children of column j by the mark and stores the W of j: the keys, the sort, and W from the sorted children.
+fn sort_kids(
     mark: u64,
     factor: &[u64],
-    kids: &[u32],
-    j: usize,
+    kids: &mut [u32],
+    scratch: &mut [u32],
     work: &mut [u64],
+    j: usize,
     w: usize,
     k: usize,
 )
-    requires kids { ⌜ Kids (now factor) (part w k (now work)) (now kids) j ⌝ }
-    requires room { ⌜ (w ≤ k) × (k + (k - w) ≤ length (now work)) ⌝ }
-    ensures { λ _. ⌜ Keyed k (keyAt mark (now (factor .entry)) (part w k (now (work .entry))) j) (now (kids .entry)) (now (work .entry)) (now (work .exit)) ⌝ }
+    requires { ⌜ Sortable (now factor) (now kids) (now work) (length (now scratch)) j w k ⌝ }
+    ensures { λ _. ⌜ Sorted mark (now (factor .entry)) (now (kids .entry)) (now (work .entry)) (now (kids .exit)) (now (work .exit)) j w k ⌝ }
 {
-    let above = room::rows_of(factor, j);
-    let mut i = 0;
-    while i < kids.len() {
-        let c = kids[i] as usize;
-        let rows = room::rows_of(factor, c);
-        work[k + c] = sibling_key(mark, above, rows, work[w + c]);
-        i += 1;
-    }
+    sibling_keys::store_keys(mark, factor, kids, j, work, w, k);
+    sibling_sort::sort_columns(&work[k..], kids, scratch);
+    work[w + j] = sibling_keys::room_alone(factor, &work[w..k], kids, j);
 }
 
-// The W of column j from those of its children, done in this order. held has the entries of the updates so far, before those but the last.
-fn room_alone(factor: &[u64], rooms: &[u64], kids: &[u32], j: usize) -> u64
-    requires { ⌜ Kids (now factor) (now rooms) (now kids) j ⌝ }
-    ensures { λ r. ⌜ r ≡ needAt (now (factor .entry)) (now (rooms .entry)) (now (kids .entry)) j ⌝ }
-{
-    let mut most = 0;
-    let mut before = 0;
-    let mut held = 0;
-    let mut i = 0;
-    while i < kids.len() {
-        let c = kids[i] as usize;
-        most = room::greater(most, held + rooms[c]);
-        before = held;
-        held = held + room::triangle(room::rows_of(factor, c));
-        i += 1;
-    }
-    room::greater(most, before + room::triangle(room::rows_of(factor, j) + 1))
-}
-
-// Arranges the children of column j, in their place in the lists, and stores the W of j: the keys, the sort, and W from the sorted children.
+// Arranges the children of column j in their place in the lists, and stores the W of j.
 fn arrange_at(
     mark: u64,
     factor: &[u64],
@@ -84,9 +37,7 @@ fn arrange_at(
 {
     let a = work[j] as usize;
     let e = work[j + 1] as usize;
-    store_keys(mark, factor, &list[a..e], j, work, w, k);
-    sibling_sort::sort_columns(&work[k..], &mut list[a..e], scratch);
-    work[w + j] = room_alone(factor, &work[w..k], &list[a..e], j);
+    sort_kids(mark, factor, &mut list[a..e], scratch, work, j, w, k);
 }
 
 // Arranges the children of every column, in their places, columns ascending: a child's W is known when its parent's children are sorted.

@@ -7,22 +7,11 @@ ghost use mathlib.Core.List.{List};
 ghost use Prim.Native.Nat.{ℕ, _≤_};
 ghost use lib.Dec.{ltb};
 ghost use lib.ListN.{length};
-ghost use Rattle.papers.specs.Refusals.{answer, Outcome};
+ghost use Rattle.papers.specs.Refusals.{Outcome};
 ghost use Rattle.papers.specs.Run.{ran};
 ghost use Rattle.front.specs.Factor.{Factor};
-ghost use Rattle.run_step.specs.Kept.{callOf};
+ghost use Rattle.held_updates.specs.Kept.{callOf};
 ghost use Rattle.stack_run.specs.Steps.{stepsAnswer};
-
-// An answer, of its three numbers.
-fn answered(number: u64, place: u64, count: u64) -> Answer
-    ensures { λ r. ⌜ r ≡ answer number place count ⌝ }
-{
-    Answer {
-        number,
-        place,
-        count,
-    }
-}
 
 // 7: whether columns, pops or stack list are shorter than n.
 fn too_short(n: u64, columns: &[u32], pops: &[u32], stack: &[u32]) -> bool
@@ -63,15 +52,15 @@ fn steps(
     while done < n {
         let fault = run_step::step_fault(n, starts, rows, columns, pops, room, stack, held, done);
         if fault != 0 {
-            return answered(fault, done + 1, held.greatest);
+            return basics::answered(fault, done + 1, held.greatest);
         }
         held = run_step::take_step(n, starts, rows, columns, pops, stack, held, done);
         done += 1;
     }
     if held.count != 0 {
-        return answered(24, n, held.greatest);
+        return basics::answered(24, n, held.greatest);
     }
-    answered(0, 0, held.greatest)
+    basics::answered(0, 0, held.greatest)
 }
 
 // Runs n steps, each a column and its pops, on a factor's lists within a room. Refuses 1, 4, 5, 6, 7 before the first step, with the stack list
@@ -88,7 +77,7 @@ pub fn run(
     ensures { λ r. ⌜ _≡_ {A = Outcome (List ℕ)} (record { answer = r; lent = now (stack .exit) }) (ran (record { n = n; starts = now (starts .entry); rows = now (rows .entry); columns = now (columns .entry); pops = now (pops .entry); room = room; stack = now (stack .entry) })) ⌝ }
 {
     if papers::MAX_COLUMNS < n {
-        return answered(1, 0, 0);
+        return basics::answered(1, 0, 0);
     }
     let of_starts = job::starts_fault(n, starts, rows);
     if of_starts.number != 0 {
@@ -99,7 +88,7 @@ pub fn run(
         return of_rows;
     }
     if too_short(n, columns, pops, stack) {
-        return answered(7, 0, 0);
+        return basics::answered(7, 0, 0);
     }
     let answer = steps(n, starts, rows, columns, pops, room, stack);
     slices::clear32(stack);

@@ -6,3 +6,4 @@ pub mod Blocks
 pub mod Descendants
 pub mod Tallies
 pub mod Laying
+pub mod OnePlaced

@@ -1,6 +1,5 @@
 -- Parts of slices: what a store, a part that came back, or a change further on leaves of them.
 -- Assumes nothing.
--- the two forms of a part
 use Prim.Native.Nat.{ℕ, zero, suc, _+_, _-_, _<_, _≤_}
 use mathlib.Core.Path.{_≡_, refl, sym, ap, _∙_}
 use mathlib.Core.List.{List, [], _∷_, _++_, append-assoc}
@@ -10,6 +9,7 @@ use lib.Seq.{sets, sets-eq, slice, take-nil, drop-drop, drop-set-add, take-set-l
 use Rattle.tree.proofs.Slices.{slice-low, slice-high}
 use Rattle.tree.specs.Laid.{part}
 
+-- the two forms of a part
 pub part-slice : (a e : ℕ) (l : List ℕ) → part a e l ≡ slice a e l
 part-slice zero e l = let z : e - 0 ≡ e = omega arith in rw z
 part-slice (suc a) zero l = let z : zero - suc a ≡ 0 = omega arith in rw z

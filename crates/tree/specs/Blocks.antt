@@ -1,12 +1,12 @@
 -- Steps in blocks: a column's subtree done with its children as their lists have them.
 -- Assumes nothing.
--- the steps of column j's subtree, the children in the order of their lists, which mark 0 keeps; a depth of j is enough, and 0 has no step
 use Prim.Native.Nat.{ℕ, _+_}
 use mathlib.Core.List.{List, flatMap}
 use lib.ListN.{getD}
 use lib.Seq.{slice}
 use Rattle.papers.specs.Order.{stepsOf}
 
+-- the steps of column j's subtree, the children in the order of their lists, which mark 0 keeps; a depth of j is enough, and 0 has no step
 unfoldable pub block : (ℕ → List ℕ) → ℕ → List ℕ
 block kids j = stepsOf 0 (λ c. 0) kids j j
 

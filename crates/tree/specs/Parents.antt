@@ -1,12 +1,12 @@
 -- The tree that a list of parents names.
 -- Assumes nothing.
--- the parent of column j, 0 for a root; the list has column 1's first
 use Prim.Native.Nat.{ℕ, zero, suc}
 use mathlib.Core.List.{List}
 use lib.ListN.{length, getD}
 use Rattle.papers.specs.Tree.{children}
 use Rattle.order_laws.specs.Parents.{Tree}
 
+-- the parent of column j, 0 for a root; the list has column 1's first
 unfoldable pub parentIn : List ℕ → ℕ → ℕ
 parentIn parents zero = 0
 parentIn parents (suc i) = getD parents i 0

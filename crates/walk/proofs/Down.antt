@@ -1,7 +1,6 @@
 -- The column task: a column's steps are those of its children and itself last; the block that is handed back is all that is left to write,
 -- and behind a leaf nothing is left.
 -- Assumes nothing.
--- more room than is asked
 use Prim.Native.Nat.{ℕ, _+_, _-_, _<_, _≤_}
 use mathlib.Core.Path.{_≡_, refl, _∙_}
 use mathlib.Core.Logic.{_≢_}
@@ -12,9 +11,12 @@ use lib.Seq.{sets}
 use Rattle.list_laws.proofs.Stores.{sets-append}
 use Rattle.tree.specs.Blocks.{kidsAt}
 use Rattle.tree.proofs.Blocks.{block-none, block-is, block-count}
+use Rattle.walk.specs.Levels.{levels}
 use Rattle.walk.specs.Tasks.{Laid, Asked, ownSteps, kidsSteps}
+use Rattle.walk.proofs.Levels.{levels-mono}
 use Rattle.walk.proofs.Runs.{set-sets}
 
+-- more room than is asked
 pub wider : {starts list counts steps : List ℕ} {j left at room more : ℕ} → room ≤ more → Asked starts list counts j left at room steps → Asked starts list counts j left at more steps
 wider h a = let f = a .fits in record { laid = a .laid; known = a .known; count = a .count; fits = omega arith }
 
@@ -41,6 +43,10 @@ down-start a = record { asks = record { laid = a .laid; known = a .known; count 
 module _ {starts list counts d₀ d : List ℕ} {j left at c size a : ℕ} (inv : Down starts list counts j left d₀ at d c size a) where
   pub down-stop : c ≡ 0 → d ≡ sets d₀ at (ownSteps starts list j)
   down-stop z = let none : ownSteps starts list c ≡ [] = rw z (block-none (kidsAt starts list)) in rw none at (inv .stored)
+
+  -- the children of c take no more levels than j
+  pub down-levels : levels (size - 1) ≤ levels left
+  down-levels = levels-mono (size - 1) left (omega (arith, inv .asks .fits, inv .after))
 
   module _ (some : c ≢ 0) where
     pub down-size : size ≡ length (kidsSteps starts list c) + 1

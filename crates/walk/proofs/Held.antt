@@ -1,10 +1,9 @@
 -- The siblings' task: one block is held, those of the siblings from place i on are still to be written, and with both all is written. Of two
 -- blocks the one that is done is at most half of the siblings' steps.
 -- Assumes nothing.
--- the steps of the siblings from place i of the lists on
 use Prim.Native.Nat.{ℕ, _+_, _<_, _≤_}
 use mathlib.Core.Path.{_≡_, refl, sym, ap, _∙_}
-use mathlib.Core.Logic.{_⊎_, inl, inr}
+use mathlib.Core.Logic.{⊎-elim}
 use mathlib.Core.List.{List, _++_}
 use native.Mathlib.Omega.{arith}
 use lib.ListN.{length, getD, length-append}
@@ -21,6 +20,7 @@ use Rattle.walk.proofs.Levels.{levels-half}
 use Rattle.walk.proofs.Runs.{sets-comm}
 use Rattle.walk.proofs.Down.{wider, no-steps}
 
+-- the steps of the siblings from place i of the lists on
 abbrev pub laterSteps : List ℕ → List ℕ → ℕ → ℕ → List ℕ
 laterSteps starts list j i = blocks (kidsAt starts list) (slice i (getD starts (j + 1) 0) list)
 
@@ -64,11 +64,9 @@ module _ {starts list counts d₀ d : List ℕ} {j left at i a held size first :
   module _ (more : a < at + left) where
     -- there is a sibling at place i
     in-list : i < getD starts (j + 1) 0
-    in-list = go (below-or i (getD starts (j + 1) 0))
-      where
-        go : (i < getD starts (j + 1) 0) ⊎ (getD starts (j + 1) 0 ≤ i) → i < getD starts (j + 1) 0
-        go (inl h) = h
-        go (inr h) = absurd (omega (arith, inv .place, ap length (blocks-none (kidsAt starts list) list i (getD starts (j + 1) 0) h)))
+    in-list =
+        let e = getD starts (j + 1) 0 in
+        ⊎-elim (λ (h : i < e). h) (λ (h : e ≤ i). absurd (omega (arith, inv .place, ap length (blocks-none (kidsAt starts list) list i e h)))) (below-or i e)
 
     inside : getD starts (j + 1) 0 ≤ length list
     inside = inv .asks .laid .inside j (inv .known)
@@ -112,10 +110,10 @@ module _ {starts list counts d₀ d : List ℕ} {j left at i a held size first :
 
       -- whichever of the two is done, it is at most half of the siblings' steps
       pub child-half : count ≤ size → levels count < levels left
-      child-half h = levels-half count left (omega (arith, r .1, held-place, inv .asks .fits, inv .after)) (omega (arith, held-place, inv .asks .fits, inv .after))
+      child-half h = let f = inv .asks .fits in levels-half count left (omega (arith, r .1, held-place, inv .after)) (omega (arith, held-place, inv .after))
 
       pub held-half : size < count → levels size < levels left
-      held-half h = levels-half size left (omega (arith, held-place, inv .asks .fits, inv .after)) (omega (arith, held-place, inv .asks .fits, inv .after))
+      held-half h = let f = inv .asks .fits in levels-half size left (omega (arith, held-place, inv .after)) (omega (arith, held-place, inv .after))
 
       -- the child's steps are written, and those behind it then
       both : (m : List ℕ) → sets (sets m a (ownSteps starts list c)) (a + count) (laterSteps starts list j (i + 1)) ≡ sets m a (laterSteps starts list j i)
@@ -123,9 +121,8 @@ module _ {starts list counts d₀ d : List ℕ} {j left at i a held size first :
 
       -- the child is done, the held one stays
       pub child-done : {d′ : List ℕ} → d′ ≡ sets d place (ownSteps starts list c) → Held starts list counts j left d₀ at d′ (i + 1) (a + count) held size first
-      child-done {d′} q =
+      child-done q =
           let held-steps = ownSteps starts list held in
-          let q′ : d′ ≡ sets d a (ownSteps starts list c) = rw (r .2) at q in
           record {
             asks = wider (omega arith) (inv .asks);
             known = inv .known;
@@ -133,8 +130,8 @@ module _ {starts list counts d₀ d : List ℕ} {j left at i a held size first :
             lower = inv .lower;
             after = inv .after;
             place = held-place;
-            stored = rw (q′, sets-comm (ownSteps starts list c) held-steps d first a (omega (arith, inv .asks .fits, inv .asks .count))) (both (sets d first held-steps) ∙ inv .stored);
-            long = rw q′ (length-sets d a (ownSteps starts list c) ∙ inv .long);
+            stored = rw (q, r .2, sets-comm (ownSteps starts list c) held-steps d first a (omega (arith, inv .asks .fits, inv .asks .count))) (both (sets d first held-steps) ∙ inv .stored);
+            long = rw q (length-sets d place (ownSteps starts list c) ∙ inv .long);
             room = inv .room;
           }
 

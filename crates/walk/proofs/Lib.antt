@@ -2,3 +2,4 @@ pub mod Levels
 pub mod Runs
 pub mod Down
 pub mod Held
+pub mod Depth

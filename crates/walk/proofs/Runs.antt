@@ -1,6 +1,5 @@
 -- Two runs of stores that do not meet may be done in either order.
 -- Assumes nothing.
--- a store behind a run
 use Prim.Native.Nat.{ℕ, suc, _+_, _≤_}
 use mathlib.Core.Path.{_≡_, refl, ap, _∙_}
 use mathlib.Core.Logic.{_≢_}
@@ -9,6 +8,7 @@ use native.Mathlib.Omega.{arith}
 use lib.ListN.{length, set}
 use lib.Seq.{sets, set-comm}
 
+-- a store behind a run
 pub set-sets : (x l : List ℕ) (i k v : ℕ) → i + length x ≤ k → sets (set l k v) i x ≡ set (sets l i x) k v
 set-sets [] l i k v h = refl
 set-sets (y ∷ x) l i k v h =

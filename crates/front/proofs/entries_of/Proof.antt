@@ -12,11 +12,11 @@ use Rattle.front.proofs.entries_of.Tie as tie
 rows-of-requires : tie.Need-rows-of-requires
 rows-of-requires c κs = search needs
 
-triangle-requires : tie.Need-triangle-requires
-triangle-requires c κs = let few = c .before .before .before .pre .0 .few in omega (arith, column-fits (c .before .before .before .pre .0) (c .before .before .before .pre .1), ap length (c .rows-of .ensures))
+entries-requires : tie.Need-entries-requires
+entries-requires c κs = let few = c .before .before .before .pre .0 .few in omega (arith, column-fits (c .before .before .before .pre .0) (c .before .before .before .pre .1), ap length (c .rows-of .ensures))
 
 returns : tie.Need-returns
-returns c = c .triangle .ensures ∙ ap (λ l. t (length l)) (c .before .rows-of .ensures)
+returns c = c .entries .ensures ∙ ap (λ l. t (length l)) (c .before .rows-of .ensures)
 
 pub entries-of-spec : {M : Type 1} → statement M
-entries-of-spec = tie.close (tie.spec rows-of-requires triangle-requires returns)
+entries-of-spec = tie.close (tie.spec rows-of-requires entries-requires returns)

@@ -18,10 +18,15 @@ slice-reshare-prefix-count-pops : tie.Need-slice-reshare-prefix-count-pops
 slice-reshare-prefix-count-pops c = search needs
 
 slice-aggregate-count-pops : tie.Need-slice-aggregate-count-pops
-slice-aggregate-count-pops c = sym (length-take-le _ (c .before .before .before .before .before .before .before .write-steps .last .1 .1 .1 .1 .1 .0) (omega (arith, c .before .before .before .before .before .before .before .write-steps .kept .1 .1 .1 .1 .1 .0, c .before .before .before .before .before .before .before .before .before .before .before .before .before .before .before .before .pre .work-length)))
+slice-aggregate-count-pops c =
+    let write-steps = c .before .before .before .before .before .before .before .write-steps in
+    sym (length-take-le _ (write-steps .last .1 .1 .1 .1 .1 .0) (omega (arith, write-steps .kept .1 .1 .1 .1 .1 .0, c .before .before .before .before .before .before .before .before .before .before .before .before .before .before .before .before .pre .work-length)))
 
 count-pops-requires : tie.Need-count-pops-requires
-count-pops-requires c κs = (pops-asked (c .before .before .before .before .before .before .before .before .before .before .before .before .before .before .before .before .before .before .pre) (c .before .before .before .before .before .before .before .before .before .write-steps .last .1 .1 .1 .1 .1 .0) (c .before .before .before .before .before .before .before .before .before .write-steps .kept .1 .1 .1 .1 .1 .0) (c .before .before .before .before .before .before .before .before .before .write-steps .ensures .1) (c .before .before .before .before .before .before .before .before .before .write-steps .ensures .0), omega (arith, c .before .before .before .before .before .before .before .before .before .write-steps .kept .1 .1 .1 .0, c .before .before .before .before .before .before .before .before .before .write-steps .kept .1 .1 .1 .1 .0, c .before .before .before .before .before .before .before .before .before .before .before .before .before .before .before .before .before .before .pre .order-length, c .before .before .before .before .before .before .before .before .before .before .before .before .before .before .before .before .before .before .pre .pops-length))
+count-pops-requires c κs =
+    let pre = c .before .before .before .before .before .before .before .before .before .before .before .before .before .before .before .before .before .before .pre in
+    let write-steps = c .before .before .before .before .before .before .before .before .before .write-steps in
+    (pops-asked pre (write-steps .last .1 .1 .1 .1 .1 .0) (write-steps .kept .1 .1 .1 .1 .1 .0) (write-steps .ensures .1) (write-steps .ensures .0), omega (arith, write-steps .kept .1 .1 .1 .0, write-steps .kept .1 .1 .1 .1 .0, pre .order-length, pre .pops-length))
 
 peak-requires : tie.Need-peak-requires
 peak-requires c κs =

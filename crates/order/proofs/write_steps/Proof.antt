@@ -4,39 +4,44 @@ use mathlib.Core.Path.{sym, _∙_}
 use native.Mathlib.Omega.{arith}
 use lib.Seq.{length-take-le}
 use borrow.Author.Needs.{needs}
-use Rattle.order.proofs.Walked.{walk-asked, walk-wrote, arrange-asked, lists-lie, starts-lie}
+use Rattle.order.proofs.Walked.{walk-asked, walk-wrote}
+use Rattle.order.proofs.Lying.{arrange-asked, lists-lie, starts-lie}
 use Rattle.order.proofs.write_steps.Statement.{statement}
 use Rattle.order.proofs.write_steps.Tie as tie
 
 add-m : tie.Need-add-m
-add-m c = search needs
+add-m c = omega (arith, c .before .before .before .before .before .pre .columns)
 
 add-w : tie.Need-add-w
-add-w c = search needs
+add-w c = omega (arith, c .before .before .before .before .before .pre .columns)
 
 add-w-2 : tie.Need-add-w-2
-add-w-2 c = search needs
+add-w-2 c = omega (arith, c .before .before .before .before .before .pre .columns)
 
 add-k : tie.Need-add-k
-add-k c = search needs
+add-k c = omega (arith, c .before .before .before .before .before .pre .columns)
 
 add-k-2 : tie.Need-add-k-2
-add-k-2 c = search needs
+add-k-2 c = omega (arith, c .before .before .before .before .before .pre .columns)
 
 lay-out-requires : tie.Need-lay-out-requires
-lay-out-requires c κs = search needs
+lay-out-requires c κs = (c .before .before .before .before .before .before .before .pre .rowed .tree, (c .before .before .before .before .before .before .before .pre .pops-length, omega (arith, c .before .before .before .before .before .before .before .pre .columns), omega (arith, c .before .before .before .before .before .before .before .pre .work-length)))
 
 arrange-requires : tie.Need-arrange-requires
-arrange-requires c κs = arrange-asked (c .before .before .before .before .before .before .before .before .before .before .before .before .before .before .before .pre) (c .before .before .before .before .before .before .before .lay-out .ensures) (c .before .before .before .before .before .before .before .lay-out .kept .1 .0) (c .before .before .before .before .before .before .before .lay-out .kept .1 .1 .0)
+arrange-requires c κs =
+    let lay-out = c .before .before .before .before .before .before .before .lay-out in
+    arrange-asked (c .before .before .before .before .before .before .before .before .before .before .before .before .before .before .before .pre) (lay-out .ensures) (lay-out .kept .1 .0) (lay-out .kept .1 .1 .0)
 
 slice-aggregate-steps : tie.Need-slice-aggregate-steps
-slice-aggregate-steps c = sym (length-take-le _ (c .before .before .before .before .before .before .before .before .arrange .last .1 .1 .1 .1 .0) (omega (arith, c .before .before .before .before .before .before .before .before .arrange .kept .1 .1 .1 .1 .0, c .before .before .before .before .before .before .before .before .before .before .before .before .before .before .before .before .lay-out .kept .1 .1 .0, c .before .before .before .before .before .before .before .before .before .before .before .before .before .before .before .before .before .before .before .before .before .before .before .before .pre .work-length)))
+slice-aggregate-steps c =
+    let arrange = c .before .before .before .before .before .before .before .before .arrange in
+    sym (length-take-le _ (arrange .last .1 .1 .1 .1 .0) (omega (arith, arrange .kept .1 .1 .1 .1 .0, c .before .before .before .before .before .before .before .before .before .before .before .before .before .before .before .before .lay-out .kept .1 .1 .0, c .before .before .before .before .before .before .before .before .before .before .before .before .before .before .before .before .before .before .before .before .before .before .before .before .pre .work-length)))
 
 mul-steps : tie.Need-mul-steps
-mul-steps c = search needs
+mul-steps c = omega (arith, c .before .before .before .before .before .before .before .before .before .before .before .before .before .before .before .before .before .before .before .before .before .before .before .before .before .pre .columns)
 
 sub-steps : tie.Need-sub-steps
-sub-steps c = search needs
+sub-steps c = omega arith
 
 part-steps-start : tie.Need-part-steps-start
 part-steps-start c = search needs
@@ -45,19 +50,27 @@ part-steps-end : tie.Need-part-steps-end
 part-steps-end c = search needs
 
 steps-requires : tie.Need-steps-requires
-steps-requires c κs = walk-asked (lists-lie (c .before .before .before .before .before .before .before .before .before .before .before .before .before .before .before .before .before .before .before .before .before .before .before .before .before .before .before .pre) (c .before .before .before .before .before .before .before .before .before .before .before .before .before .before .before .before .before .before .before .lay-out .ensures) (c .before .before .before .before .before .before .before .before .before .before .before .before .before .before .before .before .before .before .before .lay-out .kept .1 .0) (c .before .before .before .before .before .before .before .before .before .before .before .before .before .before .before .before .before .before .before .lay-out .kept .1 .1 .0) (c .before .before .before .before .before .before .before .before .before .before .before .arrange .ensures) (c .before .before .before .before .before .before .before .before .before .before .before .arrange .kept .1 .1 .0)) _ (c .before .before .before .before .before .before .before .before .before .before .before .arrange .kept .1 .1 .1 .0 ∙ c .before .before .before .before .before .before .before .before .before .before .before .before .before .before .before .before .before .before .before .before .before .before .before .before .before .before .before .pre .order-length)
+steps-requires c κs =
+    let pre = c .before .before .before .before .before .before .before .before .before .before .before .before .before .before .before .before .before .before .before .before .before .before .before .before .before .before .before .pre in
+    let lay-out = c .before .before .before .before .before .before .before .before .before .before .before .before .before .before .before .before .before .before .before .lay-out in
+    let arrange = c .before .before .before .before .before .before .before .before .before .before .before .arrange in
+    walk-asked (lists-lie pre (lay-out .ensures) (lay-out .kept .1 .0) (lay-out .kept .1 .1 .0) (arrange .ensures) (arrange .kept .1 .1 .0)) _ (arrange .kept .1 .1 .1 .0 ∙ pre .order-length)
 
 same-length : tie.Need-same-length
-same-length c = search needs
+same-length c = c .before .before .steps .kept .1 .1 .1 .1 .0 ∙ c .before .before .before .before .before .before .before .before .before .before .before .before .before .before .arrange .kept .1 .1 .1 .0
 
 same-length-2 : tie.Need-same-length-2
-same-length-2 c = search needs
+same-length-2 c = c .before .before .before .before .before .before .before .before .before .before .before .before .before .before .arrange .kept .1 .1 .0 ∙ c .before .before .before .before .before .before .before .before .before .before .before .before .before .before .before .before .before .before .before .before .before .before .lay-out .kept .1 .0
 
 same-length-3 : tie.Need-same-length-3
-same-length-3 c = search needs
+same-length-3 c = c .before .before .before .before .before .before .before .before .before .before .before .before .before .before .arrange .kept .1 .1 .1 .1 .0 ∙ c .before .before .before .before .before .before .before .before .before .before .before .before .before .before .before .before .before .before .before .before .before .before .lay-out .kept .1 .1 .0
 
 returns : tie.Need-returns
-returns c = (walk-wrote (lists-lie (c .before .before .before .before .before .before .before .before .before .before .before .before .before .before .before .before .before .before .before .before .before .before .before .before .before .before .before .before .before .before .pre) (c .before .before .before .before .before .before .before .before .before .before .before .before .before .before .before .before .before .before .before .before .before .before .lay-out .ensures) (c .before .before .before .before .before .before .before .before .before .before .before .before .before .before .before .before .before .before .before .before .before .before .lay-out .kept .1 .0) (c .before .before .before .before .before .before .before .before .before .before .before .before .before .before .before .before .before .before .before .before .before .before .lay-out .kept .1 .1 .0) (c .before .before .before .before .before .before .before .before .before .before .before .before .before .before .arrange .ensures) (c .before .before .before .before .before .before .before .before .before .before .before .before .before .before .arrange .kept .1 .1 .0)) (c .before .before .before .before .before .before .before .before .before .before .before .before .before .before .arrange .last .1 .1 .1 .0) (c .before .before .before .before .before .before .before .before .before .before .before .before .before .before .arrange .kept .1 .1 .1 .0 ∙ c .before .before .before .before .before .before .before .before .before .before .before .before .before .before .before .before .before .before .before .before .before .before .before .before .before .before .before .before .before .before .pre .order-length) (c .before .before .steps .ensures), starts-lie (c .before .before .before .before .before .before .before .before .before .before .before .before .before .before .before .before .before .before .before .before .before .before .before .before .before .before .before .before .before .before .pre) (c .before .before .before .before .before .before .before .before .before .before .before .before .before .before .before .before .before .before .before .before .before .before .lay-out .ensures) (c .before .before .before .before .before .before .before .before .before .before .before .before .before .before .before .before .before .before .before .before .before .before .lay-out .kept .1 .0) (c .before .before .before .before .before .before .before .before .before .before .before .before .before .before .before .before .before .before .before .before .before .before .lay-out .kept .1 .1 .0) (c .before .before .before .before .before .before .before .before .before .before .before .before .before .before .arrange .ensures) (c .before .before .before .before .before .before .before .before .before .before .before .before .before .before .arrange .kept .1 .1 .0))
+returns c =
+    let pre = c .before .before .before .before .before .before .before .before .before .before .before .before .before .before .before .before .before .before .before .before .before .before .before .before .before .before .before .before .before .before .pre in
+    let lay-out = c .before .before .before .before .before .before .before .before .before .before .before .before .before .before .before .before .before .before .before .before .before .before .lay-out in
+    let arrange = c .before .before .before .before .before .before .before .before .before .before .before .before .before .before .arrange in
+    (walk-wrote (lists-lie pre (lay-out .ensures) (lay-out .kept .1 .0) (lay-out .kept .1 .1 .0) (arrange .ensures) (arrange .kept .1 .1 .0)) (arrange .last .1 .1 .1 .0) (arrange .kept .1 .1 .1 .0 ∙ pre .order-length) (c .before .before .steps .ensures), starts-lie pre (lay-out .ensures) (lay-out .kept .1 .0) (lay-out .kept .1 .1 .0) (arrange .ensures) (arrange .kept .1 .1 .0))
 
 pub write-steps-spec : {M : Type 1} → statement M
 write-steps-spec =

@@ -1,6 +1,5 @@
 -- The loop's invariant: the pops of the first k steps are written. The measure is how many are left.
 -- Assumes nothing.
--- the pops of the first k steps are written
 use Prim.Native.Nat.{ℕ, _+_, _-_, _<_, _≤_}
 use mathlib.Core.Path.{_≡_, refl, _∙_}
 use mathlib.Core.List.{List, [], _∷_, map, map-append}
@@ -13,6 +12,7 @@ use Rattle.room.specs.Rows.{countAt}
 use Rattle.room.proofs.count_pops.Statement.{statement}
 use Rattle.room.proofs.count_pops.Tie as tie
 
+-- the pops of the first k steps are written
 record Writing (starts order pops₀ pops : List ℕ) (k : ℕ) : Type 0 where
   done : take k pops ≡ map (countAt starts) (take k order)
   seen : k ≤ length order

@@ -5,6 +5,7 @@ use mathlib.Core.Path.{ap}
 use native.Mathlib.Omega.{arith}
 use lib.ListN.{getD, set}
 use borrow.Author.Needs.{needs}
+use Rattle.room.proofs.Entries.{entries-fit}
 use Rattle.room.proofs.hold.Statement.{statement}
 use Rattle.room.proofs.hold.Tie as tie
 
@@ -17,11 +18,11 @@ mul-below c = search needs
 slice-read-below : tie.Need-slice-read-below
 slice-read-below c = search needs
 
-triangle-requires : tie.Need-triangle-requires
-triangle-requires c κs = search needs
+entries-requires : tie.Need-entries-requires
+entries-requires c κs = search needs
 
 add-below : tie.Need-add-below
-add-below c = let h = c .before .before .before .pre .light (c .before .before .before .args .depth - c .before .before .before .args .pops) (omega arith) in omega (arith, c .triangle .ensures)
+add-below c = let e = c .before .before .before in omega (arith, e .pre .light (e .args .depth - e .args .pops) (omega arith), c .entries .ensures, entries-fit (e .args .rows) (omega (arith, e .pre .few)))
 
 add-below-2 : tie.Need-add-below-2
 add-below-2 c = search needs
@@ -44,7 +45,7 @@ same-length c = search needs
 returns : tie.Need-returns
 returns c = let e = c .before .before .before .before .args in
     let left = e .depth - e .pops in
-    (omega (arith, c .at-most-one .ensures), ap (λ (v : ℕ). set (e .below .now) (left + 1) (getD (e .below .now) left 0 + v)) (c .before .triangle .ensures .0))
+    (omega (arith, c .at-most-one .ensures), ap (λ (v : ℕ). set (e .below .now) (left + 1) (getD (e .below .now) left 0 + v)) (c .before .entries .ensures))
 
 pub hold-spec : {M : Type 1} → statement M
 hold-spec =
@@ -53,7 +54,7 @@ hold-spec =
     sub-left
     mul-below
     slice-read-below
-    triangle-requires
+    entries-requires
     add-below
     add-below-2
     mul-below-2

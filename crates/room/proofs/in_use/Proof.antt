@@ -7,6 +7,7 @@ use native.Mathlib.Omega.{arith}
 use lib.ListN.{getD}
 use borrow.Author.Needs.{needs}
 use Rattle.papers.specs.Tree.{t}
+use Rattle.room.proofs.Entries.{entries-fit}
 use Rattle.room.proofs.in_use.Statement.{statement}
 use Rattle.room.proofs.in_use.Tie as tie
 
@@ -25,17 +26,17 @@ mul-result c = search needs
 shared-slice-read-result : tie.Need-shared-slice-read-result
 shared-slice-read-result c = search needs
 
-add-triangle : tie.Need-add-triangle
-add-triangle c = search needs
+add-entries : tie.Need-add-entries
+add-entries c = search needs
 
-triangle-requires : tie.Need-triangle-requires
-triangle-requires c κs = search needs
+entries-requires : tie.Need-entries-requires
+entries-requires c κs = search needs
 
 add-result : tie.Need-add-result
-add-result c = let h = c .before .before .before .before .pre .light (c .before .before .before .before .args .depth - c .before .before .at-most-one .result) (omega arith) in omega (arith, c .triangle .ensures)
+add-result c = let e = c .before .before .before .before in omega (arith, e .pre .light (e .args .depth - c .before .before .at-most-one .result) (omega arith), c .entries .ensures, entries-fit (e .args .rows + 1) (omega (arith, e .pre .few)))
 
 returns : tie.Need-returns
-returns c = let e = c .before .before .before .before .args in room-is (e .below .now) (e .depth) (e .pops) (e .rows) (c .before .before .at-most-one .ensures) (c .triangle .ensures .0)
+returns c = let e = c .before .before .before .before .args in room-is (e .below .now) (e .depth) (e .pops) (e .rows) (c .before .before .at-most-one .ensures) (c .entries .ensures)
 
 pub in-use-spec : {M : Type 1} → statement M
 in-use-spec =
@@ -45,7 +46,7 @@ in-use-spec =
     sub-result
     mul-result
     shared-slice-read-result
-    add-triangle
-    triangle-requires
+    add-entries
+    entries-requires
     add-result
     returns)

@@ -35,13 +35,17 @@ returns-3 : tie.Need-returns-3
 returns-3 c = fault-few _ _ _ _ _ _ _ (c .before .before .before .before .before .before .before .before .before .before .before .args .held) _ (c .before .before .before .if1 .left, c .before .before .if2 .left) (c .if3 .taken)
 
 popped-fit-requires : tie.Need-popped-fit-requires
-popped-fit-requires c κs = (c .before .before .before .before .before .before .before .before .before .before .before .pre .0, (c .before .before .before .before .before .before .before .before .before .before .before .pre .1 .0, (c .if3 .left, (c .before .before .before .if1 .left, c .before .before .if2 .left))))
+popped-fit-requires c κs =
+    let pre = c .before .before .before .before .before .before .before .before .before .before .before .pre in
+    (pre .0, (pre .1 .0, (c .if3 .left, (c .before .before .before .if1 .left, c .before .before .if2 .left))))
 
 returns-4 : tie.Need-returns-4
 returns-4 c = fault-outside _ _ _ _ _ _ _ (c .before .before .before .before .before .before .before .before .before .before .before .before .before .args .held) _ (c .before .before .before .before .before .if1 .left, c .before .before .before .before .if2 .left) (c .before .before .if3 .left) (c .before .popped-fit .ensures) (not-true _ (c .if4 .taken))
 
 room-in-use-requires : tie.Need-room-in-use-requires
-room-in-use-requires c κs = (c .before .before .before .before .before .before .before .before .before .before .before .before .before .pre .0, (c .before .before .before .before .before .before .before .before .before .before .before .before .before .pre .1 .0, (c .before .before .if3 .left, (c .before .before .before .before .before .if1 .left, c .before .before .before .before .if2 .left))))
+room-in-use-requires c κs =
+    let pre = c .before .before .before .before .before .before .before .before .before .before .before .before .before .pre in
+    (pre .0, (pre .1 .0, (c .before .before .if3 .left, (c .before .before .before .before .before .if1 .left, c .before .before .before .before .if2 .left))))
 
 returns-5 : tie.Need-returns-5
 returns-5 c = fault-over _ _ _ _ _ _ _ (c .before .before .before .before .before .before .before .before .before .before .before .before .before .before .before .args .held) _ (c .before .before .before .before .before .before .before .if1 .left, c .before .before .before .before .before .before .if2 .left) (c .before .before .before .before .if3 .left) (c .before .before .before .popped-fit .ensures) (not-false _ (c .before .before .if4 .left)) (c .before .room-in-use .ensures) (c .if5 .taken)

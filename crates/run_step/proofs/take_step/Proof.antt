@@ -49,7 +49,9 @@ sub-stack : tie.Need-sub-stack
 sub-stack c = store-within (c .before .before .before .before .before .before .before .before .before .before .before .before .before .before .pre) (c .before .before .before .before .before .popped-entries .ensures) (c .before .before .entries-of .ensures) (c .before .before .before .room-in-use .ensures) (c .before .advance .ensures) (c .if1 .left) .0
 
 mul-stack : tie.Need-mul-stack
-mul-stack c = let within = store-within (c .before .before .before .before .before .before .before .before .before .before .before .before .before .before .pre) (c .before .before .before .before .before .popped-entries .ensures) (c .before .before .entries-of .ensures) (c .before .before .before .room-in-use .ensures) (c .before .advance .ensures) (c .if1 .left) in let few = c .before .before .before .before .before .before .before .before .before .before .before .before .before .before .pre .factor .few in omega arith
+mul-stack c =
+    let pre = c .before .before .before .before .before .before .before .before .before .before .before .before .before .before .pre in
+    let within = store-within pre (c .before .before .before .before .before .popped-entries .ensures) (c .before .before .entries-of .ensures) (c .before .before .before .room-in-use .ensures) (c .before .advance .ensures) (c .if1 .left) in let few = pre .factor .few in omega arith
 
 slice-write-stack : tie.Need-slice-write-stack
 slice-write-stack c = store-within (c .before .before .before .before .before .before .before .before .before .before .before .before .before .before .pre) (c .before .before .before .before .before .popped-entries .ensures) (c .before .before .entries-of .ensures) (c .before .before .before .room-in-use .ensures) (c .before .advance .ensures) (c .if1 .left) .2

@@ -3,7 +3,7 @@
 use mathlib.Core.Path.{ap, _∙_}
 use lib.ListN.{replicate}
 use borrow.Author.Needs.{needs}
-use Rattle.run_step.specs.Kept.{callOf}
+use Rattle.held_updates.specs.Kept.{callOf}
 use Rattle.stack_run.proofs.Outcomes.{run-many, run-starts, starts-pass, run-rows, factor-is, all-long, run-short, run-steps}
 use Rattle.stack_run.proofs.run.Statement.{statement}
 use Rattle.stack_run.proofs.run.Tie as tie
@@ -49,7 +49,9 @@ same-length-2 : tie.Need-same-length-2
 same-length-2 c = search needs
 
 returns-5 : tie.Need-returns-5
-returns-5 c = run-steps _ (c .before .before .before .before .before .before .before .before .before .before .before .before .before .before .before .before .before .if1 .left) (c .before .before .before .before .before .before .before .before .before .before .before .before .before .before .before .before .starts-fault .ensures) (c .before .before .before .before .before .before .before .before .before .before .before .before .before .before .if2 .left) (c .before .before .before .before .before .before .before .before .before .before .before .before .before .rows-fault .ensures) (c .before .before .before .before .before .before .before .before .before .before .before .if3 .left) (c .before .before .before .before .before .before .before .before .before .too-short .ensures) (c .before .before .before .before .before .before .before .before .if4 .left) (c .before .before .before .before .before .before .steps .ensures) (c .before .before .clear32 .ensures ∙ ap (λ k. replicate k 0) (c .before .before .before .before .before .before .steps .kept .1 .1 .1 .1 .1 .1 .0))
+returns-5 c =
+    let steps = c .before .before .before .before .before .before .steps in
+    run-steps _ (c .before .before .before .before .before .before .before .before .before .before .before .before .before .before .before .before .before .if1 .left) (c .before .before .before .before .before .before .before .before .before .before .before .before .before .before .before .before .starts-fault .ensures) (c .before .before .before .before .before .before .before .before .before .before .before .before .before .before .if2 .left) (c .before .before .before .before .before .before .before .before .before .before .before .before .before .rows-fault .ensures) (c .before .before .before .before .before .before .before .before .before .before .before .if3 .left) (c .before .before .before .before .before .before .before .before .before .too-short .ensures) (c .before .before .before .before .before .before .before .before .if4 .left) (steps .ensures) (c .before .before .clear32 .ensures ∙ ap (λ k. replicate k 0) (steps .kept .1 .1 .1 .1 .1 .1 .0))
 
 pub run-spec : {M : Type 1} → statement M
 run-spec =

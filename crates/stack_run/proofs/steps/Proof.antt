@@ -33,7 +33,9 @@ returns : tie.Need-returns Inv-loop μ-loop
 returns c = c .answered .ensures ∙ answers-fault _ _ _ _ _ _ _ (c .before .before .before .before .before .loop .inv) (c .before .before .before .before .loop-test .taken) (c .before .before .step-fault .ensures) (c .before .if1 .taken)
 
 take-step-requires : tie.Need-take-step-requires Inv-loop μ-loop
-take-step-requires c κs = ready _ _ _ _ _ _ _ (c .before .before .before .before .before .loop .inv) (c .before .before .before .before .loop-test .taken) (c .before .before .step-fault .ensures) (c .before .before .before .before .before .before .before .before .before .before .before .pre .0) (c .before .before .before .before .before .before .before .before .before .before .before .pre .1 .0) (c .before .before .before .before .before .before .before .before .before .before .before .pre .1 .1 .0) (c .before .if1 .left)
+take-step-requires c κs =
+    let pre = c .before .before .before .before .before .before .before .before .before .before .before .pre in
+    ready _ _ _ _ _ _ _ (c .before .before .before .before .before .loop .inv) (c .before .before .before .before .loop-test .taken) (c .before .before .step-fault .ensures) (pre .0) (pre .1 .0) (pre .1 .1 .0) (c .before .if1 .left)
 
 add-done : tie.Need-add-done Inv-loop μ-loop
 add-done c = search needs

@@ -56,7 +56,9 @@ same-length : tie.Need-same-length Inv-loop μ-loop
 same-length c = search needs
 
 returns : tie.Need-returns Inv-loop μ-loop
-returns c = popped-found _ _ _ (c .before .before .before .before .before .before .before .before .before .before .before .before .before .before .pre .1 .0) (c .before .before .before .before .before .before .before .before .before .before .before .before .before .before .pre .1 .1 .0 .0) _ _ (c .before .before .before .before .before .loop .inv) (omega arith) _ (c .before .before .before .column-at .ensures .0) (c .if1 .taken)
+returns c =
+    let pre = c .before .before .before .before .before .before .before .before .before .before .before .before .before .before .pre in
+    popped-found _ _ _ (pre .1 .0) (pre .1 .1 .0 .0) _ _ (c .before .before .before .before .before .loop .inv) (omega arith) _ (c .before .before .before .column-at .ensures .0) (c .if1 .taken)
 
 add-i : tie.Need-add-i Inv-loop μ-loop
 add-i c = search needs
@@ -65,7 +67,9 @@ loop-less : tie.Need-loop-less Inv-loop μ-loop
 loop-less c = search needs
 
 loop-again : tie.Need-loop-again Inv-loop μ-loop
-loop-again c = popped-turn _ _ _ (c .before .before .before .before .before .before .before .before .before .before .before .before .before .before .pre .1 .0) (c .before .before .before .before .before .before .before .before .before .before .before .before .before .before .pre .1 .1 .0 .0) _ _ (c .before .before .before .before .before .loop .inv) (omega arith) _ (c .before .before .before .column-at .ensures .0) (c .if1 .left)
+loop-again c =
+    let pre = c .before .before .before .before .before .before .before .before .before .before .before .before .before .before .pre in
+    popped-turn _ _ _ (pre .1 .0) (pre .1 .1 .0 .0) _ _ (c .before .before .before .before .before .loop .inv) (omega arith) _ (c .before .before .before .column-at .ensures .0) (c .if1 .left)
 
 same-length-2 : tie.Need-same-length-2 Inv-loop μ-loop
 same-length-2 c = search needs

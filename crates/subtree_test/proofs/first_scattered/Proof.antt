@@ -40,7 +40,11 @@ count-descendants-requires : tie.Need-count-descendants-requires
 count-descendants-requires c κs = search needs
 
 slice-aggregate-first-stray : tie.Need-slice-aggregate-first-stray
-slice-aggregate-first-stray c = front-room _ _ (c .before .before .before .before .before .before .before .before .before .before .before .before .before .pre .0 .0) (c .before .before .before .before .before .before .before .before .before .before .before .before .before .pre .0 .1) (c .before .before .before .before .before .before .before .before .before .before .before .before .before .pre .1 .0 .0) (c .before .before .before .before .before .before .before .before .before .before .before .before .before .pre .1 .0 .1) (now (c .before .before .before .before .before .before .before .before .before .before .before .before .before .args .work)) (c .before .before .before .before .before .before .before .before .write-steps .last .1 .0) (c .before .before .before .before .count-descendants .last .1 .0) (c .before .before .before .before .before .before .before .before .before .before .before .before .before .pre .1 .1) (c .before .before .before .before .before .before .before .before .write-steps .kept .1 .0) (c .before .before .before .before .count-descendants .kept .1 .0) (c .before .before .before .before .before .before .before .before .write-steps .ensures) (c .before .before .before .before .count-descendants .ensures)
+slice-aggregate-first-stray c =
+    let pre = c .before .before .before .before .before .before .before .before .before .before .before .before .before .pre in
+    let write-steps = c .before .before .before .before .before .before .before .before .write-steps in
+    let count-descendants = c .before .before .before .before .count-descendants in
+    front-room _ _ (pre .0 .0) (pre .0 .1) (pre .1 .0 .0) (pre .1 .0 .1) (now (c .before .before .before .before .before .before .before .before .before .before .before .before .before .args .work)) (write-steps .last .1 .0) (count-descendants .last .1 .0) (pre .1 .1) (write-steps .kept .1 .0) (count-descendants .kept .1 .0) (write-steps .ensures) (count-descendants .ensures)
 
 mul-first-stray : tie.Need-mul-first-stray
 mul-first-stray c = search needs
@@ -55,13 +59,21 @@ part-first-stray-end : tie.Need-part-first-stray-end
 part-first-stray-end c = search needs
 
 first-stray-requires : tie.Need-first-stray-requires
-first-stray-requires c κs = stray-asked _ _ (c .before .before .before .before .before .before .before .before .before .before .before .before .before .before .pre .0 .0) (c .before .before .before .before .before .before .before .before .before .before .before .before .before .before .pre .0 .1) (c .before .before .before .before .before .before .before .before .before .before .before .before .before .before .pre .1 .0 .0) (c .before .before .before .before .before .before .before .before .before .before .before .before .before .before .pre .1 .0 .1) (now (c .before .before .before .before .before .before .before .before .before .before .before .before .before .before .args .work)) (c .before .before .before .before .before .before .before .before .before .write-steps .last .1 .0) (c .before .before .before .before .before .count-descendants .last .1 .0) (c .before .before .before .before .before .before .before .before .before .before .before .before .before .before .pre .1 .1) (c .before .before .before .before .before .before .before .before .before .write-steps .kept .1 .0) (c .before .before .before .before .before .count-descendants .kept .1 .0) (c .before .before .before .before .before .before .before .before .before .write-steps .ensures) (c .before .before .before .before .before .count-descendants .ensures)
+first-stray-requires c κs =
+    let pre = c .before .before .before .before .before .before .before .before .before .before .before .before .before .before .pre in
+    let write-steps = c .before .before .before .before .before .before .before .before .before .write-steps in
+    let count-descendants = c .before .before .before .before .before .count-descendants in
+    stray-asked _ _ (pre .0 .0) (pre .0 .1) (pre .1 .0 .0) (pre .1 .0 .1) (now (c .before .before .before .before .before .before .before .before .before .before .before .before .before .before .args .work)) (write-steps .last .1 .0) (count-descendants .last .1 .0) (pre .1 .1) (write-steps .kept .1 .0) (count-descendants .kept .1 .0) (write-steps .ensures) (count-descendants .ensures)
 
 same-length : tie.Need-same-length
 same-length c = search needs
 
 returns : tie.Need-returns
-returns c = stray-found _ _ (c .before .before .before .before .before .before .before .before .before .before .before .before .before .before .before .pre .0 .0) (c .before .before .before .before .before .before .before .before .before .before .before .before .before .before .before .pre .0 .1) (c .before .before .before .before .before .before .before .before .before .before .before .before .before .before .before .pre .1 .0 .0) (c .before .before .before .before .before .before .before .before .before .before .before .before .before .before .before .pre .1 .0 .1) (now (c .before .before .before .before .before .before .before .before .before .before .before .before .before .before .before .args .work)) (c .before .before .before .before .before .before .before .before .before .before .write-steps .last .1 .0) (c .before .before .before .before .before .before .count-descendants .last .1 .0) (c .before .before .before .before .before .before .before .before .before .before .before .before .before .before .before .pre .1 .1) (c .before .before .before .before .before .before .before .before .before .before .write-steps .kept .1 .0) (c .before .before .before .before .before .before .count-descendants .kept .1 .0) (c .before .before .before .before .before .before .before .before .before .before .write-steps .ensures) (c .before .before .before .before .before .before .count-descendants .ensures) (c .first-stray .ensures)
+returns c =
+    let pre = c .before .before .before .before .before .before .before .before .before .before .before .before .before .before .before .pre in
+    let write-steps = c .before .before .before .before .before .before .before .before .before .before .write-steps in
+    let count-descendants = c .before .before .before .before .before .before .count-descendants in
+    stray-found _ _ (pre .0 .0) (pre .0 .1) (pre .1 .0 .0) (pre .1 .0 .1) (now (c .before .before .before .before .before .before .before .before .before .before .before .before .before .before .before .args .work)) (write-steps .last .1 .0) (count-descendants .last .1 .0) (pre .1 .1) (write-steps .kept .1 .0) (count-descendants .kept .1 .0) (write-steps .ensures) (count-descendants .ensures) (c .first-stray .ensures)
 
 pub first-scattered-spec : {M : Type 1} → statement M
 first-scattered-spec =

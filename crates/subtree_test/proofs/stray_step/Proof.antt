@@ -58,10 +58,14 @@ add-if3-3 : tie.Need-add-if3-3
 add-if3-3 c = let h = sums-fit _ _ _ _ (c .before .before .before .before .before .before .before .pre .0) (c .before .before .before .before .before .before .before .pre .1) (c .before .before .before .before .before .if1 .left) in search needs
 
 returns-2 : tie.Need-returns-2
-returns-2 c = none-judged _ (now (c .before .before .before .before .before .before .before .before .args .steps)) (now (c .before .before .before .before .before .before .before .before .args .below)) _ (c .before .before .before .before .before .before .if1 .left) (c .before .before .before .if2 .taken) (leb-true _ _ (c .if3 .taken))
+returns-2 c =
+    let args = c .before .before .before .before .before .before .before .before .args in
+    none-judged _ (now (args .steps)) (now (args .below)) _ (c .before .before .before .before .before .before .if1 .left) (c .before .before .before .if2 .taken) (leb-true _ _ (c .if3 .taken))
 
 returns-3 : tie.Need-returns-3
-returns-3 c = ⊎-elim (λ w. early-judged _ (now (c .before .before .before .before .before .args .steps)) (now (c .before .before .before .before .before .args .below)) _ (c .before .before .before .if1 .left) (w .0 .taken) (leb-false _ _ (w .3 .left))) (λ w. late-judged _ (now (c .before .before .before .before .before .args .steps)) (now (c .before .before .before .before .before .args .below)) _ (c .before .before .before .if1 .left) (w .left)) (c .if2 .came)
+returns-3 c =
+    let args = c .before .before .before .before .before .args in
+    ⊎-elim (λ w. early-judged _ (now (args .steps)) (now (args .below)) _ (c .before .before .before .if1 .left) (w .0 .taken) (leb-false _ _ (w .3 .left))) (λ w. late-judged _ (now (args .steps)) (now (args .below)) _ (c .before .before .before .if1 .left) (w .left)) (c .if2 .came)
 
 pub stray-step-spec : {M : Type 1} → statement M
 stray-step-spec =

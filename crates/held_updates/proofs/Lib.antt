@@ -1,0 +1,4 @@
+pub mod Stack
+pub mod Entries
+pub mod Popped
+pub mod Uses

@@ -1,0 +1,70 @@
+-- The loop's invariant: the updates from `top` up stand in the front, so what is left decides. The measure is how many are left.
+-- Assumes nothing.
+use Prim.Native.Nat.{_-_}
+use native.Mathlib.Omega.{arith}
+use lib.ListN.{take}
+use borrow.Author.Needs.{needs}
+use Rattle.front.proofs.Columns.{column-ascends}
+use Rattle.held_updates.specs.Kept.{heldIn}
+use Rattle.held_updates.proofs.Popped.{Looked, looked-start, looked-end, looked-next, looked-outside}
+use Rattle.held_updates.proofs.popped_fit.Statement.{statement}
+use Rattle.held_updates.proofs.popped_fit.Tie as tie
+
+abbrev Inv-loop : tie.InvT-loop
+Inv-loop n starts rows stack pops column front count end top₀ top = Looked n starts rows stack column (take pops (heldIn count stack)) end count top
+
+abbrev μ-loop : tie.MeasureT-loop
+μ-loop n starts rows stack pops column front count end top₀ top = top - end
+
+rows-of-requires : tie.Need-rows-of-requires Inv-loop μ-loop
+rows-of-requires c κs = search needs
+
+sub-end : tie.Need-sub-end Inv-loop μ-loop
+sub-end c = search needs
+
+loop-holds : tie.Need-loop-holds Inv-loop μ-loop
+loop-holds c = looked-start _ _ _ _ _ _ _ (c .before .before .before .before .pre .1 .1 .0)
+
+held-column-requires : tie.Need-held-column-requires Inv-loop μ-loop
+held-column-requires c κs = (λ i l. c .before .before .before .before .before .before .pre .1 .0 .columns i (omega arith), (omega arith, omega arith))
+
+rows-of-requires-2 : tie.Need-rows-of-requires-2 Inv-loop μ-loop
+rows-of-requires-2 c κs = (c .before .before .before .before .before .before .before .pre .0, c .held-column .ensures .1)
+
+stands-in-requires : tie.Need-stands-in-requires Inv-loop μ-loop
+stands-in-requires c κs =
+    let pre = c .before .before .before .before .before .before .before .before .pre in
+    (rw (c .before .before .before .before .rows-of .ensures) (column-ascends (pre .0) (pre .1 .1 .1)), rw (c .rows-of2 .ensures) (column-ascends (pre .0) (c .before .held-column .ensures .1)))
+
+sub-top : tie.Need-sub-top Inv-loop μ-loop
+sub-top c = search needs
+
+loop-less : tie.Need-loop-less Inv-loop μ-loop
+loop-less c = search needs
+
+loop-again : tie.Need-loop-again Inv-loop μ-loop
+loop-again c = looked-next _ _ _ _ _ (c .before .before .before .before .before .loop .inv) (c .before .before .before .before .loop-test .taken) (c .before .before .before .before .before .before .rows-of .ensures) (c .before .before .before .held-column .ensures .0) (c .before .before .rows-of2 .ensures) (c .before .stands-in .ensures) (c .if1 .taken)
+
+returns : tie.Need-returns Inv-loop μ-loop
+returns c = looked-outside _ _ _ _ _ (c .before .before .before .before .before .loop .inv) (c .before .before .before .before .loop-test .taken) (c .before .before .before .before .before .before .rows-of .ensures) (c .before .before .before .held-column .ensures .0) (c .before .before .rows-of2 .ensures) (c .before .stands-in .ensures) (c .if1 .left)
+
+returns-2 : tie.Need-returns-2 Inv-loop μ-loop
+returns-2 c = looked-end _ _ _ _ _ (c .before .loop .inv) (c .loop-test .left)
+
+pub popped-fit-spec : {M : Type 1} → statement M
+popped-fit-spec =
+    tie.close
+    (tie.spec
+    Inv-loop
+    μ-loop
+    rows-of-requires
+    sub-end
+    loop-holds
+    held-column-requires
+    rows-of-requires-2
+    stands-in-requires
+    sub-top
+    loop-less
+    loop-again
+    returns
+    returns-2)

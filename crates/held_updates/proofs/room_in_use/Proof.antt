@@ -1,0 +1,60 @@
+-- The record has the entries held; the top update, read from the list, is one of them, so nothing goes below 0.
+-- Assumes nothing.
+use native.Mathlib.Omega.{arith}
+use borrow.Author.Needs.{needs}
+use Rattle.held_updates.proofs.Uses.{top-within, front-fits, room-fits, room-above, room-on-top}
+use Rattle.held_updates.proofs.room_in_use.Statement.{statement}
+use Rattle.held_updates.proofs.room_in_use.Tie as tie
+
+rows-of-requires : tie.Need-rows-of-requires
+rows-of-requires c κs = search needs
+
+add-entries : tie.Need-add-entries
+add-entries c = search needs
+
+entries-requires : tie.Need-entries-requires
+entries-requires c κs = front-fits (c .before .before .before .before .pre .0) (c .before .before .before .before .pre .1 .0) (c .before .before .before .before .pre .1 .1 .1) (c .rows-of .ensures)
+
+add-result : tie.Need-add-result
+add-result c =
+    let pre = c .before .before .before .before .before .before .before .pre in
+    omega (arith, room-fits (pre .0) (pre .1 .0) (pre .1 .1 .1) (c .before .before .before .rows-of .ensures) (c .before .before .entries .ensures))
+
+returns : tie.Need-returns
+returns c =
+    let pre = c .before .before .before .before .before .before .before .pre in
+    room-above (pre .0) (pre .1 .0) (pre .1 .1 .1) (c .before .before .before .rows-of .ensures) (c .before .before .entries .ensures) (c .before .if1 .taken)
+
+held-column-requires : tie.Need-held-column-requires
+held-column-requires c κs = search needs
+
+entries-of-requires : tie.Need-entries-of-requires
+entries-of-requires c κs = search needs
+
+sub-result : tie.Need-sub-result
+sub-result c = top-within (c .before .before .before .before .before .before .before .before .before .pre .0) (c .before .before .before .before .before .before .before .before .before .pre .1 .0) (omega arith) (c .before .before .held-column .ensures .0) (c .before .entries-of .ensures)
+
+add-result-2 : tie.Need-add-result-2
+add-result-2 c =
+    let pre = c .before .before .before .before .before .before .before .before .before .pre in
+    omega (arith, room-fits (pre .0) (pre .1 .0) (pre .1 .1 .1) (c .before .before .before .before .before .rows-of .ensures) (c .before .before .before .before .entries .ensures))
+
+returns-2 : tie.Need-returns-2
+returns-2 c =
+    let pre = c .before .before .before .before .before .before .before .before .before .pre in
+    room-on-top (pre .0) (pre .1 .0) (pre .1 .1 .1) (c .before .before .before .before .before .rows-of .ensures) (c .before .before .before .before .entries .ensures) (omega arith) (pre .1 .1 .0) (c .before .before .held-column .ensures .0) (c .before .entries-of .ensures)
+
+pub room-in-use-spec : {M : Type 1} → statement M
+room-in-use-spec =
+    tie.close
+    (tie.spec
+    rows-of-requires
+    add-entries
+    entries-requires
+    add-result
+    returns
+    held-column-requires
+    entries-of-requires
+    sub-result
+    add-result-2
+    returns-2)

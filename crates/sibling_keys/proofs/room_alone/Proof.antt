@@ -1,0 +1,103 @@
+-- The loop's invariant: the room, the updates and those but the last of the first i children. The measure is how many are left.
+-- Assumes nothing.
+use Prim.Native.Nat.{_+_, _-_}
+use native.Mathlib.Omega.{arith}
+use lib.ListN.{length}
+use borrow.Author.Needs.{needs}
+use Rattle.room.proofs.Entries.{entries-fit}
+use Rattle.sibling_keys.proofs.Turns.{Turned, turned-start, turned-stop, turned-column, turned-known, turned-light, turned-turn}
+use Rattle.sibling_keys.proofs.room_alone.Statement.{statement}
+use Rattle.sibling_keys.proofs.room_alone.Tie as tie
+
+abbrev Inv-loop : tie.InvT-loop
+Inv-loop factor rooms kids j most₀ before₀ held₀ i₀ most before held i = Turned factor rooms kids most before held i
+
+abbrev μ-loop : tie.MeasureT-loop
+μ-loop factor rooms kids j most₀ before₀ held₀ i₀ most before held i = length kids - i
+
+loop-holds : tie.Need-loop-holds Inv-loop μ-loop
+loop-holds c = turned-start _ _ _ (c .before .before .before .args .j)
+
+mul-c : tie.Need-mul-c Inv-loop μ-loop
+mul-c c = search needs
+
+shared-slice-read-c : tie.Need-shared-slice-read-c Inv-loop μ-loop
+shared-slice-read-c c = search needs
+
+cast-c : tie.Need-cast-c Inv-loop μ-loop
+cast-c c = omega (arith, c .shared-slice-known4 .given (c .before .before .loop .i))
+
+mul-greater : tie.Need-mul-greater Inv-loop μ-loop
+mul-greater c = let h = turned-known _ _ _ (c .before .before .before .before .before .before .args .j) (c .before .before .loop .inv) (c .before .before .before .before .before .before .pre) (c .before .loop-test .taken) in search needs
+
+shared-slice-read-greater : tie.Need-shared-slice-read-greater Inv-loop μ-loop
+shared-slice-read-greater c = turned-known _ _ _ (c .before .before .before .before .before .before .before .args .j) (c .before .before .before .loop .inv) (c .before .before .before .before .before .before .before .pre) (c .before .before .loop-test .taken)
+
+add-greater : tie.Need-add-greater Inv-loop μ-loop
+add-greater c = let h = turned-light _ _ _ (c .before .before .before .before .before .before .before .args .j) (c .before .before .before .loop .inv) (c .before .before .before .before .before .before .before .pre) (c .before .before .loop-test .taken) in omega arith
+
+greater-requires : tie.Need-greater-requires Inv-loop μ-loop
+greater-requires c κs = search needs
+
+rows-of-requires : tie.Need-rows-of-requires Inv-loop μ-loop
+rows-of-requires c κs = turned-column _ _ _ (c .before .before .before .before .before .before .before .before .args .j) (c .before .before .before .before .loop .inv) (c .before .before .before .before .before .before .before .before .pre) (c .before .before .before .loop-test .taken)
+
+entries-requires : tie.Need-entries-requires Inv-loop μ-loop
+entries-requires c κs = search needs
+
+add-held : tie.Need-add-held Inv-loop μ-loop
+add-held c = omega (arith, c .entries .ensures, entries-fit (c .before .rows-of .result) (omega (arith, c .before .rows-of .ensures .1)))
+
+add-i : tie.Need-add-i Inv-loop μ-loop
+add-i c = search needs
+
+loop-less : tie.Need-loop-less Inv-loop μ-loop
+loop-less c = search needs
+
+loop-again : tie.Need-loop-again Inv-loop μ-loop
+loop-again c = turned-turn _ _ _ (c .before .before .before .before .before .before .before .before .before .before .args .j) (c .before .before .before .before .before .before .loop .inv) (c .before .before .before .before .before .before .before .before .before .before .pre) (c .before .before .before .before .before .loop-test .taken) (c .before .before .greater .ensures) (c .before .rows-of .ensures) (c .entries .ensures)
+
+rows-of-requires-2 : tie.Need-rows-of-requires-2 Inv-loop μ-loop
+rows-of-requires-2 c κs = search needs
+
+add-entries : tie.Need-add-entries Inv-loop μ-loop
+add-entries c = search needs
+
+entries-requires-2 : tie.Need-entries-requires-2 Inv-loop μ-loop
+entries-requires-2 c κs = search needs
+
+add-greater-2 : tie.Need-add-greater-2 Inv-loop μ-loop
+add-greater-2 c = omega (arith, c .entries2 .ensures, entries-fit (c .before .rows-of2 .result + 1) (omega (arith, c .before .rows-of2 .ensures .1)))
+
+greater-requires-2 : tie.Need-greater-requires-2 Inv-loop μ-loop
+greater-requires-2 c κs = search needs
+
+returns : tie.Need-returns Inv-loop μ-loop
+returns c = turned-stop _ _ _ (c .before .before .before .before .before .before .before .before .args .j) (c .before .before .before .before .loop .inv) (c .before .before .before .loop-test .left) (rw (← (c .before .before .rows-of2 .ensures .0)) (c .before .entries2 .ensures)) (c .greater2 .ensures)
+
+pub room-alone-spec : {M : Type 1} → statement M
+room-alone-spec =
+    tie.close
+    (tie.spec
+    Inv-loop
+    μ-loop
+    loop-holds
+    mul-c
+    shared-slice-read-c
+    cast-c
+    mul-greater
+    shared-slice-read-greater
+    add-greater
+    greater-requires
+    rows-of-requires
+    entries-requires
+    add-held
+    add-i
+    loop-less
+    loop-again
+    rows-of-requires-2
+    add-entries
+    entries-requires-2
+    add-greater-2
+    greater-requires-2
+    returns)

@@ -1,0 +1,112 @@
+-- The loop's invariant: the keys of the first i children are stored, and what lies before the keys is as it was. The measure is how many are
+-- left.
+-- Assumes nothing.
+use Prim.Native.Nat.{_-_}
+use native.Mathlib.Omega.{arith}
+use lib.ListN.{length}
+use borrow.Author.Needs.{needs}
+use Rattle.sibling_keys.proofs.Keys.{same-key, keying-places, Keying, keying-start, keying-stop, keying-reads, keying-turn}
+use Rattle.tree.specs.Laid.{part}
+use Rattle.sibling_keys.specs.Kids.{keyAt}
+use Rattle.sibling_keys.proofs.store_keys.Statement.{statement}
+use Rattle.sibling_keys.proofs.store_keys.Tie as tie
+use Rattle.list_laws.proofs.Members.{at-place}
+
+abbrev Inv-loop : tie.InvT-loop
+Inv-loop mark factor kids j work₀ w k above i₀ work i = Keying k (keyAt mark factor (part w k work₀) j) kids work₀ work i
+
+abbrev μ-loop : tie.MeasureT-loop
+μ-loop mark factor kids j work₀ w k above i₀ work i = length kids - i
+
+rows-of-requires : tie.Need-rows-of-requires Inv-loop μ-loop
+rows-of-requires c κs = search needs
+
+loop-holds : tie.Need-loop-holds Inv-loop μ-loop
+loop-holds c = keying-start
+
+mul-c : tie.Need-mul-c Inv-loop μ-loop
+mul-c c = search needs
+
+shared-slice-read-c : tie.Need-shared-slice-read-c Inv-loop μ-loop
+shared-slice-read-c c = search needs
+
+cast-c : tie.Need-cast-c Inv-loop μ-loop
+cast-c c = omega (arith, c .shared-slice-known3 .given (c .before .before .loop .i))
+
+rows-of-requires-2 : tie.Need-rows-of-requires-2 Inv-loop μ-loop
+rows-of-requires-2 c κs = c .before .before .before .before .before .before .before .pre .0 .column _ (at-place _ _ (c .before .loop-test .taken))
+
+add-sibling-key : tie.Need-add-sibling-key Inv-loop μ-loop
+add-sibling-key c =
+    let pre = c .before .before .before .before .before .before .before .before .pre in
+    let p = keying-places (c .before .before .before .loop .inv) (pre .0) (pre .1 .0) (pre .1 .1) (c .before .before .loop-test .taken) in search needs
+
+mul-sibling-key : tie.Need-mul-sibling-key Inv-loop μ-loop
+mul-sibling-key c =
+    let pre = c .before .before .before .before .before .before .before .before .pre in
+    let p = keying-places (c .before .before .before .loop .inv) (pre .0) (pre .1 .0) (pre .1 .1) (c .before .before .loop-test .taken) in search needs
+
+slice-read-sibling-key : tie.Need-slice-read-sibling-key Inv-loop μ-loop
+slice-read-sibling-key c =
+    let pre = c .before .before .before .before .before .before .before .before .before .pre in
+    let p = keying-places (c .before .before .before .before .loop .inv) (pre .0) (pre .1 .0) (pre .1 .1) (c .before .before .before .loop-test .taken) in search needs
+
+sibling-key-requires : tie.Need-sibling-key-requires Inv-loop μ-loop
+sibling-key-requires c κs = search needs
+
+add-work : tie.Need-add-work Inv-loop μ-loop
+add-work c =
+    let pre = c .before .before .before .before .before .before .before .before .before .before .pre in
+    let p = keying-places (c .before .before .before .before .before .loop .inv) (pre .0) (pre .1 .0) (pre .1 .1) (c .before .before .before .before .loop-test .taken) in search needs
+
+mul-work : tie.Need-mul-work Inv-loop μ-loop
+mul-work c =
+    let pre = c .before .before .before .before .before .before .before .before .before .before .pre in
+    let p = keying-places (c .before .before .before .before .before .loop .inv) (pre .0) (pre .1 .0) (pre .1 .1) (c .before .before .before .before .loop-test .taken) in search needs
+
+slice-write-work : tie.Need-slice-write-work Inv-loop μ-loop
+slice-write-work c =
+    let pre = c .before .before .before .before .before .before .before .before .before .before .pre in
+    let p = keying-places (c .before .before .before .before .before .loop .inv) (pre .0) (pre .1 .0) (pre .1 .1) (c .before .before .before .before .loop-test .taken) in p .1
+
+add-i : tie.Need-add-i Inv-loop μ-loop
+add-i c = search needs
+
+loop-less : tie.Need-loop-less Inv-loop μ-loop
+loop-less c = search needs
+
+loop-again : tie.Need-loop-again Inv-loop μ-loop
+loop-again c =
+    let p = keying-places (c .before .before .before .before .before .loop .inv) (c .before .before .before .before .before .before .before .before .before .before .pre .0) (c .before .before .before .before .before .before .before .before .before .before .pre .1 .0) (c .before .before .before .before .before .before .before .before .before .before .pre .1 .1) (c .before .before .before .before .loop-test .taken) in
+    keying-turn (c .before .before .before .before .before .loop .inv) (c .before .before .before .before .loop-test .taken) (same-key _ (c .sibling-key .ensures) (c .before .before .before .before .before .before .rows-of .ensures .0) (c .before .before .rows-of2 .ensures .0) (keying-reads (c .before .before .before .before .before .loop .inv) (c .before .before .before .before .before .before .before .before .before .before .args .w) _ (c .before .before .before .before .before .before .before .before .before .before .pre .1 .0) (p .0))) (p .1)
+
+same-length : tie.Need-same-length Inv-loop μ-loop
+same-length c = search needs
+
+returns : tie.Need-returns Inv-loop μ-loop
+returns c = keying-stop (c .before .loop .inv) (c .loop-test .left)
+
+pub store-keys-spec : {M : Type 1} → statement M
+store-keys-spec =
+    tie.close
+    (tie.spec
+    Inv-loop
+    μ-loop
+    rows-of-requires
+    loop-holds
+    mul-c
+    shared-slice-read-c
+    cast-c
+    rows-of-requires-2
+    add-sibling-key
+    mul-sibling-key
+    slice-read-sibling-key
+    sibling-key-requires
+    add-work
+    mul-work
+    slice-write-work
+    add-i
+    loop-less
+    loop-again
+    same-length
+    returns)

@@ -1,0 +1,34 @@
+-- A column and its children: the children's keys, and the column's W from theirs.
+-- Assumes nothing.
+use Prim.Native.Nat.{ℕ, suc, _+_, _*_, _<_, _≤_, max}
+use mathlib.Core.Path.{_≡_}
+use mathlib.Core.List.{List}
+use lib.ListN.{length, getD, take}
+use Rattle.papers.specs.Bounds.{maxColumns}
+use Rattle.papers.specs.Lists.{_∈_}
+use Rattle.papers.specs.Tree.{t}
+use Rattle.papers.specs.Order.{siblingKey}
+use Rattle.order_laws.specs.Subtrees.{inTurn, butLast}
+use Rattle.room.specs.Rows.{rowsIn, Column, mostEntries}
+
+-- the key of child c of column j, where rooms has the W of each column
+abbrev pub keyAt : ℕ → List ℕ → List ℕ → ℕ → ℕ → ℕ
+keyAt mark factor rooms j c = siblingKey mark (rowsIn factor j) (rowsIn factor c) (getD rooms c 0)
+
+-- the W of column j from those of its children, done in this order: each above the updates of the earlier ones; then the front over the last
+-- one's update
+abbrev pub needAt : List ℕ → List ℕ → List ℕ → ℕ → ℕ
+needAt factor rooms kids j = max (inTurn (rowsIn factor) (λ c. getD rooms c 0) 0 kids) (butLast (rowsIn factor) kids + t (suc (rowsIn factor j)))
+
+-- column j and its children, whose W are known and no greater than so many fronts
+pub record Kids (factor rooms kids : List ℕ) (j : ℕ) : Type 0 where
+  pub top : Column factor j
+  pub column : (c : ℕ) → c ∈ kids → Column factor c
+  pub known : (c : ℕ) → c ∈ kids → c < length rooms
+  pub light : (c : ℕ) → c ∈ kids → getD rooms c 0 ≤ maxColumns * mostEntries
+  pub few : length kids ≤ maxColumns
+
+-- keys of the kids are stored from k on, and what lies before is as it was
+pub record Keyed (k : ℕ) (key : ℕ → ℕ) (kids before after : List ℕ) : Type 0 where
+  pub same : take k after ≡ take k before
+  pub keys : (c : ℕ) → c ∈ kids → getD after (k + c) 0 ≡ key c
