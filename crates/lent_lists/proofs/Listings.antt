@@ -9,7 +9,7 @@ use lib.Seq.{drop-at}
 use Rattle.papers.specs.Job.{Pattern}
 use Rattle.papers.specs.Refusals.{Lent, allZero}
 use Rattle.lent.proofs.Alike.{part-long, zero-long}
-use Rattle.structure.specs.Stored.{Lengths, Listed}
+use Rattle.structure.specs.Listed.{Lengths, Listed}
 use Rattle.lent.specs.Six.{six, LongEnough}
 use Rattle.lent.proofs.Sixes.{EachZero, each-zero}
 use Rattle.lent_lists.specs.Listing.{Listing}

@@ -21,7 +21,7 @@ use Rattle.job_laws.proofs.Laid.{length-lists}
 use Rattle.column_laws.proofs.Families.{length-grows}
 use Rattle.order_laws.proofs.Patterns.{order-length}
 use Rattle.order.specs.Given.{Given}
-use Rattle.structure.specs.Stored.{Listed}
+use Rattle.structure.specs.Listed.{Listed}
 use Rattle.lent.specs.Six.{six, LongEnough}
 use Rattle.lent.proofs.Sixes.{sixes}
 use Rattle.lent_lists.specs.Listing.{Listing}

@@ -1,12 +1,12 @@
--- `list_test::adds_own` meets its contract: its answer is that of its two tests, over the marks of the pattern rows.
+-- `row_tests::adds_own` meets its contract: its answer is that of its two tests, over the marks of the pattern rows.
 -- Assumes nothing.
 use mathlib.Core.Path.{sym, ap, _∙_}
 use borrow.Author.Needs.{needs}
 use denote.Ref.{now}
 use Rattle.papers.specs.Lists.{every}
-use Rattle.list_test.proofs.Comparing.{not-both, then-other, rest-part, rest-markable}
-use Rattle.list_test.proofs.adds_own.Statement.{statement}
-use Rattle.list_test.proofs.adds_own.Tie as tie
+use Rattle.row_tests.proofs.Comparing.{not-both, then-other, rest-part, rest-markable}
+use Rattle.row_tests.proofs.adds_own.Statement.{statement}
+use Rattle.row_tests.proofs.adds_own.Tie as tie
 
 mark-requires : tie.Need-mark-requires
 mark-requires c κs = search needs

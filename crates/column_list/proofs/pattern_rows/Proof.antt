@@ -1,9 +1,9 @@
--- `structure::pattern_rows` meets its contract: the rows of a column are the part between its two starts.
+-- `column_list::pattern_rows` meets its contract: the rows of a column are the part between its two starts.
 -- Assumes nothing.
 use native.Mathlib.Omega.{arith}
 use Rattle.column_laws.proofs.Columns.{column-part}
-use Rattle.structure.proofs.pattern_rows.Statement.{statement}
-use Rattle.structure.proofs.pattern_rows.Tie as tie
+use Rattle.column_list.proofs.pattern_rows.Statement.{statement}
+use Rattle.column_list.proofs.pattern_rows.Tie as tie
 
 mul-s : tie.Need-mul-s
 mul-s c = omega arith

@@ -1,17 +1,8 @@
 -- Columns hung under their parents in work: the first child of j stands at j, the sibling behind column c at n + c.
 -- Assumes nothing.
 use Prim.Native.Nat.{ℕ, zero, suc, _+_, _<_, _≤_}
-use mathlib.Core.Bool.{true, false}
-use mathlib.Core.List.{List, [], _∷_}
-use lib.Dec.{eqb}
+use mathlib.Core.List.{List}
 use lib.ListN.{length, getD, set}
-use Rattle.papers.specs.Job.{Pattern}
-use Rattle.papers.specs.Tree.{parent}
-
--- the children of j among the columns 1 to m, the last first
-unfoldable pub hung : Pattern → ℕ → ℕ → List ℕ
-hung A zero j = []
-hung A (suc m) j = elim (eqb (parent A (suc m)) j) [ true ↦ suc m ∷ hung A m j | false ↦ hung A m j ]
 
 -- work with column c put before the children of p; a root, whose parent is 0, is not hung
 unfoldable pub hanging : ℕ → ℕ → ℕ → List ℕ → List ℕ

@@ -1,12 +1,12 @@
--- `list_test::begins_with` meets its contract: the front of the list is as long as the other list and the same.
+-- `row_tests::begins_with` meets its contract: the front of the list is as long as the other list and the same.
 -- Assumes nothing.
 use mathlib.Core.Path.{refl, sym, _∙_}
 use lib.Seq.{length-take-le}
 use borrow.Author.Needs.{needs}
 use Rattle.list_laws.proofs.Tests.{true-false}
 use Rattle.list_laws.proofs.Members.{same-true}
-use Rattle.list_test.proofs.begins_with.Statement.{statement}
-use Rattle.list_test.proofs.begins_with.Tie as tie
+use Rattle.row_tests.proofs.begins_with.Statement.{statement}
+use Rattle.row_tests.proofs.begins_with.Tie as tie
 
 returns : tie.Need-returns
 returns c = λ e. absurd (true-false e refl)

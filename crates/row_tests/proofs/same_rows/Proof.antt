@@ -1,12 +1,12 @@
--- `list_test::same_rows` meets its contract: where no difference was seen, what is left decides. The measure is what is left.
+-- `row_tests::same_rows` meets its contract: where no difference was seen, what is left decides. The measure is what is left.
 -- Assumes nothing.
 use Prim.Native.Nat.{_-_}
 use native.Mathlib.Omega.{arith}
 use lib.ListN.{length}
 use borrow.Author.Needs.{needs}
-use Rattle.list_test.proofs.Comparing.{other-length, Comparing, compare-begin, compare-alike, compare-other, compare-end}
-use Rattle.list_test.proofs.same_rows.Statement.{statement}
-use Rattle.list_test.proofs.same_rows.Tie as tie
+use Rattle.row_tests.proofs.Comparing.{other-length, Comparing, compare-begin, compare-alike, compare-other, compare-end}
+use Rattle.row_tests.proofs.same_rows.Statement.{statement}
+use Rattle.row_tests.proofs.same_rows.Tie as tie
 
 abbrev Inv-loop : tie.InvT-loop
 Inv-loop a b alike₀ k₀ alike k = Comparing a b alike k

@@ -1,4 +1,4 @@
--- `list_test::count_marked` meets its contract: count, and the marked rows among those left, are all of them. The measure is what is left.
+-- `row_tests::count_marked` meets its contract: count, and the marked rows among those left, are all of them. The measure is what is left.
 -- Assumes nothing.
 use Prim.Native.Nat.{_-_}
 use native.Mathlib.Omega.{arith}
@@ -7,9 +7,9 @@ use borrow.Author.Needs.{needs}
 use borrow.Author.Tests.{eq-eqb, ne-eqb}
 use Rattle.child_lists.specs.Marks.{isMarked}
 use Rattle.child_lists.proofs.Marks.{mark-place}
-use Rattle.list_test.proofs.Comparing.{Counts, counts-begin, counts-one, counts-none, counts-end}
-use Rattle.list_test.proofs.count_marked.Statement.{statement}
-use Rattle.list_test.proofs.count_marked.Tie as tie
+use Rattle.row_tests.proofs.Comparing.{Counts, counts-begin, counts-one, counts-none, counts-end}
+use Rattle.row_tests.proofs.count_marked.Statement.{statement}
+use Rattle.row_tests.proofs.count_marked.Tie as tie
 
 abbrev Inv-loop : tie.InvT-loop
 Inv-loop n j list work count₀ k₀ count k = Counts (isMarked n j work) list count k

@@ -23,9 +23,9 @@ use Rattle.child_lists.proofs.Marks.{marks-sound, changed-none, changed-more, c
 use Rattle.child_lists.proofs.Picking.{siblings-ext}
 use Rattle.child_lists.proofs.Buffers.{first-buffer}
 use Rattle.child_lists.proofs.Making.{makes-skip, makes-end}
-use Rattle.structure.specs.Hung.{hung}
-use Rattle.structure.specs.Stored.{Part, Next, Gathers}
-use Rattle.structure.proofs.Gathering.{Found, found-child, chain, siblings, makes}
+use Rattle.column_list.specs.Hung.{hung}
+use Rattle.column_list.specs.Stored.{Part, Next, Gathers}
+use Rattle.column_list.proofs.Gathering.{Found, found-child, chain, siblings, makes}
 
 -- the rows of a tested job's column have their part
 pub part-of : {n m : ℕ} {starts rows : List ℕ} → Tested n starts rows → m < n → Part m starts rows

@@ -1,12 +1,12 @@
--- `structure::gathered` meets its contract: the list stands in the buffer whose turn it is.
+-- `column_list::gathered` meets its contract: the list stands in the buffer whose turn it is.
 -- Assumes nothing.
 use mathlib.Core.Path.{sym, ap}
 use lib.ListN.{take}
 use lib.Seq.{length-take-le}
 use denote.Ref.{now}
 use Rattle.child_lists.proofs.Buffers.{first-buffer, second-buffer}
-use Rattle.structure.proofs.gathered.Statement.{statement}
-use Rattle.structure.proofs.gathered.Tie as tie
+use Rattle.column_list.proofs.gathered.Statement.{statement}
+use Rattle.column_list.proofs.gathered.Tie as tie
 
 slice-aggregate-result : tie.Need-slice-aggregate-result
 slice-aggregate-result c = sym (length-take-le _ _ (c .before .before .before .pre .0))

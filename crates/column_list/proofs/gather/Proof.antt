@@ -1,12 +1,12 @@
--- `structure::gather` meets its contract: no child, one child, or several, of which the longest is joined first.
+-- `column_list::gather` meets its contract: no child, one child, or several, of which the longest is joined first.
 -- Assumes nothing.
 use mathlib.Core.Path.{sym}
 use native.Mathlib.Omega.{arith}
 use lib.Seq.{length-take-le}
 use Rattle.column_laws.proofs.Columns.{tested-below}
-use Rattle.structure.proofs.Begins.{part-of, own-fits, alone, linked, first-found, first-link, first-fits, first-len, single, first-markable, several, all-joined}
-use Rattle.structure.proofs.gather.Statement.{statement}
-use Rattle.structure.proofs.gather.Tie as tie
+use Rattle.column_list.proofs.Begins.{part-of, own-fits, alone, linked, first-found, first-link, first-fits, first-len, single, first-markable, several, all-joined}
+use Rattle.column_list.proofs.gather.Statement.{statement}
+use Rattle.column_list.proofs.gather.Tie as tie
 
 pattern-rows-requires : tie.Need-pattern-rows-requires
 pattern-rows-requires c κs = part-of (c .before .before .before .before .before .before .before .pre .0) (c .before .before .before .before .before .before .before .pre .1 .column)

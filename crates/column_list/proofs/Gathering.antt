@@ -20,9 +20,9 @@ use Rattle.column_laws.proofs.Parts.{part-rest}
 use Rattle.column_laws.proofs.Chains.{desc-first}
 use Rattle.column_laws.proofs.Families.{length-more, length-grows, list-at}
 use Rattle.child_lists.specs.Children.{handedOn, Child, Siblings, Makes}
-use Rattle.structure.specs.Hung.{hung}
-use Rattle.structure.specs.Stored.{rowsTo, Stored, Next}
-use Rattle.structure.proofs.Hanging.{hung-from, hung-into, hung-desc}
+use Rattle.column_list.specs.Hung.{hung}
+use Rattle.column_list.specs.Stored.{rowsTo, Stored, Next}
+use Rattle.column_list.proofs.Hung.{hung-from, hung-into, hung-desc}
 
 -- ---- the list of a column in what is stored
 

@@ -1,11 +1,11 @@
--- `list_test::is_all_marked` meets its contract: a list that has as many rows as are marked is right just where all of its rows are.
+-- `row_marks::is_all_marked` meets its contract: a list that has as many rows as are marked is right just where all of its rows are.
 -- Assumes nothing.
 use mathlib.Core.Path.{_∙_}
 use native.Mathlib.Omega.{arith}
 use Rattle.column_laws.proofs.Columns.{tested-below}
-use Rattle.list_test.proofs.Judging.{not-as-many, as-many}
-use Rattle.list_test.proofs.is_all_marked.Statement.{statement}
-use Rattle.list_test.proofs.is_all_marked.Tie as tie
+use Rattle.row_marks.proofs.Judging.{not-as-many, as-many}
+use Rattle.row_marks.proofs.is_all_marked.Statement.{statement}
+use Rattle.row_marks.proofs.is_all_marked.Tie as tie
 
 mark-column-requires : tie.Need-mark-column-requires
 mark-column-requires c κs = (c .before .before .before .before .before .before .before .pre .0, (c .before .before .before .before .before .before .before .pre .1 .0, c .before .before .before .before .before .before .before .pre .1 .1 .0))
