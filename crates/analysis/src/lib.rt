@@ -7,7 +7,8 @@ ghost use Rattle.papers.specs.Refusals.{Outcome, Lent};
 ghost use Rattle.papers.specs.Analysis.{analysed};
 ghost use Rattle.lent.specs.Six.{six};
 
-// The analysis of a job: 1 to 6, 7, 8, 9; done, the slices hold parents, order, pops, factor starts and rows, then zeros, and the count is the peak.
+// The analysis of a job: 1 to 6, 7, 8, 9; done, the slices hold parents, order, pops, factor starts and rows, then zeros, and the count is the peak. What 8 or 9 left
+// in the slices is cleared.
 pub fn analyse(
     head: JobHead,
     starts: &[u64],
@@ -40,7 +41,7 @@ pub fn analyse(
             count: 0,
         };
     }
-    lent_plan::planned(
+    let answer = lent_plan::planned(
         head,
         starts,
         rows,
@@ -50,5 +51,9 @@ pub fn analyse(
         fstarts,
         frows,
         work,
-    )
+    );
+    if answer.number != 0 {
+        lent::clear_all(parents, order, pops, fstarts, frows, work);
+    }
+    answer
 }

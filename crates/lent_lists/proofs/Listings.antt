@@ -4,15 +4,20 @@ use Prim.Native.Nat.{ℕ, _+_, _≤_}
 use mathlib.Core.Path.{_≡_, sym, ap, _∙_}
 use mathlib.Core.List.{List, _++_}
 use native.Mathlib.Omega.{arith}
-use lib.ListN.{length, take, drop}
+use lib.ListN.{length, take, drop, length-append, take-append-drop}
 use lib.Seq.{drop-at}
 use Rattle.papers.specs.Job.{Pattern}
 use Rattle.papers.specs.Refusals.{Lent, allZero}
 use Rattle.lent.proofs.Alike.{part-long, zero-long}
-use Rattle.structure.specs.Stored.{Lengths, Listed}
+use Rattle.structure.specs.Listed.{Lengths, Listed}
 use Rattle.lent.specs.Six.{six, LongEnough}
 use Rattle.lent.proofs.Sixes.{EachZero, each-zero}
 use Rattle.lent_lists.specs.Listing.{Listing}
+
+-- a slice whose front is stored anew is as long as it was
+front-anew : (n : ℕ) (l x : List ℕ) → length x ≡ length (take n l) → length (x ++ drop n l) ≡ length l
+front-anew n l x e =
+    length-append x (drop n l) ∙ ap (λ (k : ℕ). k + length (drop n l)) e ∙ sym (length-append (take n l) (drop n l)) ∙ ap length (take-append-drop n l)
 
 -- ---- the lists in cleared slices
 
@@ -25,6 +30,12 @@ module _ (n : ℕ) (before lent : Lent) (long : LongEnough n before) (cleared : 
 
   pub pops-long : n ≤ length (lent .pops)
   pops-long = omega (arith, zero-long (before .pops) (each .pops), long .pops)
+
+  pub order-anew : (x : List ℕ) → length x ≡ length (take n (lent .order)) → length (x ++ drop n (lent .order)) ≡ length (before .order)
+  order-anew x e = front-anew n (lent .order) x e ∙ zero-long (before .order) (each .order)
+
+  pub pops-anew : (y : List ℕ) → length y ≡ length (take n (lent .pops)) → length (y ++ drop n (lent .pops)) ≡ length (before .pops)
+  pops-anew y e = front-anew n (lent .pops) y e ∙ zero-long (before .pops) (each .pops)
 
   pub listing-lengths : Lengths n (lent .parents) (lent .factorStarts) (take n (lent .order)) (take n (lent .pops)) (lent .work)
   listing-lengths =

@@ -6,7 +6,7 @@ use lib.ListN.{drop}
 use Rattle.papers.specs.Lists.{zeros}
 use Rattle.papers.specs.Job.{Pattern}
 use Rattle.papers.specs.Refusals.{Lent}
-use Rattle.structure.specs.Stored.{Listed}
+use Rattle.structure.specs.Listed.{Listed}
 
 -- the lists of the first `done` columns, as many as there is room for, with their starts and parents; behind them, and behind the first n places of order
 -- and pops, zeros

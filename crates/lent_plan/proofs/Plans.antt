@@ -3,10 +3,12 @@
 -- Assumes nothing.
 use Prim.Native.Nat.{ℕ, suc, _+_, _<_, _≤_}
 use mathlib.Core.Path.{_≡_, refl, sym, ap, _∙_}
+use mathlib.Core.Logic.{_≢_}
 use mathlib.Core.List.{List, _++_, map, map-map, map-id}
 use native.Mathlib.Omega.{arith}
 use lib.ListN.{length, take, drop, length-map}
 use lib.Seq.{sets-eq}
+use Rattle.papers.specs.declared.Answer.{Answer}
 use Rattle.papers.specs.Lists.{flat, zeros, thenZeros}
 use Rattle.papers.specs.Job.{Job, pattern, Below}
 use Rattle.papers.specs.Fill.{R}
@@ -21,13 +23,15 @@ use Rattle.job_laws.proofs.Laid.{length-lists}
 use Rattle.column_laws.proofs.Families.{length-grows}
 use Rattle.order_laws.proofs.Patterns.{order-length}
 use Rattle.order.specs.Given.{Given}
-use Rattle.structure.specs.Stored.{Listed}
+use Rattle.structure.specs.Listed.{Listed}
 use Rattle.lent.specs.Six.{six, LongEnough}
 use Rattle.lent.proofs.Sixes.{sixes}
 use Rattle.lent_lists.specs.Listing.{Listing}
 use Rattle.lent.proofs.Alike.{zero-long, Alike, zeros-alike}
 use Rattle.lent_order.specs.Ordering.{Orderable, Ordering}
 use Rattle.stored_tree.proofs.Ties.{parentsOf, startsOf, length-parents, same-order, same-pops, same-peak, rowed}
+use Rattle.lent_plan.specs.Made.{Made}
+use Rattle.lent_plan.proofs.Made.{made-refused}
 use Rattle.lent_plan.proofs.Ways.{needed, peakIn, way-rows, way-peak, way-done}
 
 -- in front of what lies behind it in a cleared slice, a result is followed by zeros
@@ -47,9 +51,8 @@ module _ (job : Job) (p : first jobTests job ≡ passed) where
 
   module _ {done : ℕ} {before mid : Lent} (long : LongEnough (job .n) before) (listing : Listing (job .n) done (pattern job) before mid) (alike : Alike before mid) where
     -- 8: where not all columns are done, the rows needed exceed the slice
-    pub planned-rows : {count : ℕ} {after : Lent} → done < job .n → count ≡ needed job → after ≡ allZero mid
-        → _≡_ {A = Outcome Lent} (record { answer = answer 8 0 count; lent = after }) (analysed job before)
-    planned-rows h e z = way-rows job before p long exceeds (ap (answer 8 0) e) (zeros-alike before mid alike z)
+    pub made-rows : {count : ℕ} {after : Lent} → done < job .n → count ≡ needed job → Made job before after (answer 8 0 count)
+    made-rows h e = made-refused (λ z. omega arith) (way-rows job before p long exceeds (ap (answer 8 0) e) refl)
       where
         exceeds : length (before .factorRows) < needed job
         exceeds = omega (arith, listing .listed .lacks h, zero-long (before .factorRows) refl, length-grows (R (pattern job)) (suc done) (job .n) (omega arith))
@@ -143,24 +146,10 @@ module _ (job : Job) (p : first jobTests job ≡ passed) where
             sixes parents-hold (order-holds ∙ ap (λ l. thenZeros l (before .order)) (sym (map-map _ _ order ∙ map-id order)))
             (pops-hold ∙ ap (λ l. thenZeros l (before .pops)) (sym (map-map _ _ order))) starts-hold rows-hold work-cleared
 
-        -- the slices are as long as they were
-        alike-after : Alike before (six (mid .parents) steps counts (mid .factorStarts) (mid .factorRows) work)
-        alike-after =
-            record {
-              parents = alike .parents;
-              order = ap length order-holds ∙ length-then-zeros order (before .order) (omega (arith, order-length below (job .mark), long .order));
-              pops = ap length pops-hold ∙ length-then-zeros (map (popsOf n (pattern job)) order) (before .pops) (omega (arith, length-map order (popsOf n (pattern job)), order-length below (job .mark), long .pops));
-              starts = alike .starts;
-              rows = alike .rows;
-              work = zero-long (before .work) work-cleared;
-            }
-
         -- 9
-        pub planned-peak : {after : Lent} → job .limit < most → after ≡ allZero (six (mid .parents) steps counts (mid .factorStarts) (mid .factorRows) work)
-            → _≡_ {A = Outcome Lent} (record { answer = answer 9 0 most; lent = after }) (analysed job before)
-        planned-peak h z = way-peak job before p long fits (omega (arith, peak-is)) (ap (answer 9 0) peak-is) (zeros-alike before _ alike-after z)
+        pub made-peak : job .limit < most → Made job before (six (mid .parents) steps counts (mid .factorStarts) (mid .factorRows) work) (answer 9 0 most)
+        made-peak h = made-refused (λ z. omega arith) (way-peak job before p long fits (omega (arith, peak-is)) (ap (answer 9 0) peak-is) refl)
 
         -- done
-        pub planned-done : most ≤ job .limit
-            → _≡_ {A = Outcome Lent} (record { answer = answer 0 0 most; lent = six (mid .parents) steps counts (mid .factorStarts) (mid .factorRows) work }) (analysed job before)
-        planned-done h = way-done job before p long fits (omega (arith, peak-is)) (ap (answer 0 0) peak-is) holds
+        pub made-done : most ≤ job .limit → Made job before (six (mid .parents) steps counts (mid .factorStarts) (mid .factorRows) work) (answer 0 0 most)
+        made-done h = record { done = λ z. way-done job before p long fits (omega (arith, peak-is)) (ap (answer 0 0) peak-is) holds; refused = λ z. absurd (z refl) }

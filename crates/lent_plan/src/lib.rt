@@ -3,11 +3,12 @@ use papers::Answer;
 use papers::JobHead;
 ghost use mathlib.Core.Path.{_≡_};
 ghost use Rattle.papers.specs.Job.{jobOf};
-ghost use Rattle.papers.specs.Refusals.{passed, first, Outcome, jobTests, Lent};
-ghost use Rattle.papers.specs.Analysis.{analysed};
+ghost use Rattle.papers.specs.Refusals.{passed, first, jobTests};
 ghost use Rattle.lent.specs.Six.{six, LongEnough};
+ghost use Rattle.lent_plan.specs.Made.{Made};
 
-// A job that passed its tests, in slices that are long enough: the lists; 8 where they do not fit; the order; 9 where its peak is over the limit.
+// A job that passed its tests, in slices that are long enough: the lists; 8, with the rows counted, where they do not fit; the order; 9 where its peak is
+// over the limit. A refusal leaves what was made so far.
 pub fn planned(
     head: JobHead,
     starts: &[u64],
@@ -21,7 +22,7 @@ pub fn planned(
 ) -> Answer
     requires passes { ⌜ first jobTests (jobOf head (now starts) (now rows)) ≡ passed ⌝ }
     requires long { ⌜ LongEnough (head .n) (six (now parents) (now order) (now pops) (now fstarts) (now frows) (now work)) ⌝ }
-    ensures { λ r. ⌜ _≡_ {A = Outcome Lent} (record { answer = r; lent = six (now (parents .exit)) (now (order .exit)) (now (pops .exit)) (now (fstarts .exit)) (now (frows .exit)) (now (work .exit)) }) (analysed (jobOf head (now (starts .entry)) (now (rows .entry))) (six (now (parents .entry)) (now (order .entry)) (now (pops .entry)) (now (fstarts .entry)) (now (frows .entry)) (now (work .entry)))) ⌝ }
+    ensures { λ r. ⌜ Made (jobOf head (now (starts .entry)) (now (rows .entry))) (six (now (parents .entry)) (now (order .entry)) (now (pops .entry)) (now (fstarts .entry)) (now (frows .entry)) (now (work .entry))) (six (now (parents .exit)) (now (order .exit)) (now (pops .exit)) (now (fstarts .exit)) (now (frows .exit)) (now (work .exit))) r ⌝ }
 {
     let n = head.n as usize;
     let done = lent_lists::list_columns(
@@ -36,17 +37,7 @@ pub fn planned(
         work,
     );
     if done < n {
-        let needed = lent_lists::count_rows(
-            n,
-            starts,
-            rows,
-            parents,
-            order,
-            pops,
-            fstarts,
-            frows,
-            work,
-        );
+        let needed = rows_needed::rows_needed(n, starts, rows, parents, work);
         return Answer {
             number: 8,
             place: 0,
@@ -55,7 +46,6 @@ pub fn planned(
     }
     let peak = lent_order::order_columns(head.mark, n, parents, order, pops, fstarts, work);
     if head.limit < peak {
-        lent::clear_all(parents, order, pops, fstarts, frows, work);
         return Answer {
             number: 9,
             place: 0,

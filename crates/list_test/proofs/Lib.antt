@@ -1,5 +1,4 @@
-pub mod Judging
-pub mod Comparing
+pub mod Adding
 pub mod OneChild
 pub mod Plans
 pub mod Passing

@@ -24,9 +24,9 @@ use Rattle.job_laws.proofs.Laid.{lists-none}
 use Rattle.column_laws.proofs.Places.{zero-at}
 use Rattle.column_laws.proofs.Families.{map-upTo}
 use Rattle.child_lists.specs.Marks.{Changed}
-use Rattle.structure.specs.Hung.{hanging, Hangable}
-use Rattle.structure.specs.Stored.{Stored}
-use Rattle.structure.proofs.Hanging.{hung-none}
+use Rattle.column_list.specs.Stored.{Stored}
+use Rattle.column_list.proofs.Hung.{hung-none}
+use Rattle.structure.specs.Hanging.{hanging, Hangable}
 use Rattle.structure.proofs.Storing.{parent-is, stored-on}
 use Rattle.list_test.specs.Lists.{PlanLists, wrong, FirstWrong}
 use Rattle.list_test.proofs.Plans.{starts-long, first-start, plan-part, plan-list, stands-fits, stands}

@@ -18,8 +18,9 @@ use Rattle.job_laws.proofs.Readable.{laid-pass}
 use Rattle.column_laws.specs.Chains.{part}
 use Rattle.column_laws.proofs.Parts.{front-stored}
 use Rattle.column_laws.proofs.Columns.{column-part}
-use Rattle.structure.specs.Hung.{hanging}
-use Rattle.structure.specs.Stored.{Part, Stores}
+use Rattle.column_list.specs.Stored.{Part}
+use Rattle.structure.specs.Hanging.{hanging}
+use Rattle.structure.specs.Listed.{Stores}
 use Rattle.list_test.specs.Lists.{PlanLists}
 
 -- lists stored at the front of two slices that have room for them

@@ -2,15 +2,13 @@
 -- Assumes nothing.
 use Prim.Native.Nat.{ℕ, _+_, _-_}
 use mathlib.Core.Path.{_≡_}
-use mathlib.Core.Bool.{Bool, not, _&&_}
+use mathlib.Core.Bool.{Bool, not}
 use mathlib.Core.List.{List, []}
-use lib.Dec.{eqb}
-use lib.ListN.{length, getD, take, drop}
-use Rattle.papers.specs.Lists.{keep, every, same, least, flat, startsFrom}
+use lib.ListN.{length, getD, take}
+use Rattle.papers.specs.Lists.{same, least, flat, startsFrom}
 use Rattle.papers.specs.Job.{Pattern}
 use Rattle.papers.specs.Fill.{R}
 use Rattle.bytes_laws.proofs.Gaps.{ListsFit}
-use Rattle.child_lists.specs.Marks.{isMarked}
 
 -- a plan's lists, one for each of n columns, in their ranges, at the front of two slices
 pub record PlanLists (n : ℕ) (lists : List (List ℕ)) (fstarts frows : List ℕ) : Type 0 where
@@ -31,7 +29,3 @@ wrong A lists j = not (same (getD lists (j - 1) []) (R A j))
 -- r is the least column whose list is wrong, of the lists that stand there; 0 where none is
 abbrev pub FirstWrong : ℕ → Pattern → List ℕ → List ℕ → ℕ → Type 0
 FirstWrong n A fstarts frows r = (lists : List (List ℕ)) → PlanLists n lists fstarts frows → r ≡ least (wrong A lists) n
-
--- whether the rows of a list that are marked are as many as the pattern rows, and all behind place p are marked
-abbrev pub addsOwn : ℕ → ℕ → List ℕ → ℕ → List ℕ → List ℕ → Bool
-addsOwn n j list p own work = eqb (length (keep (isMarked n j work) list)) (length own) && every (isMarked n j work) (drop p list)

@@ -18,9 +18,9 @@ use Rattle.child_lists.specs.Children.{Child, handedOn, Siblings, Makes}
 use Rattle.child_lists.proofs.Marks.{changed-none, changed-more, changed-marked}
 use Rattle.child_lists.proofs.Picking.{Further, further, siblings-ext}
 use Rattle.child_lists.proofs.Making.{makes-join, makes-end, makes-few}
-use Rattle.structure.specs.Hung.{hung}
-use Rattle.structure.specs.Stored.{Stored, Next}
-use Rattle.structure.proofs.Gathering.{siblings, found-child, makes}
+use Rattle.column_list.specs.Hung.{hung}
+use Rattle.column_list.specs.Stored.{Stored, Next}
+use Rattle.column_list.proofs.Gathering.{siblings, found-child, makes}
 use Rattle.row_marks.specs.Marked.{newRows, MarkedAre, Counted}
 use Rattle.row_marks.proofs.Marked.{marked-none, marked-more, marked-count}
 

@@ -1,3 +1,4 @@
 pub mod Newly
 pub mod Marked
 pub mod Counting
+pub mod Judging

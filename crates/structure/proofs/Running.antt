@@ -20,8 +20,9 @@ use Rattle.fill_laws.proofs.Fill.{R-asc, R-range}
 use Rattle.column_laws.proofs.Places.{zero-at}
 use Rattle.column_laws.proofs.Families.{map-upTo, flat-more, length-more, starts-next}
 use Rattle.child_lists.specs.Buffers.{held}
-use Rattle.structure.specs.Stored.{rowsTo, Stored, Next, Gathers, Storable, Stores, Lengths, Listed}
-use Rattle.structure.proofs.Hanging.{hung-none}
+use Rattle.column_list.specs.Stored.{rowsTo, Stored, Next, Gathers}
+use Rattle.column_list.proofs.Hung.{hung-none}
+use Rattle.structure.specs.Listed.{Storable, Stores, Lengths, Listed}
 use Rattle.structure.proofs.Storing.{parent-is, lacks, storable, stored-on}
 
 -- m columns are done; s₀ has 0 as its first start

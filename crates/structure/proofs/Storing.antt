@@ -17,9 +17,12 @@ use Rattle.fill_laws.proofs.Parents.{parent-within}
 use Rattle.column_laws.proofs.Families.{flat-more, length-more}
 use Rattle.child_lists.specs.Marks.{Changed, Fresh}
 use Rattle.column_laws.proofs.Chains.{chain-ext}
-use Rattle.structure.specs.Hung.{hung, hanging}
-use Rattle.structure.specs.Stored.{rowsTo, Stored, Storable, Stores}
-use Rattle.structure.proofs.Hanging.{Chains, hung-from, hanging-else, length-hanging, hanging-chains}
+use Rattle.column_list.specs.Hung.{hung}
+use Rattle.column_list.specs.Stored.{rowsTo, Stored}
+use Rattle.column_list.proofs.Hung.{hung-from}
+use Rattle.structure.specs.Hanging.{hanging}
+use Rattle.structure.specs.Listed.{Storable, Stores}
+use Rattle.structure.proofs.Hanging.{Chains, hanging-else, length-hanging, hanging-chains}
 
 -- ---- the least row
 

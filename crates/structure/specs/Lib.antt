@@ -1,2 +1,2 @@
-pub mod Hung
-pub mod Stored
+pub mod Hanging
+pub mod Listed

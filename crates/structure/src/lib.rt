@@ -1,72 +1,11 @@
-// The column lists R(j) by joining pattern rows with the children's rows, and the parents.
-use child_lists::Gathered;
+// The column lists R(j) of all columns, one behind the other, and the parents.
+// In work the first child of column j stands at j, the sibling behind column c at n + c.
 ghost use mathlib.Core.Path.{_≡_};
-ghost use Prim.Native.Nat.{_+_, _≤_};
-ghost use lib.ListN.{length};
 ghost use Rattle.papers.specs.Lists.{head0};
 ghost use Rattle.papers.specs.Job.{columnOf};
 ghost use Rattle.column_laws.specs.Tested.{Tested};
-ghost use Rattle.child_lists.specs.Buffers.{held};
-ghost use Rattle.structure.specs.Hung.{hanging, Hangable};
-ghost use Rattle.structure.specs.Stored.{Part, Next, Gathers, Storable, Stores, Lengths, Listed};
-
-// The pattern rows of column m + 1.
-pub fn pattern_rows<'a>(m: usize, starts: &[u64], rows: &'a [u32]) -> &'a [u32]
-    requires { ⌜ Part m (now starts) (now rows) ⌝ }
-    ensures { λ r. ⌜ now r ≡ columnOf (now (starts .entry)) (now (rows .entry)) (m + 1) ⌝ }
-{
-    let s = starts[m] as usize;
-    let e = starts[m + 1] as usize;
-    &rows[s..e]
-}
-
-// Gathers R(m + 1) in the buffers: the pattern rows joined with those that the longest child hands on, then with those of the other children.
-// Rows are marked only where there is more than one child.
-pub fn gather<'a>(
-    n: usize,
-    m: usize,
-    starts: &[u64],
-    rows: &'a [u32],
-    fstarts: &[u64],
-    frows: &'a [u32],
-    work: &mut [u64],
-    x: &mut [u32],
-    y: &mut [u32],
-) -> Gathered
-    requires tested { ⌜ Tested n (now starts) (now rows) ⌝ }
-    requires next { ⌜ Next n m (columnOf (now starts) (now rows)) (now fstarts) (now frows) (now work) (now x) (now y) ⌝ }
-    ensures { λ r. ⌜ Gathers n m (columnOf (now (starts .entry)) (now (rows .entry))) (now (work .entry)) (now (work .exit)) (now (x .exit)) (now (y .exit)) (r .turn) (r .len) ⌝ }
-{
-    let own = pattern_rows(m, starts, rows);
-    let c = work[m + 1] as usize;
-    if c == 0 {
-        joiner::copy_at(x, 0, own);
-        return Gathered {
-            turn: 0,
-            len: own.len(),
-        };
-    }
-    let d = child_lists::longest(n, c, fstarts, work);
-    let more = child_lists::handed_on(d, fstarts, frows);
-    let len = joiner::unite(own, more, x);
-    if work[n + c] == 0 {
-        return Gathered { turn: 0, len };
-    }
-    child_lists::mark(n, m + 1, &x[..len], work);
-    child_lists::join_children(n, m + 1, c, len, fstarts, frows, work, x, y)
-}
-
-// The list that was gathered.
-pub fn gathered<'a>(g: Gathered, x: &'a [u32], y: &'a [u32]) -> &'a [u32]
-    requires { ⌜ (g .len ≤ length (now x)) × (g .len ≤ length (now y)) ⌝ }
-    ensures { λ r. ⌜ now r ≡ held (g .turn) (g .len) (now (x .entry)) (now (y .entry)) ⌝ }
-{
-    if g.turn == 0 {
-        &x[..g.len]
-    } else {
-        &y[..g.len]
-    }
-}
+ghost use Rattle.structure.specs.Hanging.{hanging, Hangable};
+ghost use Rattle.structure.specs.Listed.{Storable, Stores, Lengths, Listed};
 
 // Hangs column c under its parent p, before the children that p has; a root is not hung.
 pub fn hang(n: usize, p: usize, c: usize, work: &mut [u64])
@@ -131,11 +70,19 @@ pub fn column_lists(
     fstarts[0] = 0;
     let mut m = 0;
     while m < n {
-        let g = gather(n, m, starts, rows, fstarts, frows, work, x, y);
+        let g = column_list::gather(n, m, starts, rows, fstarts, frows, work, x, y);
         if frows.len() - (fstarts[m] as usize) < g.len {
             return m;
         }
-        store(n, m, gathered(g, x, y), parents, fstarts, frows, work);
+        store(
+            n,
+            m,
+            column_list::gathered(g, x, y),
+            parents,
+            fstarts,
+            frows,
+            work,
+        );
         m += 1;
     }
     n

@@ -1,16 +1,16 @@
--- A refused job and a short slice are ways of their own; everything else is the planned outcome.
+-- A refused job and a short slice are ways of their own; everything else is the plan that is made, what a refusal left being cleared.
 -- Assumes nothing.
 use mathlib.Core.Path.{sym, _∙_}
 use Rattle.job_laws.proofs.Outcomes.{job-answered}
+use Rattle.column_laws.proofs.Testing.{tested}
 use Rattle.lent.proofs.Longs.{not-short}
 use Rattle.lent_plan.proofs.Ways.{way-job, way-short}
-use Rattle.column_laws.proofs.Testing.{tested}
-use borrow.Author.Needs.{needs}
+use Rattle.lent_plan.proofs.Made.{made-cleared}
 use Rattle.analysis.proofs.analyse.Statement.{statement}
 use Rattle.analysis.proofs.analyse.Tie as tie
 
 first-fault-requires : tie.Need-first-fault-requires
-first-fault-requires c κs = search needs
+first-fault-requires c κs = tt
 
 returns : tie.Need-returns
 returns c = way-job _ _ (c .before .before .first-fault .ensures) (c .if1 .taken)
@@ -24,26 +24,50 @@ returns-2 c = way-short _ _ (job-answered _ (c .before .before .before .before .
 planned-requires : tie.Need-planned-requires
 planned-requires c κs = (job-answered _ (c .before .before .before .before .before .before .before .before .before .before .first-fault .ensures) (c .before .before .before .before .before .before .before .before .if1 .left), not-short _ _ (sym (c .before .before .before .before .before .before .before .too-short .ensures) ∙ c .before .before .before .before .before .before .if2 .left))
 
+clear-all-requires : tie.Need-clear-all-requires
+clear-all-requires c κs = tt
+
 same-length : tie.Need-same-length
-same-length c = c .before .before .before .before .before .before .before .before .before .before .before .before .planned .kept .1 .1 .1 .0
+same-length c = c .before .before .before .before .before .before .before .before .before .before .before .before .clear-all .kept .0 ∙ c .before .before .before .before .before .before .before .before .before .before .before .before .before .before .before .before .before .before .before .before .before .before .before .before .before .before .before .before .before .before .before .before .before .planned .kept .1 .1 .1 .0
 
 same-length-2 : tie.Need-same-length-2
-same-length-2 c = c .before .before .before .before .before .before .before .before .before .before .before .before .planned .kept .1 .1 .1 .1 .0
+same-length-2 c = c .before .before .before .before .before .before .before .before .before .before .before .before .clear-all .kept .1 .0 ∙ c .before .before .before .before .before .before .before .before .before .before .before .before .before .before .before .before .before .before .before .before .before .before .before .before .before .before .before .before .before .before .before .before .before .planned .kept .1 .1 .1 .1 .0
 
 same-length-3 : tie.Need-same-length-3
-same-length-3 c = c .before .before .before .before .before .before .before .before .before .before .before .before .planned .kept .1 .1 .1 .1 .1 .0
+same-length-3 c = c .before .before .before .before .before .before .before .before .before .before .before .before .clear-all .kept .1 .1 .0 ∙ c .before .before .before .before .before .before .before .before .before .before .before .before .before .before .before .before .before .before .before .before .before .before .before .before .before .before .before .before .before .before .before .before .before .planned .kept .1 .1 .1 .1 .1 .0
 
 same-length-4 : tie.Need-same-length-4
-same-length-4 c = c .before .before .before .before .before .before .before .before .before .before .before .before .planned .kept .1 .1 .1 .1 .1 .1 .0
+same-length-4 c = c .before .before .before .before .before .before .before .before .before .before .before .before .clear-all .kept .1 .1 .1 .0 ∙ c .before .before .before .before .before .before .before .before .before .before .before .before .before .before .before .before .before .before .before .before .before .before .before .before .before .before .before .before .before .before .before .before .before .planned .kept .1 .1 .1 .1 .1 .1 .0
 
 same-length-5 : tie.Need-same-length-5
-same-length-5 c = c .before .before .before .before .before .before .before .before .before .before .before .before .planned .kept .1 .1 .1 .1 .1 .1 .1 .0
+same-length-5 c = c .before .before .before .before .before .before .before .before .before .before .before .before .clear-all .kept .1 .1 .1 .1 .0 ∙ c .before .before .before .before .before .before .before .before .before .before .before .before .before .before .before .before .before .before .before .before .before .before .before .before .before .before .before .before .before .before .before .before .before .planned .kept .1 .1 .1 .1 .1 .1 .1 .0
 
 same-length-6 : tie.Need-same-length-6
-same-length-6 c = c .before .before .before .before .before .before .before .before .before .before .before .before .planned .kept .1 .1 .1 .1 .1 .1 .1 .1 .0
+same-length-6 c = c .before .before .before .before .before .before .before .before .before .before .before .before .clear-all .kept .1 .1 .1 .1 .1 .0 ∙ c .before .before .before .before .before .before .before .before .before .before .before .before .before .before .before .before .before .before .before .before .before .before .before .before .before .before .before .before .before .before .before .before .before .planned .kept .1 .1 .1 .1 .1 .1 .1 .1 .0
 
 returns-3 : tie.Need-returns-3
-returns-3 c = c .before .before .before .before .before .before .before .before .before .before .before .before .planned .ensures
+returns-3 c = let k = c .before .before .before .before .before .before .before .before .before .before .before .before .before .before .before .before .before .before .before .before .before .before .before .before .before .before .before .before .before .before .before .before .before .planned .kept in made-cleared (c .before .before .before .before .before .before .before .before .before .before .before .before .before .before .before .before .before .before .before .before .before .before .before .before .before .before .before .before .before .before .before .before .before .planned .ensures) (record { parents = k .1 .1 .1 .0; order = k .1 .1 .1 .1 .0; pops = k .1 .1 .1 .1 .1 .0; starts = k .1 .1 .1 .1 .1 .1 .0; rows = k .1 .1 .1 .1 .1 .1 .1 .0; work = k .1 .1 .1 .1 .1 .1 .1 .1 .0 }) (c .before .before .before .before .before .before .before .before .before .before .before .before .before .before .before .before .before .before .before .if3 .taken) (c .before .before .before .before .before .before .before .before .before .before .before .before .clear-all .ensures)
+
+same-length-7 : tie.Need-same-length-7
+same-length-7 c = c .before .before .before .before .before .before .before .before .before .before .before .before .before .before .planned .kept .1 .1 .1 .0
+
+same-length-8 : tie.Need-same-length-8
+same-length-8 c = c .before .before .before .before .before .before .before .before .before .before .before .before .before .before .planned .kept .1 .1 .1 .1 .0
+
+same-length-9 : tie.Need-same-length-9
+same-length-9 c = c .before .before .before .before .before .before .before .before .before .before .before .before .before .before .planned .kept .1 .1 .1 .1 .1 .0
+
+same-length-10 : tie.Need-same-length-10
+same-length-10 c = c .before .before .before .before .before .before .before .before .before .before .before .before .before .before .planned .kept .1 .1 .1 .1 .1 .1 .0
+
+same-length-11 : tie.Need-same-length-11
+same-length-11 c = c .before .before .before .before .before .before .before .before .before .before .before .before .before .before .planned .kept .1 .1 .1 .1 .1 .1 .1 .0
+
+same-length-12 : tie.Need-same-length-12
+same-length-12 c = c .before .before .before .before .before .before .before .before .before .before .before .before .before .before .planned .kept .1 .1 .1 .1 .1 .1 .1 .1 .0
+
+returns-4 : tie.Need-returns-4
+returns-4 c = c .before .before .before .before .before .before .before .before .before .before .before .before .before .before .planned .ensures .done (c .if3 .left)
 
 pub analyse-spec : {M : Type 1} → statement M
 analyse-spec =
@@ -54,10 +78,18 @@ analyse-spec =
     too-short-requires
     returns-2
     planned-requires
+    clear-all-requires
     same-length
     same-length-2
     same-length-3
     same-length-4
     same-length-5
     same-length-6
-    returns-3)
+    returns-3
+    same-length-7
+    same-length-8
+    same-length-9
+    same-length-10
+    same-length-11
+    same-length-12
+    returns-4)

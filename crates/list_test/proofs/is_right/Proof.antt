@@ -4,7 +4,7 @@ use native.Mathlib.Omega.{arith}
 use borrow.Author.Needs.{needs}
 use Rattle.column_laws.proofs.Columns.{tested-below}
 use Rattle.child_lists.proofs.Marks.{changed-none}
-use Rattle.structure.proofs.Begins.{part-of}
+use Rattle.column_list.proofs.Begins.{part-of}
 use Rattle.list_test.proofs.OneChild.{own-markable, own-changes, no-child, child-link, child-found, one-child, list-markable}
 use Rattle.list_test.proofs.is_right.Statement.{statement}
 use Rattle.list_test.proofs.is_right.Tie as tie

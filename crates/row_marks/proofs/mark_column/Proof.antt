@@ -4,7 +4,7 @@
 use native.Mathlib.Omega.{arith}
 use Rattle.papers.specs.Job.{columnOf}
 use Rattle.column_laws.proofs.Columns.{tested-below}
-use Rattle.structure.proofs.Begins.{part-of}
+use Rattle.column_list.proofs.Begins.{part-of}
 use Rattle.row_marks.proofs.Counting.{Counting, own-once, own-markable, own-change, count-begin, count-few, child-at, link, more-once, more-markable, falls, count-turn, count-stop}
 use Rattle.row_marks.proofs.mark_column.Statement.{statement}
 use Rattle.row_marks.proofs.mark_column.Tie as tie

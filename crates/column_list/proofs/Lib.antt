@@ -1,0 +1,3 @@
+pub mod Hung
+pub mod Gathering
+pub mod Begins

@@ -1,0 +1,47 @@
+-- The state between two columns: the lists found so far, where they begin, and the columns hung under their parents.
+-- Assumes nothing.
+use Prim.Native.Nat.{ℕ, _+_, _<_, _≤_}
+use mathlib.Core.Path.{_≡_}
+use mathlib.Core.List.{List}
+use lib.ListN.{length, getD, take}
+use Rattle.papers.specs.Lists.{flat}
+use Rattle.papers.specs.Job.{Pattern}
+use Rattle.papers.specs.Key.{listsOf}
+use Rattle.papers.specs.Fill.{R}
+use Rattle.column_laws.specs.Chains.{Chain}
+use Rattle.child_lists.specs.Marks.{Changed, Fresh}
+use Rattle.child_lists.specs.Buffers.{held}
+use Rattle.column_list.specs.Hung.{hung}
+
+-- column m + 1 has its rows between its two starts
+pub record Part (m : ℕ) (starts rows : List ℕ) : Type 0 where
+  pub started : m + 1 < length starts
+  pub rises : getD starts m 0 ≤ getD starts (m + 1) 0
+  pub ends : getD starts (m + 1) 0 ≤ length rows
+
+-- the rows of the lists of the columns 1 to m
+abbrev pub rowsTo : Pattern → ℕ → List ℕ
+rowsTo A m = flat (listsOf m (R A))
+
+-- after m columns
+pub record Stored (n m : ℕ) (A : Pattern) (fstarts frows work : List ℕ) : Type 0 where
+  pub rows-fit : length (rowsTo A m) ≤ length frows
+  pub rows-are : take (length (rowsTo A m)) frows ≡ rowsTo A m
+  pub starts-long : n < length fstarts
+  pub starts-are : (k : ℕ) → k ≤ m → getD fstarts k 0 ≡ length (rowsTo A k)
+  pub chains : (j : ℕ) → 1 ≤ j → j ≤ n → Chain work n (getD work j 0) (hung A m j)
+  pub fresh : Fresh n m work
+  pub work-long : n + n + n < length work
+
+-- column m + 1 comes next, and there are two buffers for its list
+pub record Next (n m : ℕ) (A : Pattern) (fstarts frows work x y : List ℕ) : Type 0 where
+  pub column : m < n
+  pub stored : Stored n m A fstarts frows work
+  pub room-x : n ≤ length x
+  pub room-y : n ≤ length y
+
+-- its list is held in the buffers
+pub record Gathers (n m : ℕ) (A : Pattern) (work₀ work x y : List ℕ) (turn len : ℕ) : Type 0 where
+  pub count : len ≡ length (R A (m + 1))
+  pub list : held turn len x y ≡ R A (m + 1)
+  pub changed : Changed n (m + 1) work₀ work

@@ -1,0 +1,68 @@
+// The list R(j) of one column: its pattern rows joined with the rows that its children hand on.
+// In work the first child of column j stands at j, the sibling behind column c at n + c, and the mark of row i at n + n + i.
+use child_lists::Gathered;
+ghost use mathlib.Core.Path.{_≡_};
+ghost use Prim.Native.Nat.{_+_, _≤_};
+ghost use lib.ListN.{length};
+ghost use Rattle.papers.specs.Job.{columnOf};
+ghost use Rattle.column_laws.specs.Tested.{Tested};
+ghost use Rattle.child_lists.specs.Buffers.{held};
+ghost use Rattle.column_list.specs.Stored.{Part, Next, Gathers};
+
+// The pattern rows of column m + 1.
+pub fn pattern_rows<'a>(m: usize, starts: &[u64], rows: &'a [u32]) -> &'a [u32]
+    requires { ⌜ Part m (now starts) (now rows) ⌝ }
+    ensures { λ r. ⌜ now r ≡ columnOf (now (starts .entry)) (now (rows .entry)) (m + 1) ⌝ }
+{
+    let s = starts[m] as usize;
+    let e = starts[m + 1] as usize;
+    &rows[s..e]
+}
+
+// Gathers R(m + 1) in the buffers: the pattern rows joined with those that the longest child hands on, then with those of the other children.
+// Rows are marked only where there is more than one child.
+pub fn gather<'a>(
+    n: usize,
+    m: usize,
+    starts: &[u64],
+    rows: &'a [u32],
+    fstarts: &[u64],
+    frows: &'a [u32],
+    work: &mut [u64],
+    x: &mut [u32],
+    y: &mut [u32],
+) -> Gathered
+    requires tested { ⌜ Tested n (now starts) (now rows) ⌝ }
+    requires next { ⌜ Next n m (columnOf (now starts) (now rows)) (now fstarts) (now frows) (now work) (now x) (now y) ⌝ }
+    ensures { λ r. ⌜ Gathers n m (columnOf (now (starts .entry)) (now (rows .entry))) (now (work .entry)) (now (work .exit)) (now (x .exit)) (now (y .exit)) (r .turn) (r .len) ⌝ }
+{
+    let own = pattern_rows(m, starts, rows);
+    let c = work[m + 1] as usize;
+    if c == 0 {
+        joiner::copy_at(x, 0, own);
+        return Gathered {
+            turn: 0,
+            len: own.len(),
+        };
+    }
+    let d = child_lists::longest(n, c, fstarts, work);
+    let more = child_lists::handed_on(d, fstarts, frows);
+    let len = joiner::unite(own, more, x);
+    if work[n + c] == 0 {
+        return Gathered { turn: 0, len };
+    }
+    child_lists::mark(n, m + 1, &x[..len], work);
+    child_lists::join_children(n, m + 1, c, len, fstarts, frows, work, x, y)
+}
+
+// The list that was gathered.
+pub fn gathered<'a>(g: Gathered, x: &'a [u32], y: &'a [u32]) -> &'a [u32]
+    requires { ⌜ (g .len ≤ length (now x)) × (g .len ≤ length (now y)) ⌝ }
+    ensures { λ r. ⌜ now r ≡ held (g .turn) (g .len) (now (x .entry)) (now (y .entry)) ⌝ }
+{
+    if g.turn == 0 {
+        &x[..g.len]
+    } else {
+        &y[..g.len]
+    }
+}

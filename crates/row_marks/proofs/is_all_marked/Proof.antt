@@ -1,0 +1,41 @@
+-- `row_marks::is_all_marked` meets its contract: a list that has as many rows as are marked is right just where all of its rows are.
+-- Assumes nothing.
+use mathlib.Core.Path.{_∙_}
+use native.Mathlib.Omega.{arith}
+use Rattle.column_laws.proofs.Columns.{tested-below}
+use Rattle.row_marks.proofs.Judging.{not-as-many, as-many}
+use Rattle.row_marks.proofs.is_all_marked.Statement.{statement}
+use Rattle.row_marks.proofs.is_all_marked.Tie as tie
+
+mark-column-requires : tie.Need-mark-column-requires
+mark-column-requires c κs = (c .before .before .before .before .before .before .before .pre .0, (c .before .before .before .before .before .before .before .pre .1 .0, c .before .before .before .before .before .before .before .pre .1 .1 .0))
+
+same-length : tie.Need-same-length
+same-length c = omega arith
+
+returns : tie.Need-returns
+returns c = (not-as-many (c .before .before .before .mark-column .ensures) _ (c .if1 .taken), c .before .before .before .mark-column .ensures .changed)
+
+add-covered : tie.Need-add-covered
+add-covered c = omega arith
+
+covered-requires : tie.Need-covered-requires
+covered-requires c κs = record { most = c .before .before .before .before .before .before .before .before .before .before .before .before .pre .1 .1 .1 .1; long = rw (c .before .before .before .before .mark-column .kept .1 .1 .1 .1 .1 .1 .0) (c .before .before .before .before .before .before .before .before .before .before .before .before .pre .1 .1 .0 .work-long) }
+
+same-length-2 : tie.Need-same-length-2
+same-length-2 c = omega arith
+
+returns-2 : tie.Need-returns-2
+returns-2 c = (c .covered .ensures ∙ as-many (c .before .before .before .before .before .mark-column .ensures) _ (tested-below (c .before .before .before .before .before .before .before .before .before .before .before .before .before .pre .0)) (c .before .before .before .before .before .before .before .before .before .before .before .before .before .pre .1 .1 .1) (c .before .before .if1 .left), c .before .before .before .before .before .mark-column .ensures .changed)
+
+pub is-all-marked-spec : {M : Type 1} → statement M
+is-all-marked-spec =
+    tie.close
+    (tie.spec
+    mark-column-requires
+    same-length
+    returns
+    add-covered
+    covered-requires
+    same-length-2
+    returns-2)

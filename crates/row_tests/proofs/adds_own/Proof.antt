@@ -1,0 +1,58 @@
+-- `row_tests::adds_own` meets its contract: its answer is that of its two tests, over the marks of the pattern rows.
+-- Assumes nothing.
+use mathlib.Core.Path.{sym, ap, _∙_}
+use borrow.Author.Needs.{needs}
+use denote.Ref.{now}
+use Rattle.papers.specs.Lists.{every}
+use Rattle.row_tests.proofs.Comparing.{not-both, then-other, rest-part, rest-markable}
+use Rattle.row_tests.proofs.adds_own.Statement.{statement}
+use Rattle.row_tests.proofs.adds_own.Tie as tie
+
+mark-requires : tie.Need-mark-requires
+mark-requires c κs = search needs
+
+count-marked-requires : tie.Need-count-marked-requires
+count-marked-requires c κs = search needs
+
+same-length : tie.Need-same-length
+same-length c = search needs
+
+returns : tie.Need-returns
+returns c = (not-both _ _ _ (λ e. c .if1 .taken (c .before .count-marked .ensures ∙ e)), c .before .before .before .before .before .mark .ensures)
+
+mul-covered : tie.Need-mul-covered
+mul-covered c = search needs
+
+sub-covered : tie.Need-sub-covered
+sub-covered c = search needs
+
+part-covered-start : tie.Need-part-covered-start
+part-covered-start c = search needs
+
+part-covered-end : tie.Need-part-covered-end
+part-covered-end c = search needs
+
+covered-requires : tie.Need-covered-requires
+covered-requires c κs = rest-markable _ (c .before .before .before .before .before .before .before .before .before .before .before .before .pre .1 .0) (c .before .before .before .before .before .before .before .mark .kept .1 .1 .1 .0)
+
+same-length-2 : tie.Need-same-length-2
+same-length-2 c = search needs
+
+returns-2 : tie.Need-returns-2
+returns-2 c = (c .covered .ensures ∙ ap (every _) (rest-part (now (c .before .before .before .before .before .before .before .before .before .before .before .before .before .args .list)) (c .before .before .before .before .before .before .before .before .before .before .before .before .before .args .p)) ∙ then-other _ _ _ (sym (c .before .before .before .before .count-marked .ensures) ∙ c .before .before .before .if1 .left), c .before .before .before .before .before .before .before .before .mark .ensures)
+
+pub adds-own-spec : {M : Type 1} → statement M
+adds-own-spec =
+    tie.close
+    (tie.spec
+    mark-requires
+    count-marked-requires
+    same-length
+    returns
+    mul-covered
+    sub-covered
+    part-covered-start
+    part-covered-end
+    covered-requires
+    same-length-2
+    returns-2)

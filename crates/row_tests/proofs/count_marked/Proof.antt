@@ -1,0 +1,89 @@
+-- `row_tests::count_marked` meets its contract: count, and the marked rows among those left, are all of them. The measure is what is left.
+-- Assumes nothing.
+use Prim.Native.Nat.{_-_}
+use native.Mathlib.Omega.{arith}
+use lib.ListN.{length}
+use borrow.Author.Needs.{needs}
+use borrow.Author.Tests.{eq-eqb, ne-eqb}
+use Rattle.child_lists.specs.Marks.{isMarked}
+use Rattle.child_lists.proofs.Marks.{mark-place}
+use Rattle.row_tests.proofs.Comparing.{Counts, counts-begin, counts-one, counts-none, counts-end}
+use Rattle.row_tests.proofs.count_marked.Statement.{statement}
+use Rattle.row_tests.proofs.count_marked.Tie as tie
+
+abbrev Inv-loop : tie.InvT-loop
+Inv-loop n j list work count₀ k₀ count k = Counts (isMarked n j work) list count k
+
+abbrev μ-loop : tie.MeasureT-loop
+μ-loop n j list work count₀ k₀ count k = length list - k
+
+loop-holds : tie.Need-loop-holds Inv-loop μ-loop
+loop-holds c = counts-begin _ _
+
+add-if1 : tie.Need-add-if1 Inv-loop μ-loop
+add-if1 c = search needs
+
+mul-if1 : tie.Need-mul-if1 Inv-loop μ-loop
+mul-if1 c = search needs
+
+shared-slice-read-if1 : tie.Need-shared-slice-read-if1 Inv-loop μ-loop
+shared-slice-read-if1 c = search needs
+
+cast-if1 : tie.Need-cast-if1 Inv-loop μ-loop
+cast-if1 c = omega (arith, c .shared-slice-known .given (c .before .before .loop .k))
+
+add-if1-2 : tie.Need-add-if1-2 Inv-loop μ-loop
+add-if1-2 c = let h = mark-place (c .before .before .before .pre) _ (c .before .loop-test .taken) in let g = c .before .before .before .good .1 .1 .1 .0 in omega arith
+
+mul-if1-2 : tie.Need-mul-if1-2 Inv-loop μ-loop
+mul-if1-2 c = let h = mark-place (c .before .before .before .pre) _ (c .before .loop-test .taken) in let g = c .before .before .before .good .1 .1 .1 .0 in omega arith
+
+shared-slice-read-if1-2 : tie.Need-shared-slice-read-if1-2 Inv-loop μ-loop
+shared-slice-read-if1-2 c = mark-place (c .before .before .before .before .pre) _ (c .before .before .loop-test .taken)
+
+add-count : tie.Need-add-count Inv-loop μ-loop
+add-count c = search needs
+
+add-k : tie.Need-add-k Inv-loop μ-loop
+add-k c = search needs
+
+loop-less : tie.Need-loop-less Inv-loop μ-loop
+loop-less c = search needs
+
+loop-again : tie.Need-loop-again Inv-loop μ-loop
+loop-again c = counts-one (c .before .before .before .before .loop .inv) (c .before .before .before .loop-test .taken) (eq-eqb _ _ (c .if1 .taken))
+
+add-k-2 : tie.Need-add-k-2 Inv-loop μ-loop
+add-k-2 c = search needs
+
+loop-less-2 : tie.Need-loop-less-2 Inv-loop μ-loop
+loop-less-2 c = search needs
+
+loop-again-2 : tie.Need-loop-again-2 Inv-loop μ-loop
+loop-again-2 c = counts-none (c .before .before .before .before .loop .inv) (c .before .before .before .loop-test .taken) (ne-eqb _ _ (c .if1 .left))
+
+returns : tie.Need-returns Inv-loop μ-loop
+returns c = counts-end (c .before .loop .inv) (c .loop-test .left)
+
+pub count-marked-spec : {M : Type 1} → statement M
+count-marked-spec =
+    tie.close
+    (tie.spec
+    Inv-loop
+    μ-loop
+    loop-holds
+    add-if1
+    mul-if1
+    shared-slice-read-if1
+    cast-if1
+    add-if1-2
+    mul-if1-2
+    shared-slice-read-if1-2
+    add-count
+    add-k
+    loop-less
+    loop-again
+    add-k-2
+    loop-less-2
+    loop-again-2
+    returns)

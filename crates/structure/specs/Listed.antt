@@ -1,0 +1,46 @@
+-- A list stored as that of a column, the lengths of what is lent for all of them, and the lists of the columns that are done.
+-- Assumes nothing.
+use Prim.Native.Nat.{ℕ, suc, _+_, _<_, _≤_}
+use mathlib.Core.Path.{_≡_}
+use mathlib.Core.List.{List, map}
+use lib.ListN.{length, getD, set}
+use lib.Seq.{sets}
+use Rattle.papers.specs.Lists.{head0, upTo, flat, startsFrom}
+use Rattle.papers.specs.Job.{Pattern}
+use Rattle.papers.specs.Key.{listsOf}
+use Rattle.papers.specs.Fill.{R}
+use Rattle.papers.specs.Tree.{parent}
+use Rattle.structure.specs.Hanging.{hanging}
+
+-- a list can be stored as that of column m + 1
+pub record Storable (n m : ℕ) (list parents fstarts frows work : List ℕ) : Type 0 where
+  pub column : m < n
+  pub parent-most : head0 list ≤ n
+  pub parents-long : n ≤ length parents
+  pub starts-long : n < length fstarts
+  pub rows-fit : getD fstarts m 0 + length list ≤ length frows
+  pub work-long : n + n < length work
+
+-- it is stored, its parent is its least row, and the column hangs under it
+pub record Stores (n m : ℕ) (list parents₀ fstarts₀ frows₀ work₀ parents fstarts frows work : List ℕ) : Type 0 where
+  pub parents-are : parents ≡ set parents₀ m (head0 list)
+  pub starts-are : fstarts ≡ set fstarts₀ (m + 1) (getD fstarts₀ m 0 + length list)
+  pub rows-are : frows ≡ sets frows₀ (getD fstarts₀ m 0) list
+  pub work-is : work ≡ hanging n (head0 list) (m + 1) work₀
+
+-- the lengths of what is lent for n columns; each may be longer
+pub record Lengths (n : ℕ) (parents fstarts x y work : List ℕ) : Type 0 where
+  pub parents-long : n ≤ length parents
+  pub starts-long : n < length fstarts
+  pub room-x : n ≤ length x
+  pub room-y : n ≤ length y
+  pub work-long : n + n + n < length work
+
+-- r columns are done: all n, or as many as there is room for
+pub record Listed (n r : ℕ) (A : Pattern) (parents₀ fstarts₀ frows₀ parents fstarts frows : List ℕ) : Type 0 where
+  pub most : r ≤ n
+  pub lacks : r < n → length frows₀ < length (flat (listsOf (suc r) (R A)))
+  pub fits : length (flat (listsOf r (R A))) ≤ length frows₀
+  pub parents-are : parents ≡ sets parents₀ 0 (map (parent A) (upTo r))
+  pub starts-are : fstarts ≡ sets fstarts₀ 0 (startsFrom 0 (listsOf r (R A)))
+  pub rows-are : frows ≡ sets frows₀ 0 (flat (listsOf r (R A)))
