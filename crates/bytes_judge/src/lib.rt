@@ -29,17 +29,17 @@ pub fn judge_bytes(
 {
     match key_match::match_key(head, starts, rows, plan) {
         KeyMatch::Differs { place } => {
-            return plan_judge::answered(11, place, 0);
+            return basics::answered(11, place, 0);
         }
         KeyMatch::Begins { next } => {
             lent::clear_all(parents, order, pops, fstarts, frows, work);
             match plan_reader::read_plan(head.n, plan, next, order, pops, fstarts, frows) {
                 PlanReading::Faulty { number, place } => {
-                    return plan_judge::answered(number, place, 0);
+                    return basics::answered(number, place, 0);
                 }
                 PlanReading::Whole { peak, rows: count } => {
                     if (frows.len() as u64) < count {
-                        return plan_judge::answered(8, 0, count);
+                        return basics::answered(8, 0, count);
                     }
                     return plan_judge::judge(
                         head,

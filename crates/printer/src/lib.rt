@@ -9,13 +9,6 @@ ghost use Rattle.papers.specs.Text.{space, decimalOf, printed, wordPlan, refusa
 ghost use Rattle.printer.specs.Numbered.{numbered};
 use papers::Answer;
 
-// A row as a 64-bit number.
-fn wide(row: u32) -> u64
-    ensures { λ r. ⌜ r ≡ row ⌝ }
-{
-    row as u64
-}
-
 // Writes x in decimal: the digits of its tenth, where it has one, then its last digit.
 fn write_decimal(x: u64, bytes: &mut [u8], at: usize) -> usize
     requires { ⌜ at + length (decimalOf x) ≤ length (now bytes) ⌝ }
@@ -50,7 +43,7 @@ fn write_rows(rows: &[u32], bytes: &mut [u8], at: usize) -> usize
     let mut next = at;
     let mut i = 0;
     while i < rows.len() {
-        next = write_number(wide(rows[i]), bytes, next);
+        next = write_number(basics::wide32(rows[i]), bytes, next);
         i += 1;
     }
     next
