@@ -17,9 +17,11 @@ use Rattle.list_laws.proofs.Stores.{sets-append, sets-more, starts-more, length
 use Rattle.job_laws.proofs.Faults.{faulty, faults-next}
 use Rattle.text_laws.proofs.Lines.{after-next}
 use Rattle.text_laws.proofs.Numbers.{numbers-later}
+use Rattle.text_words.specs.Words.{LineTo}
+use Rattle.kept_rows.specs.Narrowed.{narrowed}
 use Rattle.text_lines.specs.declared.Line.{Line}
 use Rattle.text_lines.specs.declared.Line.the-variants.{Rows, Bad}
-use Rattle.text_lines.specs.Lines.{narrowed, LineTo, LineTold, row-line, bad-line}
+use Rattle.text_lines.specs.Lines.{LineTold, row-line, bad-line}
 use Rattle.text_reader.specs.declared.Lines.{Lines}
 use Rattle.text_reader.specs.declared.Lines.the-variants as lines
 use Rattle.text_reader.specs.Reading.{columnLists, LinesTold, all-lines, bad-lines}

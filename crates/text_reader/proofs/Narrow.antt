@@ -25,7 +25,7 @@ use Rattle.job_laws.proofs.Outcomes.{outcome-untouched, job-refuses}
 use Rattle.job_laws.proofs.Untouched.{job-untouched}
 use Rattle.job_laws.proofs.Passed.{PassedLists, passes-iff}
 use Rattle.job_laws.proofs.Rows.{row-over, rows-fault, rows-next}
-use Rattle.text_lines.specs.Lines.{narrowed}
+use Rattle.kept_rows.specs.Narrowed.{narrowed}
 use Rattle.text_reader.specs.Reading.{keptJob}
 
 -- ---- the rows of a column
