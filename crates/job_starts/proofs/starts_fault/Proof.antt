@@ -4,9 +4,9 @@ use borrow.Author.Needs.{needs}
 use Prim.Native.Nat.{_-_}
 use Rattle.job_laws.proofs.Firsts.{answer-refused, answer-passed}
 use Rattle.job_laws.proofs.Starts.{start-at, starts-few, starts-from}
-use Rattle.job.proofs.Rising.{Rising, begin, next, fall, end, pass}
-use Rattle.job.proofs.starts_fault.Statement.{statement}
-use Rattle.job.proofs.starts_fault.Tie as tie
+use Rattle.job_starts.proofs.Rising.{Rising, begin, next, fall, end, pass}
+use Rattle.job_starts.proofs.starts_fault.Statement.{statement}
+use Rattle.job_starts.proofs.starts_fault.Tie as tie
 
 abbrev Inv-loop : tie.InvT-loop
 Inv-loop n starts rows done₀ done = Rising n starts done
@@ -17,20 +17,20 @@ abbrev μ-loop : tie.MeasureT-loop
 add-if1 : tie.Need-add-if1 Inv-loop μ-loop
 add-if1 c = search needs
 
-uncounted-requires : tie.Need-uncounted-requires Inv-loop μ-loop
-uncounted-requires c κs = search needs
+answered-requires : tie.Need-answered-requires Inv-loop μ-loop
+answered-requires c κs = search needs
 
 returns : tie.Need-returns Inv-loop μ-loop
-returns c = answer-refused (starts-few _ _ _ (c .before .if1 .taken)) (c .uncounted .ensures)
+returns c = answer-refused (starts-few _ _ _ (c .before .if1 .taken)) (c .answered .ensures)
 
 shared-slice-read-if2 : tie.Need-shared-slice-read-if2 Inv-loop μ-loop
 shared-slice-read-if2 c = search needs
 
-uncounted-requires-2 : tie.Need-uncounted-requires-2 Inv-loop μ-loop
-uncounted-requires-2 c κs = search needs
+answered-requires-2 : tie.Need-answered-requires-2 Inv-loop μ-loop
+answered-requires-2 c κs = search needs
 
 returns-2 : tie.Need-returns-2 Inv-loop μ-loop
-returns-2 c = answer-refused (starts-from _ _ _ (c .before .before .before .if1 .left) (rw (start-at _ 0) (c .before .if2 .taken))) (c .uncounted2 .ensures)
+returns-2 c = answer-refused (starts-from _ _ _ (c .before .before .before .if1 .left) (rw (start-at _ 0) (c .before .if2 .taken))) (c .answered2 .ensures)
 
 loop-holds : tie.Need-loop-holds Inv-loop μ-loop
 loop-holds c = begin _ (c .before .before .if1 .left) (c .if2 .left)
@@ -50,14 +50,14 @@ mul-if3-2 c = search needs
 shared-slice-read-if3-2 : tie.Need-shared-slice-read-if3-2 Inv-loop μ-loop
 shared-slice-read-if3-2 c = search needs
 
-add-uncounted : tie.Need-add-uncounted Inv-loop μ-loop
-add-uncounted c = search needs
+add-answered : tie.Need-add-answered Inv-loop μ-loop
+add-answered c = search needs
 
-uncounted-requires-3 : tie.Need-uncounted-requires-3 Inv-loop μ-loop
-uncounted-requires-3 c κs = search needs
+answered-requires-3 : tie.Need-answered-requires-3 Inv-loop μ-loop
+answered-requires-3 c κs = search needs
 
 returns-3 : tie.Need-returns-3 Inv-loop μ-loop
-returns-3 c = answer-refused (fall (c .before .before .before .before .before .loop .inv) _ (c .before .before .before .before .loop-test .taken) (c .before .if3 .taken)) (c .uncounted3 .ensures)
+returns-3 c = answer-refused (fall (c .before .before .before .before .before .loop .inv) _ (c .before .before .before .before .loop-test .taken) (c .before .if3 .taken)) (c .answered3 .ensures)
 
 add-done : tie.Need-add-done Inv-loop μ-loop
 add-done c = search needs
@@ -74,17 +74,17 @@ mul-if4 c = search needs
 shared-slice-read-if4 : tie.Need-shared-slice-read-if4 Inv-loop μ-loop
 shared-slice-read-if4 c = search needs
 
-uncounted-requires-4 : tie.Need-uncounted-requires-4 Inv-loop μ-loop
-uncounted-requires-4 c κs = search needs
+answered-requires-4 : tie.Need-answered-requires-4 Inv-loop μ-loop
+answered-requires-4 c κs = search needs
 
 returns-4 : tie.Need-returns-4 Inv-loop μ-loop
-returns-4 c = answer-refused (end (c .before .before .before .before .loop .inv) _ (c .before .before .before .loop-test .left) (c .before .if4 .taken)) (c .uncounted4 .ensures)
+returns-4 c = answer-refused (end (c .before .before .before .before .loop .inv) _ (c .before .before .before .loop-test .left) (c .before .if4 .taken)) (c .answered4 .ensures)
 
-uncounted-requires-5 : tie.Need-uncounted-requires-5 Inv-loop μ-loop
-uncounted-requires-5 c κs = search needs
+answered-requires-5 : tie.Need-answered-requires-5 Inv-loop μ-loop
+answered-requires-5 c κs = search needs
 
 returns-5 : tie.Need-returns-5 Inv-loop μ-loop
-returns-5 c = answer-passed (pass (c .before .before .before .before .loop .inv) _ (c .before .before .before .loop-test .left) (c .before .if4 .left)) (c .uncounted5 .ensures)
+returns-5 c = answer-passed (pass (c .before .before .before .before .loop .inv) _ (c .before .before .before .loop-test .left) (c .before .if4 .left)) (c .answered5 .ensures)
 
 pub starts-fault-spec : {M : Type 1} → statement M
 starts-fault-spec =
@@ -93,10 +93,10 @@ starts-fault-spec =
     Inv-loop
     μ-loop
     add-if1
-    uncounted-requires
+    answered-requires
     returns
     shared-slice-read-if2
-    uncounted-requires-2
+    answered-requires-2
     returns-2
     loop-holds
     add-if3
@@ -104,15 +104,15 @@ starts-fault-spec =
     shared-slice-read-if3
     mul-if3-2
     shared-slice-read-if3-2
-    add-uncounted
-    uncounted-requires-3
+    add-answered
+    answered-requires-3
     returns-3
     add-done
     loop-less
     loop-again
     mul-if4
     shared-slice-read-if4
-    uncounted-requires-4
+    answered-requires-4
     returns-4
-    uncounted-requires-5
+    answered-requires-5
     returns-5)

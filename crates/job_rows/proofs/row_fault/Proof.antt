@@ -5,8 +5,8 @@ use mathlib.Core.Logic.{⊎-elim}
 use native.Mathlib.Omega.{arith}
 use borrow.Author.Tests.{ltb-true, ltb-false}
 use Rattle.job_laws.proofs.Rows.{row-low, row-over, row-falls, row-fine}
-use Rattle.job.proofs.row_fault.Statement.{statement}
-use Rattle.job.proofs.row_fault.Tie as tie
+use Rattle.job_rows.proofs.row_fault.Statement.{statement}
+use Rattle.job_rows.proofs.row_fault.Tie as tie
 
 returns : tie.Need-returns
 returns c = ⊎-elim (λ w. sym (row-low _ _ _ _ (w .taken))) (λ w. sym (row-over _ _ _ _ (w .0 .left) (ltb-true _ _ (w .1 .taken)))) (c .if1 .came)

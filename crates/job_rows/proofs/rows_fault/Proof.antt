@@ -3,9 +3,9 @@
 use borrow.Author.Needs.{needs}
 use Prim.Native.Nat.{_-_}
 use native.Mathlib.Omega.{arith}
-use Rattle.job.proofs.Reading.{Columns, Rows, first-column, last-column, first-row, next-row, next-column, found}
-use Rattle.job.proofs.rows_fault.Statement.{statement}
-use Rattle.job.proofs.rows_fault.Tie as tie
+use Rattle.job_rows.proofs.Reading.{Columns, Rows, first-column, last-column, first-row, next-row, next-column, found}
+use Rattle.job_rows.proofs.rows_fault.Statement.{statement}
+use Rattle.job_rows.proofs.rows_fault.Tie as tie
 
 abbrev Inv-rows : tie.InvT-rows
 Inv-rows n starts rows number₀ place₀ done j i₀ end before₀ number place i before = Rows n starts rows j end number place i before
