@@ -1,8 +1,7 @@
--- From what the reading and the judgement answer to what is known of the check, and from that to its outcome once the slices are cleared.
+-- From what the reading and the judgement answer to what is known of the check.
 -- Assumes nothing.
 use Prim.Native.Nat.{ℕ, _<_, _≤_}
 use mathlib.Core.Path.{_≡_, refl, sym, ap, _∙_}
-use mathlib.Core.Logic.{_≢_}
 use mathlib.Core.List.{List, map}
 use native.Mathlib.Omega.{arith}
 use lib.ListN.{length, getD}
@@ -13,11 +12,10 @@ use Rattle.papers.specs.Job.{Job, pattern}
 use Rattle.papers.specs.Tree.{parent}
 use Rattle.papers.specs.Key.{keyOf}
 use Rattle.papers.specs.Plan.{Plan, Read, got, bad, readPlan}
-use Rattle.papers.specs.Refusals.{answer, passed, first, Outcome, jobTests, Lent, allZero}
+use Rattle.papers.specs.Refusals.{answer, passed, first, jobTests, Lent, allZero}
 use Rattle.papers.specs.Analysis.{holdingPlan}
-use Rattle.papers.specs.Check.{CheckCall, keyTest, planRead, checkTests, checkDone, checked}
+use Rattle.papers.specs.Check.{CheckCall, keyTest, planRead, checkDone}
 use Rattle.bytes_laws.proofs.Plans.{Fit, plan-only}
-use Rattle.job_laws.proofs.Outcomes.{outcome-zeroed, outcome-done}
 use Rattle.lent.specs.Six.{six, LongEnough}
 use Rattle.lent.proofs.Sixes.{each-zero}
 use Rattle.key_match.specs.declared.KeyMatch.{KeyMatch}
@@ -29,7 +27,7 @@ use Rattle.plan_reader.specs.declared.PlanReading.the-variants.{Whole, Faulty}
 use Rattle.plan_reader.specs.Plans.{planReading, Keeps}
 use Rattle.plan_judge.specs.Judged.{InFront, HoldPlan, judgeTests, ruling, Judged}
 use Rattle.plan_judge.proofs.Rulings.{Told, refusal, clean, told, number-of}
-use Rattle.bytes_judge.specs.Ruled.{callOf, Ruled, refuses, passes}
+use Rattle.bytes_judge.specs.Ruled.{callOf, Ruled, refuses, passes, HeldIfWhole, Followed, fault, over, judged}
 use Rattle.bytes_judge.proofs.Ways.{passes-11, refuses-12, refuses-8, from-16}
 use Rattle.bytes_judge.proofs.Fronts.{InSlices, in-slices, held-in-front, done-holds}
 
@@ -64,10 +62,10 @@ module _ (job : Job) (bytes : List ℕ) (lent : Lent) (p : first jobTests job �
     unfolding checkDone
     done-is = rw (read, checkDone)
 
-    pub judged : {parents order pops starts rows : List ℕ} {peak : ℕ} {r : Answer} → length (flat (plan .lists)) ≤ length (lent .factorRows) → plan .peak ≡ peak
+    judged-plan : {parents order pops starts rows : List ℕ} {peak : ℕ} {r : Answer} → length (flat (plan .lists)) ≤ length (lent .factorRows) → plan .peak ≡ peak
         → r ≡ ruling (first (judgeTests job) plan) peak → (r .number ≡ 0 → six parents order pops starts rows (zeros (lent .work)) ≡ holdingPlan job plan lent)
         → Ruled call parents order pops starts rows r
-    judged {parents} {order} {pops} {starts} {rows} {peak} {r} fits declared e holds = go (told job plan peak e)
+    judged-plan {parents} {order} {pops} {starts} {rows} {peak} {r} fits declared e holds = go (told job plan peak e)
       where
         go : Told (first (judgeTests job) plan) peak r → Ruled call parents order pops starts rows r
         go (refusal q z) = refuses (from-16 job bytes lent p long begins read fits ∙ q) z
@@ -91,7 +89,7 @@ module _ (job : Job) (bytes : List ℕ) (lent : Lent) (p : first jobTests job �
     found = rw at-key at answered
 
     -- 12 to 15
-    pub ruled-faulty : {number place : ℕ} {parents order pops starts rows : List ℕ} {r : Answer} → g ≡ Faulty number place → r ≡ answer number place 0
+    ruled-faulty : {number place : ℕ} {parents order pops starts rows : List ℕ} {r : Answer} → g ≡ Faulty number place → r ≡ answer number place 0
         → Ruled (callOf job bytes lent) parents order pops starts rows r
     ruled-faulty f e = let (v, z) = refuses-12 job bytes lent p long begins (reading-faulty _ found f) e in refuses v (λ n. omega arith)
 
@@ -100,7 +98,7 @@ module _ (job : Job) (bytes : List ℕ) (lent : Lent) (p : first jobTests job �
       whole = reading-whole _ found f
 
       -- 8
-      pub ruled-rows : {parents order pops starts rows : List ℕ} {r : Answer} → length (lent .factorRows) < count → r ≡ answer 8 0 count → Ruled (callOf job bytes lent) parents order pops starts rows r
+      ruled-rows : {parents order pops starts rows : List ℕ} {r : Answer} → length (lent .factorRows) < count → r ≡ answer 8 0 count → Ruled (callOf job bytes lent) parents order pops starts rows r
       ruled-rows l e =
           refuses (refuses-8 job bytes lent p long begins (whole .read) (omega (arith, whole .counted)) (e ∙ ap (answer 8 0) (sym (whole .counted)))) (λ n. omega (arith, number-of e))
 
@@ -121,29 +119,23 @@ module _ (job : Job) (bytes : List ℕ) (lent : Lent) (p : first jobTests job �
           front : InFront (job .n) (whole .plan) peak o q s r
           front = held-in-front fit lent kept (whole .declared)
 
-          pub plan-held : HoldPlan (job .n) peak o q s r
+          plan-held : HoldPlan (job .n) peak o q s r
           plan-held = record { plan = whole .plan; front = front }
 
-          pub ruled-judged : {parents : List ℕ} {a : Answer} → Judged job peak o q s r a → (a .number ≡ 0 → parents ≡ sets p₁ 0 (map (parent (pattern job)) (upTo (job .n))))
+          ruled-judged : {parents : List ℕ} {a : Answer} → Judged job peak o q s r a → (a .number ≡ 0 → parents ≡ sets p₁ 0 (map (parent (pattern job)) (upTo (job .n))))
               → Ruled (callOf job bytes lent) parents o q s r a
           ruled-judged e stores =
-              judged job bytes lent p long begins (whole .read) (omega (arith, whole .counted)) (whole .declared) (e (whole .plan) front)
+              judged-plan job bytes lent p long begins (whole .read) (omega (arith, whole .counted)) (whole .declared) (e (whole .plan) front)
               (λ z. done-holds job (whole .plan) lent (long .parents) (each-zero lent _ cleared .parents) (stores z) kept)
 
--- ---- the outcome
-module _ {job : Job} {bytes : List ℕ} {lent : Lent} {parents order pops starts rows : List ℕ} {r : Answer} (ruled : Ruled (callOf job bytes lent) parents order pops starts rows r) where
-  pub way-refused : {after : Lent} → r .number ≢ 0 → after ≡ allZero lent → _≡_ {A = Outcome Lent} (record { answer = r; lent = after }) (checked job bytes lent)
-  unfolding checked
-  way-refused {after} z e = go ruled
-    where
-      go : Ruled (callOf job bytes lent) parents order pops starts rows r → _≡_ {A = Outcome Lent} (record { answer = r; lent = after }) (checked job bytes lent)
-      go (refuses q n) = (λ i. record { answer = r; lent = e i }) ∙ sym (outcome-zeroed checkTests checkDone allZero (callOf job bytes lent) lent q)
-      go (passes q n h) = absurd (z n)
+    -- what the reading answered, and what followed
+    module _ (each-byte : (i : ℕ) → getD bytes i 0 < 256) {p₁ o₁ q₁ s₁ r₁ w₁ o q s r : List ℕ} (cleared : six p₁ o₁ q₁ s₁ r₁ w₁ ≡ allZero lent)
+        (keeps : Keeps (readPlan (job .n) bytes at) o₁ o q₁ q s₁ s r₁ r) (as-many : length r ≡ length (lent .factorRows))
+      where
+        pub whole-held : HeldIfWhole (job .n) g o q s r
+        whole-held peak count f h = plan-held f each-byte (omega arith) cleared keeps
 
-  pub way-done : {work : List ℕ} → r .number ≡ 0 → work ≡ zeros (lent .work) → _≡_ {A = Outcome Lent} (record { answer = r; lent = six parents order pops starts rows work }) (checked job bytes lent)
-  unfolding checked
-  way-done {work} z e = go ruled
-    where
-      go : Ruled (callOf job bytes lent) parents order pops starts rows r → _≡_ {A = Outcome Lent} (record { answer = r; lent = six parents order pops starts rows work }) (checked job bytes lent)
-      go (refuses q n) = absurd (n z)
-      go (passes q n h) = (λ i. record { answer = r; lent = six parents order pops starts rows (e i) }) ∙ h ∙ sym (outcome-done checkTests checkDone allZero (callOf job bytes lent) lent q)
+        pub ruled : {parents : List ℕ} {a : Answer} → Followed job g p₁ o q s r parents a → Ruled (callOf job bytes lent) parents o q s r a
+        ruled (fault number place f e) = ruled-faulty f e
+        ruled (over peak count f h e) = ruled-rows f (omega arith) e
+        ruled (judged peak count f h e stores) = ruled-judged f each-byte (omega arith) cleared keeps e stores

@@ -8,17 +8,17 @@ use mathlib.Core.List.{List, [], _∷_, map}
 use native.Mathlib.Omega.{arith}
 use lib.ListN.{length}
 use Rattle.papers.specs.declared.Answer.{Answer}
-use Rattle.papers.specs.Lists.{flat}
+use Rattle.papers.specs.Lists.{flat, zeros}
 use Rattle.papers.specs.Job.{Job}
 use Rattle.papers.specs.Key.{keyOf}
 use Rattle.papers.specs.Plan.{Plan, got, bad}
-use Rattle.papers.specs.Refusals.{answer, untouched, zeroed, Verdict, passed, refused, answerOf, first, jobTests, Lent, allZero, lengthsTest, factorRowsTest, peakTest}
+use Rattle.papers.specs.Refusals.{answer, untouched, zeroed, Verdict, passed, refused, answerOf, first, Outcome, jobTests, Lent, allZero, lengthsTest, factorRowsTest, peakTest}
 use Rattle.papers.specs.Check.{CheckCall, keyTest, planRead, readTest, repeatTest, listTest, subtreeTest, popsTest, truePeak, declaredTest, ofPlan, checkTests, checkDone, checked}
 use Rattle.job_laws.proofs.Firsts.{first-passes, first-refuses, passed-if, refused-if, over-refuses, over-passes-iff}
-use Rattle.job_laws.proofs.Outcomes.{outcome-untouched, job-refuses, job-passes}
+use Rattle.job_laws.proofs.Outcomes.{outcome-untouched, outcome-zeroed, outcome-done, job-refuses, job-passes}
 use Rattle.refusal_laws.proofs.PlanBytes.{read-bad, read-leaving}
 use Rattle.refusal_laws.proofs.Check.{of-plan-got}
-use Rattle.lent.specs.Six.{LongEnough}
+use Rattle.lent.specs.Six.{six, LongEnough}
 use Rattle.lent.proofs.Longs.{short, long-passes}
 use Rattle.key_match.specs.declared.KeyMatch.{KeyMatch}
 use Rattle.key_match.specs.declared.KeyMatch.the-variants.{Begins, Differs}
@@ -26,7 +26,7 @@ use Rattle.key_match.specs.Matches.{keyMatch}
 use Rattle.key_match.proofs.Answers.{begins-key, differs-key}
 use Rattle.plan_judge.specs.Judged.{treeTests, judgeTests}
 use Rattle.plan_judge.proofs.Rulings.{at-refuses, at-passes, number-of}
-use Rattle.bytes_judge.specs.Ruled.{callOf}
+use Rattle.bytes_judge.specs.Ruled.{callOf, Ruled, refuses, passes}
 
 -- the tests of the plan that was read
 abbrev planTests : List (CheckCall → Verdict)
@@ -109,3 +109,21 @@ module _ (job : Job) (bytes : List ℕ) (lent : Lent) where
           pub from-16 : length (flat (plan .lists)) ≤ length (lent .factorRows) → first checkTests call ≡ first (judgeTests job) plan
           unfolding factorRowsTest
           from-16 l = from-8 ∙ first-passes _ _ call (of-plan-got call _ read ∙ over-passes-iff (length (lent .factorRows)) _ _ zeroed .1 l) ∙ same-tests
+
+-- what is known once the tests are made is the outcome once the slices are cleared
+module _ {job : Job} {bytes : List ℕ} {lent : Lent} {parents order pops starts rows : List ℕ} {r : Answer} (ruled : Ruled (callOf job bytes lent) parents order pops starts rows r) where
+  pub way-refused : {after : Lent} → r .number ≢ 0 → after ≡ allZero lent → _≡_ {A = Outcome Lent} (record { answer = r; lent = after }) (checked job bytes lent)
+  unfolding checked
+  way-refused {after} z e = go ruled
+    where
+      go : Ruled (callOf job bytes lent) parents order pops starts rows r → _≡_ {A = Outcome Lent} (record { answer = r; lent = after }) (checked job bytes lent)
+      go (refuses q n) = (λ i. record { answer = r; lent = e i }) ∙ sym (outcome-zeroed checkTests checkDone allZero (callOf job bytes lent) lent q)
+      go (passes q n h) = absurd (z n)
+
+  pub way-done : {work : List ℕ} → r .number ≡ 0 → work ≡ zeros (lent .work) → _≡_ {A = Outcome Lent} (record { answer = r; lent = six parents order pops starts rows work }) (checked job bytes lent)
+  unfolding checked
+  way-done {work} z e = go ruled
+    where
+      go : Ruled (callOf job bytes lent) parents order pops starts rows r → _≡_ {A = Outcome Lent} (record { answer = r; lent = six parents order pops starts rows work }) (checked job bytes lent)
+      go (refuses q n) = absurd (n z)
+      go (passes q n h) = (λ i. record { answer = r; lent = six parents order pops starts rows (e i) }) ∙ h ∙ sym (outcome-done checkTests checkDone allZero (callOf job bytes lent) lent q)

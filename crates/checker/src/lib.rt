@@ -36,7 +36,7 @@ pub fn check_plan(
         fstarts.len(),
         work.len(),
     ) {
-        return plan_judge::answered(7, 0, 0);
+        return basics::answered(7, 0, 0);
     }
     let answer = bytes_judge::judge_bytes(
         head,

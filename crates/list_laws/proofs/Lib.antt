@@ -7,4 +7,5 @@ pub mod Counts
 pub mod UpTo
 pub mod Stores
 pub mod Sorts
+pub mod SortOrder
 pub mod Leasts

@@ -12,7 +12,7 @@ use Rattle.papers.specs.Job.{Pattern}
 use Rattle.papers.specs.Fill.{R}
 use Rattle.papers.specs.Order.{popsOf}
 use Rattle.papers.specs.Text.{newline, space, decimalOf, printed, wordRefused, refusalLine, stepLines}
-use Rattle.text_laws.proofs.Decimals.{length-decimal}
+use Rattle.text_laws.proofs.DecimalWords.{length-decimal}
 
 -- ---- a line
 

@@ -21,7 +21,8 @@ use Rattle.job_laws.proofs.Passed.{passes-iff, passed-below}
 use Rattle.job_laws.proofs.Outcomes.{outcome-untouched, outcome-zeroed, outcome-done, job-passes}
 use Rattle.listing_laws.proofs.Lengths.{refusal-short}
 use Rattle.listing_laws.proofs.Fits.{listing-fits}
-use Rattle.listing_laws.proofs.Answers.{Small, SmallIn, analysis-small, text-small, text-columns}
+use Rattle.listing_laws.proofs.Answers.{Small, SmallIn, analysis-small}
+use Rattle.listing_laws.proofs.TextAnswers.{text-small, text-columns}
 
 refusal-fits : (a : Answer) → Small a → length (refusalLine a) ≤ listingBytes
 refusal-fits a s = omega (arith, refusal-short a (s .1) (s .2) (s .3))

@@ -15,11 +15,11 @@ use Rattle.papers.specs.Analysis.{analysed}
 use Rattle.papers.specs.Text.{Input, textJob, textTests, refusalLine, buffers, jobPrinted, programPrints}
 use Rattle.lent.specs.Six.{six}
 use Rattle.column_laws.proofs.Parts.{front-stored}
-use Rattle.text_lines.specs.Lines.{narrowed}
+use Rattle.kept_rows.specs.Narrowed.{narrowed}
 use Rattle.text_reader.specs.declared.JobRead.{JobRead}
 use Rattle.text_reader.specs.declared.JobRead.the-variants as read
 use Rattle.text_reader.specs.Reading.{JobTold, job-read, text-refused, keptJob}
-use Rattle.text_reader.proofs.Narrow.{kept-printed}
+use Rattle.text_reader.proofs.KeptJobs.{kept-printed}
 use Rattle.text_reader.proofs.Sizes.{Sizes, passed-sizes}
 
 -- the front of a slice, where so many numbers were stored

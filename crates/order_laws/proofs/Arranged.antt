@@ -8,7 +8,8 @@ use native.Mathlib.Omega.{arith}
 use lib.ListN.{length}
 use Rattle.papers.specs.Lists.{_∈_, Distinct}
 use Rattle.papers.specs.Order.{siblingKey, alone, arranged, stepsOf}
-use Rattle.list_laws.proofs.Sorts.{sort-elements, sort-length, sort-distinct, sort-same}
+use Rattle.list_laws.proofs.Sorts.{sort-elements, sort-length, sort-distinct}
+use Rattle.list_laws.proofs.SortOrder.{sort-same}
 
 flatMap-same : (u v : ℕ → List ℕ) (cs : List ℕ) → ((c : ℕ) → c ∈ cs → u c ≡ v c) → flatMap u cs ≡ flatMap v cs
 unfolding flatMap

@@ -22,13 +22,7 @@ use Rattle.papers.specs.Analysis.{holdingPlan, analysisTests, analysisDone, ana
 use Rattle.papers.specs.Check.{keyDiffers, keyTest, planRead, readTest, repeated, repeatTest, listTest, scattered, subtreeTest, popsTest, truePeak, declaredTest, ofPlan, checkTests, checkDone, checked}
 use Rattle.papers.specs.Text.{isDigit, startingWith, cut, afterLines, onWord, wordsOf, isDecimal, allDecimal, valueOf, numbersOf, numbersAt, headOf, rowsOfLine, isRowLine, textHead, textLists, textJob, inputTest, headTest, lineFault, rowLinesTest, endTest, textTests, digitsOf, decimalOf, printed, refusalLine, stepLines, listingOf, buffers, jobPrinted, programPrints}
 use Rattle.papers.specs.declared.Answer.{Answer}
-
--- ---- what a piece says
-
--- a job by its columns' rows
-jobOf : ℕ → ℕ → ℕ → List (List ℕ) → Job
-unfolding flat startsFrom
-jobOf n mark limit columns = record { n = n; starts = startsFrom 0 columns; rows = flat columns; mark = mark; limit = limit }
+use Rattle.pieces.proofs.Worked.{none, pair, pairBytes, loose, dense, filling, crossed, star, nine, nineText, nineListing}
 
 -- slices of the fixed lengths, and 64 factor rows
 lentFor : ℕ → Lent
@@ -70,73 +64,6 @@ holds (check job bytes a) = sameAnswer (checked job bytes (lentFor (job .n)) .an
 pub all : List Piece → Bool
 all [] = true
 all (p ∷ ps) = holds p && all ps
-
--- ---- the jobs
-
-none : Job
-unfolding jobOf
-none = jobOf 0 0 0 []
-
-pair : ℕ → Job
-unfolding jobOf
-pair limit = jobOf 2 0 limit ((2 ∷ []) ∷ [] ∷ [])
-
--- the pair's plan bytes: its limit, the two steps' columns and pops, the peak, what follows
-pairBytes : ℕ → ℕ → ℕ → ℕ → ℕ → ℕ → List ℕ → List ℕ
-pairBytes limit c₁ p₁ c₂ p₂ peak rest =
-    0x01 ∷ 0x02 ∷ 0x00 ∷ limit ∷ 0x01 ∷ 0x01 ∷ 0x00 ∷ c₁ ∷ p₁ ∷ c₂ ∷ p₂ ∷ 0x01 ∷ 0x01 ∷ 0x00 ∷ peak ∷ rest
-
-loose : Job
-unfolding jobOf
-loose = jobOf 3 0 100 ([] ∷ [] ∷ [] ∷ [])
-
-dense : Job
-unfolding jobOf
-dense = jobOf 3 0 100 ((2 ∷ 3 ∷ []) ∷ (3 ∷ []) ∷ [] ∷ [])
-
-filling : Job
-unfolding jobOf
-filling = jobOf 4 0 100 ((3 ∷ 4 ∷ []) ∷ (3 ∷ []) ∷ [] ∷ [] ∷ [])
-
-crossed : Job
-unfolding jobOf
-crossed = jobOf 4 0 100 ((3 ∷ []) ∷ (4 ∷ []) ∷ (4 ∷ []) ∷ [] ∷ [])
-
-star : Job
-unfolding jobOf
-star = jobOf 4 0 100 ((4 ∷ []) ∷ (4 ∷ []) ∷ (4 ∷ []) ∷ [] ∷ [])
-
-nine : ℕ → Job
-unfolding jobOf
-nine mark =
-    jobOf 9 mark 20 ((2 ∷ 8 ∷ 9 ∷ []) ∷ [] ∷ (4 ∷ 7 ∷ []) ∷ (8 ∷ 9 ∷ []) ∷ (6 ∷ 8 ∷ []) ∷ (7 ∷ []) ∷ (9 ∷ []) ∷ [] ∷ [] ∷ [])
-
--- the paper's example of a job text, and what the program prints for it
-nineText : List ℕ
-nineText =
-    57 ∷ 32 ∷ 50 ∷ 48 ∷ 10 ∷
-    51 ∷ 32 ∷ 50 ∷ 32 ∷ 56 ∷ 32 ∷ 57 ∷ 10 ∷
-    48 ∷ 10 ∷
-    50 ∷ 32 ∷ 52 ∷ 32 ∷ 55 ∷ 10 ∷
-    50 ∷ 32 ∷ 56 ∷ 32 ∷ 57 ∷ 10 ∷
-    50 ∷ 32 ∷ 54 ∷ 32 ∷ 56 ∷ 10 ∷
-    49 ∷ 32 ∷ 55 ∷ 10 ∷
-    49 ∷ 32 ∷ 57 ∷ 10 ∷
-    48 ∷ 10 ∷
-    48 ∷ 10 ∷ []
-
-nineListing : List ℕ
-nineListing =
-    112 ∷ 108 ∷ 97 ∷ 110 ∷ 32 ∷ 57 ∷ 32 ∷ 48 ∷ 32 ∷ 49 ∷ 53 ∷ 10 ∷
-    49 ∷ 32 ∷ 48 ∷ 32 ∷ 49 ∷ 48 ∷ 32 ∷ 50 ∷ 32 ∷ 56 ∷ 32 ∷ 57 ∷ 10 ∷
-    50 ∷ 32 ∷ 49 ∷ 32 ∷ 54 ∷ 32 ∷ 56 ∷ 32 ∷ 57 ∷ 10 ∷
-    51 ∷ 32 ∷ 48 ∷ 32 ∷ 57 ∷ 32 ∷ 52 ∷ 32 ∷ 55 ∷ 10 ∷
-    52 ∷ 32 ∷ 49 ∷ 32 ∷ 49 ∷ 51 ∷ 32 ∷ 55 ∷ 32 ∷ 56 ∷ 32 ∷ 57 ∷ 10 ∷
-    53 ∷ 32 ∷ 48 ∷ 32 ∷ 49 ∷ 53 ∷ 32 ∷ 54 ∷ 32 ∷ 56 ∷ 10 ∷
-    54 ∷ 32 ∷ 49 ∷ 32 ∷ 49 ∷ 53 ∷ 32 ∷ 55 ∷ 32 ∷ 56 ∷ 10 ∷
-    55 ∷ 32 ∷ 50 ∷ 32 ∷ 49 ∷ 53 ∷ 32 ∷ 56 ∷ 32 ∷ 57 ∷ 10 ∷
-    56 ∷ 32 ∷ 50 ∷ 32 ∷ 54 ∷ 32 ∷ 57 ∷ 10 ∷
-    57 ∷ 32 ∷ 49 ∷ 32 ∷ 49 ∷ 10 ∷ []
 
 pub pieces : List Piece
 unfolding none pair pairBytes loose dense filling crossed star nine nineText nineListing

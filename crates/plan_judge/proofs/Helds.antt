@@ -12,7 +12,7 @@ use Rattle.papers.specs.Plan.{Plan, columnsIn}
 use Rattle.papers.specs.Refusals.{answer, passed, first}
 use Rattle.papers.specs.Check.{repeated, repeatTest}
 use Rattle.list_laws.proofs.Members.{at-place}
-use Rattle.refusal_laws.proofs.PlanTests.{Steps}
+use Rattle.refusal_laws.proofs.PlanSteps.{Steps}
 use Rattle.plan_laws.proofs.Steps.{columns-within}
 use Rattle.step_tests.specs.Steps.{Within}
 use Rattle.plan_judge.specs.Judged.{PlanHeld, judgeTests, ruling}

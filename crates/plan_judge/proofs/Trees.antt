@@ -1,5 +1,4 @@
--- The tests of a plan whose lists are R: the parents and the starts in the slices name the pattern's tree and its rows, so the passes over the slices
--- find what the tests name; and an order that passes them takes off no more than is held.
+-- The tests of a plan whose lists are R: the passes over the slices find what the tests name; and an order that passes them takes off no more than is held.
 -- Assumes nothing.
 use Prim.Native.Nat.{ℕ, suc, _-_, _<_, _≤_}
 use mathlib.Core.Path.{_≡_, sym, ap, _∙_}
@@ -11,9 +10,8 @@ use lib.Dec.{eqb}
 use lib.ListN.{length, getD, length-map}
 use borrow.Author.Tests.{eq-eqb, ne-eqb}
 use Rattle.papers.specs.declared.Answer.{Answer}
-use Rattle.papers.specs.Bounds.{maxColumns}
-use Rattle.papers.specs.Lists.{_∈_, Distinct, least, upTo, startsFrom}
-use Rattle.papers.specs.Job.{Job, Below, pattern}
+use Rattle.papers.specs.Lists.{_∈_, least, upTo, startsFrom}
+use Rattle.papers.specs.Job.{Job, pattern}
 use Rattle.papers.specs.Tree.{t, parent, rowCount, children}
 use Rattle.papers.specs.Room.{peakOf}
 use Rattle.papers.specs.Order.{columnAt, Ordered, popsOf, peak}
@@ -27,61 +25,25 @@ use Rattle.order_laws.proofs.Takes.{step-enough}
 use Rattle.order_laws.proofs.Entries.{held-entries}
 use Rattle.order_laws.proofs.Patterns.{tree-of, root-rows}
 use Rattle.job_laws.proofs.Firsts.{first-passed-iff, refused-if, passed-if, over-refuses, over-passes-iff}
-use Rattle.job_laws.proofs.Passed.{passes-iff, passed-below}
 use Rattle.refusal_laws.proofs.PlanTests.{all}
-use Rattle.plan_laws.proofs.PlanSound.{repeat-iff, list-iff, pops-iff, subtree-iff}
-use Rattle.tree.specs.Parents.{parentIn, TreeIn}
+use Rattle.plan_laws.proofs.PlanSound.{list-iff, pops-iff, subtree-iff}
+use Rattle.tree.specs.Parents.{parentIn}
 use Rattle.room.specs.Rows.{rowsIn, Column}
 use Rattle.room.specs.Steps.{rowsAt, popsAt, heldAt, Stepped}
 use Rattle.room.proofs.BySteps.{peak-by-steps, enough-by-steps}
 use Rattle.order.proofs.Families.{column-of}
-use Rattle.stored_tree.proofs.Ties.{startsOf, length-parents, parents-tie, rows-tie, rowed}
-use Rattle.step_tests.specs.Steps.{Within, popsWrong}
-use Rattle.subtree_test.specs.Steps.{EachOnce}
+use Rattle.stored_tree.proofs.Ties.{startsOf, length-parents, rows-tie, rowed}
+use Rattle.step_tests.specs.Steps.{popsWrong}
 use Rattle.plan_judge.specs.Judged.{OnTree, treeTests, ruling}
 use Rattle.plan_judge.proofs.Rulings.{ruling-refused, ruling-passed, decides, at-refuses, at-passes}
-use Rattle.plan_judge.proofs.Helds.{read, order-length, pops-length, in-range, within}
+use Rattle.plan_judge.proofs.Helds.{read, order-length, in-range}
+use Rattle.plan_judge.proofs.OnTrees.{below, columns-few, parents-length, same-parents, as-long, pops-as-long, once}
 
 module _ {job : Job} {plan : Plan} {limit greatest : ℕ} {parents order pops fstarts : List ℕ} (on : OnTree job plan limit greatest parents order pops fstarts) where
-  below : Below (job .n) (pattern job)
-  below = passed-below job (passes-iff job .0 (on .valid))
-
-  columns-few : job .n ≤ maxColumns
-  columns-few = passes-iff job .0 (on .valid) .few
-
-  -- ---- the tree
-
-  pub parents-length : length parents ≡ job .n
-  parents-length = ap length (on .parents-are) ∙ length-parents below
-
-  same-parents : parentIn parents ≡ parent (pattern job)
-  same-parents = rw (on .parents-are) (λ i j. parents-tie below j i)
-
-  pub tree-in : TreeIn parents
-  tree-in = rw (on .parents-are) (rowed below columns-few .tree)
-
-  pub as-long : length order ≡ length parents
-  as-long = order-length (on .held) ∙ sym parents-length
-
-  pub pops-as-long : length pops ≡ length parents
-  pops-as-long = pops-length (on .held) ∙ sym parents-length
-
-  once : Distinct (columnsIn (plan .steps))
-  once = repeat-iff job plan (on .held .fit) .0 (on .unrepeated)
-
-  pub each-once : EachOnce (length parents) order
-  each-once = record { range = λ j m. rw parents-length (in-range (on .held) j m); once = rw (on .held .columns) once }
-
-  pub few : length parents ≤ maxColumns
-  few = omega (arith, parents-length, columns-few)
-
-  pub within-order : Within (length order) order
-  within-order = within (on .held)
-
   -- ---- 18
   module _ {p : ℕ} (e : p ≡ least (scattered (parentIn parents) (length parents) order) (length parents)) where
     found-18 : p ≡ least (scattered (parent (pattern job)) (job .n) (columnsIn (plan .steps))) (job .n)
-    found-18 = rw (same-parents, parents-length, on .held .columns) at e
+    found-18 = rw (same-parents on, parents-length on, on .held .columns) at e
 
     pub refuses-18 : p ≢ 0 → {r : Answer} → r ≡ answer 18 p 0 → r ≡ ruling (first (treeTests job) plan) greatest
     unfolding treeTests subtreeTest
@@ -97,7 +59,7 @@ module _ {job : Job} {plan : Plan} {limit greatest : ℕ} {parents order pops fs
       found-19 : p ≡ least (λ s. not (eqb (getD (popsIn (plan .steps)) (s - 1) 0) (popsOf (job .n) (pattern job) (columnAt (columnsIn (plan .steps)) s)))) (job .n)
       found-19 =
           e
-          ∙ λ i. least (λ s. not (eqb (getD (on .held .popped i) (s - 1) 0) (length (children (same-parents i) (parents-length i) (columnAt (on .held .columns i) s))))) (order-length (on .held) i)
+          ∙ λ i. least (λ s. not (eqb (getD (on .held .popped i) (s - 1) 0) (length (children (same-parents on i) (parents-length on i) (columnAt (on .held .columns i) s))))) (order-length (on .held) i)
 
       pub refuses-19 : p ≢ 0 → {r : Answer} → r ≡ answer 19 p 0 → r ≡ ruling (first (treeTests job) plan) greatest
       unfolding treeTests popsTest
@@ -110,7 +72,7 @@ module _ {job : Job} {plan : Plan} {limit greatest : ℕ} {parents order pops fs
     -- ---- 20 and 9
 
     ordered : Ordered (parent (pattern job)) (job .n) order
-    ordered = rw (on .held .columns) (record { each = each; once = once; together = subtree-iff job plan (on .held .fit) below each once .0 whole })
+    ordered = rw (on .held .columns) (record { each = each; once = once on; together = subtree-iff job plan (on .held .fit) (below on) each (once on) .0 whole })
       where
         each : (j : ℕ) → (j ∈ columnsIn (plan .steps)) ↔ ((1 ≤ j) × (j ≤ job .n))
         each j = (read (on .held) .1 j, λ (l, u). all job plan (read (on .held)) (on .unrepeated) j l u)
@@ -120,10 +82,10 @@ module _ {job : Job} {plan : Plan} {limit greatest : ℕ} {parents order pops fs
     factor-are = on .held .begins ∙ ap (startsFrom 0) (list-iff job plan (on .held .fit) .0 (on .right))
 
     rows-here : (j : ℕ) → rowsIn fstarts j ≡ rowCount (pattern job) j
-    rows-here = rw factor-are (rows-tie below)
+    rows-here = rw factor-are (rows-tie (below on))
 
     column : (j : ℕ) → 1 ≤ j → j ≤ job .n → Column fstarts j
-    column j l u = rw factor-are (column-of (rowed below columns-few) j l (omega (arith, length-parents below)))
+    column j l u = rw factor-are (column-of (rowed (below on) (columns-few on)) j l (omega (arith, length-parents (below on))))
 
     module _ (popped : popsTest job plan ≡ passed) where
       pops-are : pops ≡ map (popsOf (job .n) (pattern job)) order
@@ -131,15 +93,15 @@ module _ {job : Job} {plan : Plan} {limit greatest : ℕ} {parents order pops fs
 
       enough : (k : ℕ) → k < length order → popsAt pops (suc k) ≤ length (heldAt fstarts order pops k)
       enough k h = rw pops-are (enough-by-steps (rowsIn fstarts) (popsOf (job .n) (pattern job)) order k h (
-          rw (held-entries (rowsIn fstarts) (popsOf (job .n) (pattern job)) (parent (pattern job)) (λ j. rw (rows-here j) (root-rows below j)) order k (omega arith), ← (column-at order k))
-          (omega (arith, length-map (heldColumns (parent (pattern job)) (popsOf (job .n) (pattern job)) order k) (λ c. t (rowsIn fstarts c)), step-enough (tree-of below) order ordered k h))))
+          rw (held-entries (rowsIn fstarts) (popsOf (job .n) (pattern job)) (parent (pattern job)) (λ j. rw (rows-here j) (root-rows (below on) j)) order k (omega arith), ← (column-at order k))
+          (omega (arith, length-map (heldColumns (parent (pattern job)) (popsOf (job .n) (pattern job)) order k) (λ c. t (rowsIn fstarts c)), step-enough (tree-of (below on)) order ordered k h))))
 
       pub stepped : Stepped fstarts order pops
       stepped = record {
         column = λ k h. let (l, u) = in-range (on .held) (getD order k 0) (at-place order k h) in column (getD order k 0) l u;
         enough = enough;
-        same = pops-as-long ∙ sym as-long;
-        few = omega (arith, as-long, parents-length, columns-few);
+        same = pops-as-long on ∙ sym (as-long on);
+        few = omega (arith, as-long on, parents-length on, columns-few on);
       }
 
       module _ {peak : ℕ} (e : peak ≡ peakOf (rowsAt fstarts order) (popsAt pops) (upTo (length order))) where

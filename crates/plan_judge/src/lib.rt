@@ -10,20 +10,9 @@ ghost use Rattle.papers.specs.Bounds.{workLength};
 ghost use Rattle.papers.specs.Lists.{upTo};
 ghost use Rattle.papers.specs.Job.{jobOf, columnOf};
 ghost use Rattle.papers.specs.Tree.{parent};
-ghost use Rattle.papers.specs.Refusals.{answer, passed, first, jobTests};
+ghost use Rattle.papers.specs.Refusals.{passed, first, jobTests};
 ghost use Rattle.lent.specs.Six.{six, LongEnough};
 ghost use Rattle.plan_judge.specs.Judged.{HoldPlan, SomeOnTree, TreeJudged, Judged};
-
-// An answer, of its three numbers.
-pub fn answered(number: u64, place: u64, count: u64) -> Answer
-    ensures { λ r. ⌜ r ≡ answer number place count ⌝ }
-{
-    Answer {
-        number,
-        place,
-        count,
-    }
-}
 
 // 18, 19, 20 and 9 of a plan whose lists are right; done, the count is the peak. parents are those of the lists.
 fn judge_tree(
@@ -41,20 +30,20 @@ fn judge_tree(
 {
     let top = subtree_test::first_scattered(parents, order, work);
     if top != 0 {
-        return answered(18, top, 0);
+        return basics::answered(18, top, 0);
     }
     let step = step_tests::first_wrong_pops(parents, order, pops, work);
     if step != 0 {
-        return answered(19, step, 0);
+        return basics::answered(19, step, 0);
     }
     let greatest = room::peak(fstarts, order, pops, work);
     if greatest != peak {
-        return answered(20, 0, greatest);
+        return basics::answered(20, 0, greatest);
     }
     if limit < greatest {
-        return answered(9, 0, greatest);
+        return basics::answered(9, 0, greatest);
     }
-    answered(0, 0, greatest)
+    basics::answered(0, 0, greatest)
 }
 
 // 16 to 20 and 9 of a plan that was read, at the front of the slices; peak is what it declares. Where it passes, the job's parents are stored, and the
@@ -81,11 +70,11 @@ pub fn judge(
     let steps = &order[..n];
     let step = step_tests::first_repeat(steps, work);
     if step != 0 {
-        return answered(16, step, 0);
+        return basics::answered(16, step, 0);
     }
     let column = list_test::first_wrong_list(n, starts, rows, fstarts, frows, parents, work);
     if column != 0 {
-        return answered(17, column, 0);
+        return basics::answered(17, column, 0);
     }
     judge_tree(
         head.limit,

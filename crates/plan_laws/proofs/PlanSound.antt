@@ -32,7 +32,8 @@ use Rattle.order_laws.proofs.Patterns.{tree-of}
 use Rattle.order_laws.proofs.TogetherTest.{scattered-test}
 use Rattle.refusal_laws.proofs.Agreements.{agree-passed-iff}
 use Rattle.refusal_laws.proofs.Tests.{fails-iff, at-passed}
-use Rattle.refusal_laws.proofs.PlanTests.{Steps, repeat-agree, once, all}
+use Rattle.refusal_laws.proofs.PlanSteps.{Steps}
+use Rattle.refusal_laws.proofs.PlanTests.{repeat-agree, once, all}
 use Rattle.plan_laws.proofs.Steps.{map-at, columns-within}
 
 -- a plan passes 16, 17, 18, 19, 20 and 9

@@ -3,11 +3,11 @@
 -- Assumes nothing.
 use mathlib.Core.Path.{_≡_, refl, sym, ap, _∙_}
 use mathlib.Core.Logic.{_↔_, _⊎_, inl, inr}
-use mathlib.Core.List.{List, [], _∷_, _++_, map}
+use mathlib.Core.List.{List, [], _∷_, _++_}
 use Rattle.papers.specs.declared.Answer.{Answer}
 use Rattle.papers.specs.Refusals.{Leaves, Verdict, passed, refused, answerOf, first}
-use Rattle.papers.specs.Conditions.{Condition, Answered, Unrefused, of}
-use Rattle.job_laws.proofs.Firsts.{refused-passed, first-passes, first-refuses, first-map}
+use Rattle.papers.specs.Conditions.{Condition, Answered, Unrefused}
+use Rattle.job_laws.proofs.Firsts.{refused-passed, first-passes, first-refuses}
 
 -- a verdict refuses with answer a, whatever it leaves
 abbrev pub Refuses : Verdict → Answer → Type 0
@@ -131,25 +131,3 @@ module _ {C : Type 0} where
   unrefused-append (K ∷ Ks) Ls call =
       let ih = unrefused-append Ks Ls call in
       (λ u. let (p, q) = ih .0 (u .1) in ((u .0, p), q), λ (u, w). (u .0, ih .1 (u .1, w)))
-
-  -- ---- lists of tests put together
-
-  pub append-agree : (ts us : List (C → Verdict)) (Ks Ls : List (Condition C)) (call : C) → AgreeEach ts Ks call → (first ts call ≡ passed → AgreeEach us Ls call)
-      → AgreeEach (ts ++ us) (Ks ++ Ls) call
-  unfolding first
-  append-agree [] us [] Ls call h g = g refl
-  append-agree [] us (K ∷ Ks) Ls call h g = absurd h
-  append-agree (t ∷ ts) us [] Ls call h g = absurd h
-  append-agree (t ∷ ts) us (K ∷ Ks) Ls call h g = (h .0, λ p. append-agree ts us Ks Ls call (h .1 p) (λ q. g (first-passes t ts call p ∙ q)))
-
-module _ {C D : Type 0} (part : C → D) where
-  pub part-agree : (ts : List (D → Verdict)) (Ks : List (Condition D)) (call : C) → AgreeEach ts Ks (part call) → AgreeEach (map (λ test call. test (part call)) ts) (of part Ks) call
-  part-agree [] [] call h = tt
-  part-agree [] (K ∷ Ks) call h = absurd h
-  part-agree (t ∷ ts) [] call h = absurd h
-  part-agree (t ∷ ts) (K ∷ Ks) call h = (h .0, λ p. part-agree ts Ks call (h .1 p))
-
-  -- tests of a part of the call, then others, which need agree only where those pass
-  pub agree-behind : (ts : List (D → Verdict)) (us : List (C → Verdict)) (Ks : List (Condition D)) (Ls : List (Condition C)) (call : C) → AgreeEach ts Ks (part call)
-      → (first ts (part call) ≡ passed → AgreeEach us Ls call) → AgreeEach (map (λ test call. test (part call)) ts ++ us) (of part Ks ++ Ls) call
-  agree-behind ts us Ks Ls call h g = append-agree _ us _ Ls call (part-agree ts Ks call h) (λ p. g (sym (first-map part ts call) ∙ p))

@@ -9,7 +9,8 @@ use Rattle.papers.specs.Analysis.{KeyCall, keyTests, keyDone, keyWritten, Analy
 use Rattle.papers.specs.Conditions.{jobConditions, keyConditions, analysisConditions, planConditions}
 use Rattle.refusal_laws.specs.Exactly.{Exactly}
 use Rattle.job_laws.proofs.Firsts.{first-each}
-use Rattle.refusal_laws.proofs.Agreements.{AgreeEach, _▸_, agree-behind}
+use Rattle.refusal_laws.proofs.Agreements.{AgreeEach, _▸_}
+use Rattle.refusal_laws.proofs.TestLists.{agree-behind}
 use Rattle.refusal_laws.proofs.Exactly.{Leaving, _&_, leaving-behind, outcome-exactly}
 use Rattle.refusal_laws.proofs.Job.{job-agree, job-leaving}
 use Rattle.refusal_laws.proofs.Slices.{lengths-agree, lengths-leaving, factor-rows-agree, factor-rows-leaving, peak-agree, peak-leaving, bytes-agree, bytes-leaving}

@@ -14,11 +14,13 @@ use Rattle.papers.specs.Conditions.{jobConditions, ofRead, checkConditions}
 use Rattle.job_laws.proofs.Firsts.{refused-passed, first-each, first-passed-iff}
 use Rattle.job_laws.proofs.Passed.{passes-iff, passed-below}
 use Rattle.refusal_laws.specs.Exactly.{Exactly}
-use Rattle.refusal_laws.proofs.Agreements.{Refuses, Agree, AgreeEach, _▸_, agree-behind}
+use Rattle.refusal_laws.proofs.Agreements.{Refuses, Agree, AgreeEach, _▸_}
+use Rattle.refusal_laws.proofs.TestLists.{agree-behind}
 use Rattle.refusal_laws.proofs.Exactly.{Leaving, _&_, leaving-if, leaving-at, leaving-behind, outcome-exactly}
 use Rattle.refusal_laws.proofs.Job.{job-agree, job-leaving}
 use Rattle.refusal_laws.proofs.Slices.{lengths-agree, lengths-leaving, factor-rows-agree, factor-rows-leaving, peak-agree, peak-leaving}
-use Rattle.refusal_laws.proofs.PlanTests.{Steps, plan-steps, repeat-agree, subtree-agree, list-agree, pops-agree, declared-agree}
+use Rattle.refusal_laws.proofs.PlanSteps.{Steps, plan-steps}
+use Rattle.refusal_laws.proofs.PlanTests.{repeat-agree, subtree-agree, list-agree, pops-agree, declared-agree}
 use Rattle.refusal_laws.proofs.PlanBytes.{begins-agree, read-bad, read-agree, read-leaving}
 
 module _ (call : CheckCall) where

@@ -7,9 +7,8 @@ use mathlib.Core.Logic.{_↔_, _⊎_, inl, inr, _≢_}
 use mathlib.Core.List.{List}
 use native.Mathlib.Omega.{arith}
 use lib.ListN.{length}
-use borrow.Author.Tests.{lt-ltb, le-ltb}
 use Rattle.papers.specs.Numbers.{readNumber}
-use Rattle.papers.specs.Plan.{Read, got, bad, inField, field}
+use Rattle.papers.specs.Plan.{Read, got, bad, field}
 use Rattle.papers.specs.Refusals.{answer}
 use Rattle.papers.specs.Conditions.{Stands, Field, nothing, low, high, fromStep, following, Reaches, begin, next, PlanFault, twelve, thirteen, fourteen, fifteen}
 use Rattle.papers.specs.declared.Answer.{Answer}
@@ -18,34 +17,7 @@ use Rattle.papers.specs.declared.Number.the-variants.{Value, Ended, TooLong, No
 use Rattle.list_laws.proofs.Tests.{below-or}
 use Rattle.bytes_laws.proofs.Stands.{number-stands-iff}
 use Rattle.bytes_laws.proofs.Fields.{got-inj, got-bad, field-got}
-
-pub bad-inj : {A : Type 0} {a b p q : ℕ} → _≡_ {A = Read A} (bad a p) (bad b q) → (a ≡ b) × (p ≡ q)
-bad-inj e = (cc, cc)
-
--- ---- one field
-
-module _ (lo hi : ℕ) (s : List ℕ) (at : ℕ) where
-  in-range : (v to : ℕ) → readNumber s at ≡ Value v to → lo ≤ v → v ≤ hi → field lo hi s at ≡ got v to
-  unfolding field inField
-  in-range v to e l h = rw (e, le-ltb v lo l, le-ltb hi v h, inField)
-
-  out-of-range : (v to : ℕ) → readNumber s at ≡ Value v to → (v < lo) ⊎ (hi < v) → field lo hi s at ≡ bad 14 (at + 1)
-  unfolding field inField
-  out-of-range v to e o = go (below-or v lo) o
-    where
-      go : (v < lo) ⊎ (lo ≤ v) → (v < lo) ⊎ (hi < v) → field lo hi s at ≡ bad 14 (at + 1)
-      go (inl l) o = rw (e, lt-ltb v lo l, inField)
-      go (inr l) (inl k) = absurd (omega arith)
-      go (inr l) (inr h) = rw (e, le-ltb v lo l, lt-ltb hi v h, inField)
-
-  ended : readNumber s at ≡ Ended → field lo hi s at ≡ bad 12 (at + 1)
-  unfolding field inField
-  ended e = rw e
-
-  not-shortest : (readNumber s at ≡ TooLong) ⊎ (readNumber s at ≡ NotShortest) → field lo hi s at ≡ bad 13 (at + 1)
-  unfolding field inField
-  not-shortest (inl e) = rw e
-  not-shortest (inr e) = rw e
+use Rattle.refusal_laws.proofs.OneField.{bad-inj, in-range, out-of-range, ended, not-shortest}
 
 -- ---- from field to field
 

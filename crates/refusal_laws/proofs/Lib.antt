@@ -1,15 +1,21 @@
 pub mod Agreements
+pub mod TestLists
 pub mod Exactly
 pub mod Tests
+pub mod ColumnRows
 pub mod Rows
 pub mod Job
 pub mod Slices
 pub mod Analysis
+pub mod RunSteps
 pub mod Run
+pub mod TextLines
 pub mod Text
+pub mod OneField
 pub mod Fields
 pub mod Readings
 pub mod PlanBytes
+pub mod PlanSteps
 pub mod PlanTests
 pub mod Check
 pub mod Printed
@@ -17,4 +23,5 @@ pub mod Program
 pub mod Lengths
 pub mod Bounded
 pub mod Called
+pub mod CallTests
 pub mod Call

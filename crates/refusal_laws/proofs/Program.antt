@@ -17,7 +17,8 @@ use Rattle.papers.specs.Text.{Input, textJob, textTests, refusalLine, buffers, 
 use Rattle.papers.specs.Conditions.{Answered, Unrefused, analysisConditions, textConditions, programAnalysis, programConditions, programListing, ListingShort}
 use Rattle.job_laws.proofs.Firsts.{refused-passed, first-append-passed, first-append-refused, first-map, first-each}
 use Rattle.refusal_laws.specs.Exactly.{Exactly}
-use Rattle.refusal_laws.proofs.Agreements.{Refuses, one-answer, AgreeEach, _▸_, answered-iff, passed-iff, append-agree, part-agree}
+use Rattle.refusal_laws.proofs.Agreements.{Refuses, one-answer, AgreeEach, _▸_, answered-iff, passed-iff}
+use Rattle.refusal_laws.proofs.TestLists.{append-agree, part-agree}
 use Rattle.refusal_laws.proofs.Exactly.{Leaving, _&_, leaving-if, outcome-exactly}
 use Rattle.refusal_laws.proofs.Tests.{below-iff, agree-if}
 use Rattle.refusal_laws.proofs.Analysis.{analysis-agree, analysis-leaving, analyse-exactly}

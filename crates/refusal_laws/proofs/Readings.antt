@@ -15,7 +15,8 @@ use Rattle.papers.specs.Conditions.{Field, column, pops, count, gap, peak, noth
 use Rattle.list_laws.proofs.Tests.{below-or}
 use Rattle.bytes_laws.proofs.Fields.{got-inj, got-bad, then-only}
 use Rattle.bytes_laws.proofs.Plans.{end-got, end-only}
-use Rattle.refusal_laws.proofs.Fields.{bad-inj, numberAt, Leads, stay, on, leads-on, at-number, behind, Fails, fails-one, fails-no-end, fails-iff}
+use Rattle.refusal_laws.proofs.OneField.{bad-inj}
+use Rattle.refusal_laws.proofs.Fields.{numberAt, Leads, stay, on, leads-on, at-number, behind, Fails, fails-one, fails-no-end, fails-iff}
 
 -- a number stands next
 abbrev Some : Field → Type 0

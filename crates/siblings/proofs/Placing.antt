@@ -7,7 +7,8 @@ use native.Mathlib.Omega.{arith}
 use lib.ListN.{length, getD, set, take, drop, length-take}
 use lib.Seq.{sets, take-take, take-set-le}
 use Rattle.papers.specs.Lists.{_∈_, sort}
-use Rattle.list_laws.proofs.Sorts.{sort-same, sort-elements, sort-length}
+use Rattle.list_laws.proofs.Sorts.{sort-elements, sort-length}
+use Rattle.list_laws.proofs.SortOrder.{sort-same}
 use Rattle.sibling_sort.specs.Joining.{keyIn}
 use Rattle.tree.specs.Laid.{part}
 use Rattle.sibling_keys.specs.Kids.{keyAt, needAt, Kids, Keyed}

@@ -10,7 +10,8 @@ use Rattle.papers.specs.Lists.{_∈_, sort}
 use Rattle.papers.specs.Tree.{t}
 use Rattle.papers.specs.Room.{rooms, peakOf}
 use Rattle.papers.specs.Order.{siblingKey, alone, arranged, stepsOf}
-use Rattle.list_laws.proofs.Sorts.{sort-same, sort-elements}
+use Rattle.list_laws.proofs.Sorts.{sort-elements}
+use Rattle.list_laws.proofs.SortOrder.{sort-same}
 use Rattle.order_laws.specs.Subtrees.{inTurn}
 use Rattle.order_laws.proofs.Greatest.{greatest-least}
 use Rattle.order_laws.proofs.Arranged.{steps-enough}

@@ -9,9 +9,8 @@ use native.Mathlib.Omega.{arith}
 use lib.ListN.{length, take, replicate, length-replicate}
 use Rattle.papers.specs.Bounds.{programColumns, programRows}
 use Rattle.papers.specs.Lists.{flat, startsFrom}
-use Rattle.papers.specs.Job.{Job, jobOf}
+use Rattle.papers.specs.Job.{jobOf}
 use Rattle.papers.specs.Plan.{Read, got, bad, readLists}
-use Rattle.papers.specs.Refusals.{Outcome, Lent}
 use Rattle.papers.specs.Check.{checked}
 use Rattle.papers.specs.Text.{buffers}
 use Rattle.papers.specs.Call.{readKey, solverAnswer, called}
@@ -23,7 +22,6 @@ use Rattle.bytes_laws.proofs.Reaches.{lists-reach}
 use Rattle.column_laws.proofs.Parts.{front-stored}
 use Rattle.refusal_laws.proofs.Bounded.{Within}
 use Rattle.refusal_laws.proofs.Called.{call-unreadable, call-over, call-fits, call-bounded}
-use Rattle.lent.specs.Six.{six}
 use Rattle.field_reader.specs.Reading.{Told, finds, refuses}
 use Rattle.field_reader.specs.declared.Reading.{Reading}
 use Rattle.plan_reader.specs.Plans.{ListsIn}
@@ -72,9 +70,3 @@ module _ (key plan : List ℕ) where
 
         pub answer-called : a .number * 2 ^ 32 + a .place ≡ called key plan
         answer-called = called-by is-answer
-
--- the check in zeroed slices of the program's sizes is that in its buffers
-pub in-buffers : (job : Job) (plan : List ℕ) {a : Answer} {lent : Lent} → record { answer = a; lent = lent }
-    ≡ checked job plan (six (replicate 256 0) (replicate 256 0) (replicate 256 0) (replicate 257 0) (replicate 4096 0) (replicate 2056 0)) → a ≡ checked job plan buffers .answer
-unfolding buffers
-in-buffers job plan e = ap (λ (o : Outcome Lent). o .answer) e

@@ -1,39 +1,10 @@
 // The solver's call: the bytes of a key and of a plan in, one number out.
 ghost use mathlib.Core.Path.{_≡_};
-ghost use Rattle.papers.specs.Job.{jobOf};
-ghost use Rattle.papers.specs.Check.{checked};
-ghost use Rattle.papers.specs.Text.{buffers};
 ghost use Rattle.papers.specs.Call.{called};
 use key_reader::KeyReading;
-use papers::Answer;
-use papers::JobHead;
 
 // An answer is its number this many times, and its place.
 const PLACES: u64 = 4294967296;
-
-// The check of a plan's bytes for a job, in zeroed buffers of the program's sizes.
-fn check_in_buffers(head: JobHead, starts: &[u64], rows: &[u32], plan: &[u8]) -> Answer
-    ensures { λ r. ⌜ r ≡ checked (jobOf head (now (starts .entry)) (now (rows .entry))) (now (plan .entry)) buffers .answer ⌝ }
-{
-    let mut parents = [0u32; program_sizes::COLUMNS];
-    let mut order = [0u32; program_sizes::COLUMNS];
-    let mut pops = [0u32; program_sizes::COLUMNS];
-    let mut fstarts = [0u64; program_sizes::STARTS];
-    let mut frows = [0u32; program_sizes::FACTOR_ROWS];
-    let mut work = [0u64; program_sizes::WORK];
-    checker::check_plan(
-        head,
-        starts,
-        rows,
-        plan,
-        &mut parents,
-        &mut order,
-        &mut pops,
-        &mut fstarts,
-        &mut frows,
-        &mut work,
-    )
-}
 
 // 27 for a key that is not readable, 26 for one with more columns or pattern rows than there is room for, else the check of the plan for its job:
 // the answer's number times 2^32, and its place.
@@ -59,7 +30,12 @@ pub extern "C" fn check(key: &[u8], plan: &[u8]) -> u64
             let mut starts = [0u64; program_sizes::STARTS];
             let mut rows = [0u32; program_sizes::PATTERN_ROWS];
             plan_reader::read_lists(key, lists, head.n, &mut starts, &mut rows);
-            let answer = check_in_buffers(head, &starts[..n + 1], &rows[..count as usize], plan);
+            let answer = buffered_check::check_in_buffers(
+                head,
+                &starts[..n + 1],
+                &rows[..count as usize],
+                plan,
+            );
             return answer.number * PLACES + answer.place;
         }
     }

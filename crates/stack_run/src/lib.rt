@@ -79,11 +79,11 @@ pub fn run(
     if papers::MAX_COLUMNS < n {
         return basics::answered(1, 0, 0);
     }
-    let of_starts = job::starts_fault(n, starts, rows);
+    let of_starts = job_starts::starts_fault(n, starts, rows);
     if of_starts.number != 0 {
         return of_starts;
     }
-    let of_rows = job::rows_fault(n, starts, rows);
+    let of_rows = job_rows::rows_fault(n, starts, rows);
     if of_rows.number != 0 {
         return of_rows;
     }

@@ -9,6 +9,27 @@ ghost use Rattle.papers.specs.Text.{decimalOf, printed};
 ghost use Rattle.room.specs.Rows.{Column};
 ghost use Rattle.step_lines.specs.Steps.{linesTo, Printable};
 
+// Writes the line of a step: its column, its pops, its room in use and the column's rows.
+pub fn write_step(
+    column: u64,
+    pops: u64,
+    room: u64,
+    rows: &[u32],
+    bytes: &mut [u8],
+    at: usize,
+) -> usize
+    requires { ⌜ at + length (printed (decimalOf column) (pops ∷ room ∷ now rows)) ≤ length (now bytes) ⌝ }
+    ensures place { λ r. ⌜ r ≡ at + length (printed (decimalOf column) (pops ∷ room ∷ now (rows .entry))) ⌝ }
+    ensures writes { λ r. ⌜ now (bytes .exit) ≡ sets (now (bytes .entry)) at (printed (decimalOf column) (pops ∷ room ∷ now (rows .entry))) ⌝ }
+{
+    let first = decimals::write_decimal(column, bytes, at);
+    let second = line_parts::write_number(pops, bytes, first);
+    let third = line_parts::write_number(room, bytes, second);
+    let end = line_parts::write_rows(rows, bytes, third);
+    bytes[end] = 10;
+    end + 1
+}
+
 // Writes the line of a step of column j, whose rows lie from its start to the next one.
 fn write_column(
     j: usize,
@@ -26,7 +47,7 @@ fn write_column(
 {
     let from = fstarts[j - 1] as usize;
     let to = fstarts[j] as usize;
-    printer::write_step(j as u64, pops, room, &frows[from..to], bytes, at)
+    write_step(j as u64, pops, room, &frows[from..to], bytes, at)
 }
 
 // Writes the lines of all steps, and answers the place behind them. The first k are written, up to next; depth updates are held behind them, whose entries

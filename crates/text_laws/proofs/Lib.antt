@@ -1,5 +1,6 @@
 pub mod Parts
 pub mod Decimals
+pub mod DecimalWords
 pub mod Lines
 pub mod Words
 pub mod Numbers

@@ -11,7 +11,8 @@ use Rattle.papers.specs.Text.{newline, Cut, line, unended, cut, afterLines, wor
 use Rattle.list_laws.proofs.Tests.{Test, passes, fails, test}
 use Rattle.text_laws.specs.Grammar.{All, Digit, InWord, InLine, Short, spaced}
 use Rattle.text_laws.proofs.Parts.{and-iff, all-append, all-map}
-use Rattle.text_laws.proofs.Decimals.{decimal-digits, decimal-iff}
+use Rattle.text_laws.proofs.Decimals.{decimal-digits}
+use Rattle.text_laws.proofs.DecimalWords.{decimal-iff}
 use Rattle.text_laws.proofs.Lines.{cut-iff}
 use Rattle.text_laws.proofs.Words.{words-spaced, Line, line-words, printed-spaced}
 

@@ -14,10 +14,11 @@ use Rattle.list_laws.proofs.Stores.{sets-more}
 use Rattle.text_laws.specs.Grammar.{behind}
 use Rattle.text_laws.proofs.ByWords.{behind-none, behind-more}
 use Rattle.text_words.specs.Words.{Number}
+use Rattle.text_words.proofs.Told.{more-numbers, more-after, line-behind, last-numbers, line-ends}
+use Rattle.kept_rows.specs.Narrowed.{narrowed}
 use Rattle.text_lines.specs.declared.Line.{Line}
 use Rattle.text_lines.specs.declared.Line.the-variants.{Rows, Bad}
-use Rattle.text_lines.specs.Lines.{narrowed, RowsTold, all-rows, no-rows, LineTold, row-line, bad-line}
-use Rattle.text_lines.proofs.Told.{more-numbers, more-after, line-behind, last-numbers, line-ends}
+use Rattle.text_lines.specs.Lines.{RowsTold, all-rows, no-rows, LineTold, row-line, bad-line}
 
 -- the numbers read so far, `count` of them up to k, kept from place t on
 pub record RowsRead (text : List ℕ) (at t : ℕ) (rows₀ rows : List ℕ) (k count : ℕ) : Type 0 where

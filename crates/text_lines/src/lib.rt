@@ -1,45 +1,14 @@
-// The lines of a job text: the first line, and a line of rows, which are kept in a lent slice.
+// A line of rows of a job text, which are kept in a lent slice.
 // A line is read to its end or to its first bad word, so that bad text in it is found before anything else is said of it.
-ghost use mathlib.Core.Path.{_≡_};
-ghost use mathlib.Core.List.{[], _∷_};
 ghost use Prim.Native.Nat.{_≤_};
-ghost use lib.ListN.{length, set};
-ghost use Rattle.text_lines.specs.Lines.{narrowed, RowsTold, LineTold, HeadTold};
-use papers::JobHead;
+ghost use lib.ListN.{length};
+ghost use Rattle.text_lines.specs.Lines.{RowsTold, LineTold};
 use text_words::Word;
-
-// The greatest number of 32 bits.
-pub const MAX_NARROW: u64 = 4294967295;
 
 // What a line of rows holds: how many, and the place behind the line; or bad text.
 pub enum Line {
     Rows { count: usize, next: usize },
     Bad,
-}
-
-// What line 1 holds: the numbers of a job, and the place behind the line; or bad text.
-pub enum Head {
-    Numbers { head: JobHead, next: usize },
-    Bad,
-}
-
-// A row as it is kept. A row that 32 bits do not hold is over n, whatever n is, and so is the one that is kept for it.
-fn narrow(row: u64) -> u32
-    ensures { λ r. ⌜ r ≡ narrowed row ⌝ }
-{
-    if row < MAX_NARROW {
-        return row as u32;
-    }
-    MAX_NARROW as u32
-}
-
-// Keeps a row at place i, if the slice has that place.
-fn keep_row(rows: &mut [u32], i: usize, row: u64)
-    ensures { λ _. ⌜ now (rows .exit) ≡ set (now (rows .entry)) i (narrowed row) ⌝ }
-{
-    if i < rows.len() {
-        rows[i] = narrow(row);
-    }
 }
 
 // The numbers from `at` to the end of the line, kept as rows from place t on while there is room. The first `count` are read and kept, the next
@@ -56,14 +25,14 @@ fn read_rows(text: &[u8], at: usize, rows: &mut [u32], t: usize) -> Line
                 return Line::Bad;
             }
             Word::Last { value, next } => {
-                keep_row(rows, t + count, value);
+                kept_rows::keep_row(rows, t + count, value);
                 return Line::Rows {
                     count: count + 1,
                     next,
                 };
             }
             Word::More { value, next } => {
-                keep_row(rows, t + count, value);
+                kept_rows::keep_row(rows, t + count, value);
                 count += 1;
                 k = next;
             }
@@ -98,68 +67,5 @@ pub fn read_line(text: &[u8], at: usize, rows: &mut [u32], t: usize) -> Line
                 return Line::Rows { count, next: end };
             }
         },
-    }
-}
-
-// The end of line 1, behind n and limit: the mark.
-fn read_mark(text: &[u8], at: usize, n: u64, limit: u64) -> Head
-    requires { ⌜ at ≤ length (now text) ⌝ }
-    ensures { λ r. ⌜ HeadTold (now (text .entry)) (n ∷ limit ∷ []) at r ⌝ }
-{
-    match text_words::read_word(text, at) {
-        Word::Last { value: mark, next } => {
-            return Head::Numbers {
-                head: JobHead { n, mark, limit },
-                next,
-            };
-        }
-        Word::More { value: _, next: _ } => {
-            return Head::Bad;
-        }
-        Word::Bad => {
-            return Head::Bad;
-        }
-    }
-}
-
-// The rest of line 1, behind n: the limit, and a mark or none.
-fn read_limit(text: &[u8], at: usize, n: u64) -> Head
-    requires { ⌜ at ≤ length (now text) ⌝ }
-    ensures { λ r. ⌜ HeadTold (now (text .entry)) (n ∷ []) at r ⌝ }
-{
-    match text_words::read_word(text, at) {
-        Word::Last { value: limit, next } => {
-            return Head::Numbers {
-                head: JobHead {
-                    n,
-                    mark: program_sizes::DEFAULT_MARK,
-                    limit,
-                },
-                next,
-            };
-        }
-        Word::More { value: limit, next } => {
-            return read_mark(text, next, n, limit);
-        }
-        Word::Bad => {
-            return Head::Bad;
-        }
-    }
-}
-
-// Line 1.
-pub fn read_head(text: &[u8]) -> Head
-    ensures { λ r. ⌜ HeadTold (now (text .entry)) [] 0 r ⌝ }
-{
-    match text_words::read_word(text, 0) {
-        Word::Last { value: _, next: _ } => {
-            return Head::Bad;
-        }
-        Word::More { value: n, next } => {
-            return read_limit(text, next, n);
-        }
-        Word::Bad => {
-            return Head::Bad;
-        }
     }
 }

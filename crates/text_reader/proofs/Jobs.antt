@@ -14,9 +14,10 @@ use Rattle.papers.specs.Refusals.{answer, untouched, refused, first}
 use Rattle.papers.specs.Text.{numbersAt, headOf, textHead, textJob, inputTest, headTest, rowLinesTest, endTest, textTests}
 use Rattle.job_laws.proofs.Firsts.{first-passes, first-refuses, refused-if, passed-if}
 use Rattle.text_laws.proofs.ByWords.{behind-none}
-use Rattle.text_lines.specs.declared.Head.{Head}
-use Rattle.text_lines.specs.declared.Head.the-variants.{Numbers, Bad}
-use Rattle.text_lines.specs.Lines.{LineTo, HeadTold, head-line, bad-head}
+use Rattle.text_words.specs.Words.{LineTo}
+use Rattle.text_head.specs.declared.Head.{Head}
+use Rattle.text_head.specs.declared.Head.the-variants.{Numbers, Bad}
+use Rattle.text_head.specs.Heads.{HeadTold, head-line, bad-head}
 use Rattle.text_reader.specs.declared.Lines.{Lines}
 use Rattle.text_reader.specs.declared.Lines.the-variants as lines
 use Rattle.text_reader.specs.declared.JobRead.the-variants.{Job, Refused}

@@ -17,38 +17,14 @@ use Rattle.list_laws.proofs.Stores.{sets-append, sets-more, starts-more, length
 use Rattle.job_laws.proofs.Faults.{faulty, faults-next}
 use Rattle.text_laws.proofs.Lines.{after-next}
 use Rattle.text_laws.proofs.Numbers.{numbers-later}
-use Rattle.text_lines.specs.declared.Line.{Line}
-use Rattle.text_lines.specs.declared.Line.the-variants.{Rows, Bad}
-use Rattle.text_lines.specs.Lines.{narrowed, LineTo, LineTold, row-line, bad-line}
+use Rattle.text_words.specs.Words.{LineTo}
+use Rattle.kept_rows.specs.Narrowed.{narrowed}
+use Rattle.text_lines.specs.declared.Line.the-variants.{Rows}
 use Rattle.text_reader.specs.declared.Lines.{Lines}
 use Rattle.text_reader.specs.declared.Lines.the-variants as lines
 use Rattle.text_reader.specs.Reading.{columnLists, LinesTold, all-lines, bad-lines}
 use Rattle.text_reader.proofs.Tests.{lists-none, lists-more, length-lists, line-bad, line-over, line-fine, lines-refuse, end-refuses, end-passes}
-
--- ---- a line, from its answer
-
--- a line of rows, kept
-pub record RowLine (text : List ℕ) (k t : ℕ) (rows rows′ : List ℕ) (count next : ℕ) : Type 0 where
-  pub list : List ℕ
-  pub counted : count ≡ length list
-  pub numbers : numbersAt (drop k text) 1 ≡ length list ∷ list
-  pub ends : LineTo text k next
-  pub paced : k + count ≤ next
-  pub kept : rows′ ≡ sets rows t (map narrowed list)
-
-module _ {text : List ℕ} {k t : ℕ} {rows rows′ : List ℕ} {r : Line} where
-  pub told-rows : {count next : ℕ} → LineTold text k t rows rows′ r → r ≡ Rows count next → RowLine text k t rows rows′ count next
-  told-rows {count} {next} (row-line list m e f l p h) g =
-      let a : length list ≡ count = cc in
-      let b : m ≡ next = cc in
-      record { list = list; counted = sym a; numbers = f; ends = rw b at l; paced = omega arith; kept = h }
-  told-rows (bad-line e f) g = absurd (let z : _≡_ {A = ℕ} 0 1 = cc in omega arith)
-
-  pub told-bad : LineTold text k t rows rows′ r → r ≡ Bad → isRowLine (numbersAt (drop k text) 1) ≡ false
-  told-bad (row-line list m e f l p h) g = absurd (let z : _≡_ {A = ℕ} 0 1 = cc in omega arith)
-  told-bad (bad-line e f) g = f
-
--- ---- lines read so far
+use Rattle.text_reader.proofs.RowLines.{RowLine}
 
 -- the lines of the first j columns, up to k, with `total` rows
 pub record LinesRead (text : List ℕ) (n : ℕ) (starts₀ rows₀ starts rows : List ℕ) (j total k : ℕ) : Type 0 where
@@ -113,23 +89,17 @@ module _ {text : List ℕ} {n : ℕ} {starts₀ rows₀ starts rows : List ℕ} 
     more-rows = ap flat more-lists ∙ flat-more (textLists text j) (y .list)
 
     more-counted : total + count ≡ length (flat (textLists text (suc j)))
-    more-counted =
-        let a = x .counted in
-        let b = y .counted in
-        omega (arith, ap length more-rows, length-append (flat (textLists text j)) (y .list))
+    more-counted = omega (arith, x .counted, y .counted, ap length more-rows, length-append (flat (textLists text j)) (y .list))
 
     more-starts : startsFrom 0 (textLists text (suc j)) ≡ startsFrom 0 (textLists text j) ++ ((total + count) ∷ [])
     more-starts =
-        let a = x .counted in
-        let b = y .counted in
-        let v : 0 + length (flat (textLists text j)) + length (y .list) ≡ total + count = omega arith in
+        let v : 0 + length (flat (textLists text j)) + length (y .list) ≡ total + count = omega (arith, x .counted, y .counted) in
         rw (more-lists, starts-more 0 (textLists text j) (y .list), v)
 
     more-kept : rows′ ≡ sets rows₀ 0 (map narrowed (flat (textLists text (suc j))))
     more-kept =
         let front = map narrowed (flat (textLists text j)) in
-        let a = x .counted in
-        let v : 0 + length front ≡ total = omega (arith, length-map (flat (textLists text j)) narrowed) in
+        let v : 0 + length front ≡ total = omega (arith, x .counted, length-map (flat (textLists text j)) narrowed) in
         rw (more-rows, map-append narrowed (flat (textLists text j)) (y .list), sets-append front rows₀ 0 (map narrowed (y .list)), v, ← x .kept) (y .kept)
 
     -- with too many

@@ -4,10 +4,10 @@ ghost use Prim.Native.Nat.{_≤_, _<_};
 ghost use lib.ListN.{length};
 ghost use Rattle.papers.specs.Bounds.{programColumns};
 ghost use Rattle.papers.specs.Text.{textHead};
-ghost use Rattle.text_lines.specs.Lines.{LineTo};
+ghost use Rattle.text_words.specs.Words.{LineTo};
 ghost use Rattle.text_reader.specs.Reading.{LinesTold, JobTold};
 use papers::JobHead;
-use text_lines::Head;
+use text_head::Head;
 use text_lines::Line;
 
 // What the lines of rows hold: how many rows in all; or a refusal's number and place.
@@ -79,7 +79,7 @@ pub fn read_job(text: &[u8], more: bool, starts: &mut [u64], rows: &mut [u32]) -
             place: 0,
         };
     }
-    match text_lines::read_head(text) {
+    match text_head::read_head(text) {
         Head::Bad => {
             return JobRead::Refused {
                 number: 25,

@@ -14,7 +14,8 @@ use Rattle.papers.specs.Text.{newline, space, isDecimal, decimalOf, numbersAt}
 use Rattle.list_laws.proofs.Tests.{true-false}
 use Rattle.text_laws.specs.Grammar.{Digit, Short, Ends}
 use Rattle.text_laws.proofs.Parts.{all-back, within}
-use Rattle.text_laws.proofs.Decimals.{decimal-digits, decimal-is, decimal-iff, decimal-word-iff}
+use Rattle.text_laws.proofs.Decimals.{decimal-digits}
+use Rattle.text_laws.proofs.DecimalWords.{decimal-is, decimal-iff, decimal-word-iff}
 use Rattle.text_laws.proofs.ByWords.{no-digit, first-number}
 use Rattle.text_words.specs.Words.{DigitsRead, Stop, Number}
 use Rattle.text_words.proofs.Scan.{digits-long}

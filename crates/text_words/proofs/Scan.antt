@@ -18,7 +18,8 @@ use Rattle.papers.specs.Text.{isDigit, isDecimal, valueOf}
 use Rattle.list_laws.proofs.Tests.{below-or, Test, passes, fails, test, true-false, not-true, not-false}
 use Rattle.text_laws.specs.Grammar.{Digit, Decimal}
 use Rattle.text_laws.proofs.Parts.{all-append}
-use Rattle.text_laws.proofs.Decimals.{value-append, value-below, digit-iff, decimal-word-iff}
+use Rattle.text_laws.proofs.Decimals.{value-append, value-below, digit-iff}
+use Rattle.text_laws.proofs.DecimalWords.{decimal-word-iff}
 use Rattle.text_words.specs.Words.{DigitsAt, DigitsRead, Stop}
 
 -- ---- a digit

@@ -1,4 +1,4 @@
--- What is read at a place of a text: digits, and the number that they make with the byte behind them.
+-- What is read at a place of a text: digits, the number that they make with the byte behind them, and the line that begins there.
 -- Assumes nothing.
 use Prim.Native.Nat.{ℕ, _+_, _<_, _≤_}
 use mathlib.Core.Path.{_≡_}
@@ -6,7 +6,7 @@ use mathlib.Core.Logic.{_⊎_}
 use mathlib.Core.List.{List, [], _∷_, _++_}
 use lib.ListN.{length, getD, take, drop}
 use Rattle.papers.specs.Bounds.{maxDigits}
-use Rattle.papers.specs.Text.{newline, space, valueOf, decimalOf, numbersAt}
+use Rattle.papers.specs.Text.{newline, space, valueOf, decimalOf, afterLines, numbersAt}
 use Rattle.text_laws.specs.Grammar.{All, Digit, Short}
 use Rattle.text_words.specs.declared.Word.{Word}
 use Rattle.text_words.specs.declared.Word.the-variants.{More, Last, Bad}
@@ -38,3 +38,9 @@ pub data WordRead (text : List ℕ) (at : ℕ) (r : Word) : Type 0 where
   more : (x next : ℕ) → r ≡ More x next → Number text at space x next → WordRead text at r
   last : (x next : ℕ) → r ≡ Last x next → Number text at newline x next → WordRead text at r
   bad : r ≡ Bad → numbersAt (drop at text) 1 ≡ [] → WordRead text at r
+
+-- the line that begins at `at` ends before next
+pub record LineTo (text : List ℕ) (at next : ℕ) : Type 0 where
+  pub rest : drop next text ≡ afterLines 1 (drop at text)
+  pub on : at < next
+  pub inside : next ≤ length text

@@ -1,8 +1,7 @@
 // The numbers of a job text, word by word: a decimal, and the byte that ends it.
 ghost use mathlib.Core.Path.{_≡_};
-ghost use Prim.Native.Nat.{_<_, _≤_, min};
+ghost use Prim.Native.Nat.{_≤_};
 ghost use lib.ListN.{length, take, drop};
-ghost use Rattle.papers.specs.Bounds.{maxDigits};
 ghost use Rattle.papers.specs.Text.{isDigit, isDecimal};
 ghost use Rattle.text_words.specs.Words.{DigitsAt, DigitsRead, Stop, WordRead};
 
@@ -26,34 +25,17 @@ fn is_digit(b: u64) -> bool
     48 <= b && b <= 57
 }
 
-// A byte as a 64-bit number.
-fn wide(b: u8) -> u64
-    ensures { λ r. ⌜ (r ≡ b) × (r < 256) ⌝ }
-{
-    b as u64
-}
-
-// How many bytes may be digits of one number, of those left.
-fn most_digits(left: usize) -> usize
-    ensures { λ r. ⌜ r ≡ min left maxDigits ⌝ }
-{
-    if left < program_sizes::MAX_DIGITS {
-        return left;
-    }
-    program_sizes::MAX_DIGITS
-}
-
 // The digits from `at` on, up to the first byte that is none, at most 13. The first i bytes are digits, of this value.
 fn read_digits(text: &[u8], at: usize) -> Digits
     requires { ⌜ at ≤ length (now text) ⌝ }
     ensures reads { λ r. ⌜ DigitsRead (now (text .entry)) at (r .count) (r .value) ⌝ }
     ensures stops { λ r. ⌜ Stop (now (text .entry)) at (r .count) ⌝ }
 {
-    let most = most_digits(text.len() - at);
+    let most = basics::lesser(text.len() - at, program_sizes::MAX_DIGITS);
     let mut i = 0;
     let mut value = 0;
     while i < most {
-        let b = wide(text[at + i]);
+        let b = basics::wide8(text[at + i]);
         if !is_digit(b) {
             return Digits { count: i, value };
         }

@@ -9,7 +9,7 @@ use lib.ListN.{length, getD, length-append}
 use lib.Seq.{slice, slice-cons}
 use Rattle.papers.specs.Lists.{_∈_}
 use Rattle.papers.specs.Order.{siblingKey, arranged, stepsOf}
-use Rattle.list_laws.proofs.Sorts.{sort-level}
+use Rattle.list_laws.proofs.SortOrder.{sort-level}
 use Rattle.order_laws.proofs.Arranged.{steps-suc, steps-enough}
 use Rattle.tree.specs.Blocks.{block, blocks, kidsAt}
 use Rattle.tree.proofs.Slices.{slice-none}

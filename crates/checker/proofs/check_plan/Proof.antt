@@ -8,8 +8,7 @@ use Rattle.job_laws.proofs.Outcomes.{job-answered}
 use Rattle.lent.proofs.Alike.{zeros-alike}
 use Rattle.lent.proofs.Longs.{not-short}
 use Rattle.column_laws.proofs.Testing.{tested}
-use Rattle.bytes_judge.proofs.Ways.{way-job, way-short}
-use Rattle.bytes_judge.proofs.Rules.{way-refused, way-done}
+use Rattle.bytes_judge.proofs.Ways.{way-job, way-short, way-refused, way-done}
 use Rattle.checker.proofs.check_plan.Statement.{statement}
 use Rattle.checker.proofs.check_plan.Tie as tie
 

@@ -53,23 +53,23 @@ module _ (job : Job) where
             → r ≡ answerOf (first jobTests job)
         rows-decide p r e = e ∙ ap answerOf (sym (limit-passes ∙ first-passes _ _ job p ∙ first-last _ job))
 
-uncounted-requires : tie.Need-uncounted-requires
-uncounted-requires c κs = search needs
+answered-requires : tie.Need-answered-requires
+answered-requires c κs = search needs
 
 returns : tie.Need-returns
-returns c = answer-refused (columns-refuses _ (c .before .if1 .taken)) (c .uncounted .ensures)
+returns c = answer-refused (columns-refuses _ (c .before .if1 .taken)) (c .answered .ensures)
 
-uncounted-requires-2 : tie.Need-uncounted-requires-2
-uncounted-requires-2 c κs = search needs
+answered-requires-2 : tie.Need-answered-requires-2
+answered-requires-2 c κs = search needs
 
 returns-2 : tie.Need-returns-2
-returns-2 c = answer-refused (mark-refuses _ (c .before .before .before .if1 .left) (c .before .if2 .taken)) (c .uncounted2 .ensures)
+returns-2 c = answer-refused (mark-refuses _ (c .before .before .before .if1 .left) (c .before .if2 .taken)) (c .answered2 .ensures)
 
-uncounted-requires-3 : tie.Need-uncounted-requires-3
-uncounted-requires-3 c κs = search needs
+answered-requires-3 : tie.Need-answered-requires-3
+answered-requires-3 c κs = search needs
 
 returns-3 : tie.Need-returns-3
-returns-3 c = answer-refused (limit-refuses _ (c .before .before .before .before .before .if1 .left) (c .before .before .before .if2 .left) (c .before .if3 .taken)) (c .uncounted3 .ensures)
+returns-3 c = answer-refused (limit-refuses _ (c .before .before .before .before .before .if1 .left) (c .before .before .before .if2 .left) (c .before .if3 .taken)) (c .answered3 .ensures)
 
 starts-fault-requires : tie.Need-starts-fault-requires
 starts-fault-requires c κs = search needs
@@ -87,11 +87,11 @@ pub first-fault-spec : {M : Type 1} → statement M
 first-fault-spec =
     tie.close
     (tie.spec
-    uncounted-requires
+    answered-requires
     returns
-    uncounted-requires-2
+    answered-requires-2
     returns-2
-    uncounted-requires-3
+    answered-requires-3
     returns-3
     starts-fault-requires
     returns-4

@@ -3,7 +3,8 @@
 -- Assumes nothing.
 use native.Mathlib.Omega.{arith}
 use borrow.Author.Needs.{needs}
-use Rattle.plan_judge.proofs.Trees.{few, tree-in, as-long, pops-as-long, each-once, within-order, refuses-18, passes-18, refuses-19, passes-19, stepped, refuses-20, refuses-9, passes-all}
+use Rattle.plan_judge.proofs.OnTrees.{few, tree-in, as-long, pops-as-long, each-once, within-order}
+use Rattle.plan_judge.proofs.Trees.{refuses-18, passes-18, refuses-19, passes-19, stepped, refuses-20, refuses-9, passes-all}
 use Rattle.plan_judge.proofs.judge_tree.Statement.{statement}
 use Rattle.plan_judge.proofs.judge_tree.Tie as tie
 

@@ -5,8 +5,8 @@ use mathlib.Core.List.{List, [], _∷_}
 use native.Mathlib.Omega.{arith}
 use borrow.Author.Needs.{needs}
 use Rattle.papers.specs.Text.{space, decimalOf, printed}
-use Rattle.printer.proofs.Writing.{Put, Writes}
-use Rattle.printer.proofs.Lines.{tail, word-fits, behind-word, number-fits, behind-number, behind-one, behind-two, end-fits, line-done, line-long}
+use Rattle.line_parts.proofs.Writing.{Put, Writes}
+use Rattle.line_parts.proofs.Lines.{tail, word-fits, behind-word, number-fits, behind-number, behind-one, behind-two, end-fits, line-done, line-long}
 use Rattle.printer.proofs.write_line.Statement.{statement}
 use Rattle.printer.proofs.write_line.Tie as tie
 

@@ -2,7 +2,7 @@
 -- Assumes nothing.
 use native.Mathlib.Omega.{arith}
 use borrow.Author.Needs.{needs}
-use Rattle.text_lines.proofs.Told.{word-more, word-last, word-bad}
+use Rattle.text_words.proofs.Told.{word-more, word-last, word-bad}
 use Rattle.text_lines.proofs.Rows.{line-bad, line-alone, line-lacks, line-no-rows, line-rows, line-differs}
 use Rattle.text_lines.proofs.read_line.Statement.{statement}
 use Rattle.text_lines.proofs.read_line.Tie as tie

@@ -5,7 +5,7 @@ use mathlib.Core.Path.{_∙_}
 use native.Mathlib.Omega.{arith}
 use lib.ListN.{length}
 use borrow.Author.Needs.{needs}
-use Rattle.text_lines.proofs.Told.{word-more, word-last, word-bad}
+use Rattle.text_words.proofs.Told.{word-more, word-last, word-bad}
 use Rattle.text_lines.proofs.Rows.{RowsRead, rows-start, rows-long, rows-turn, rows-last, rows-bad, rows-out}
 use Rattle.text_lines.proofs.read_rows.Statement.{statement}
 use Rattle.text_lines.proofs.read_rows.Tie as tie

@@ -7,7 +7,8 @@ use native.Mathlib.Omega.{arith}
 use lib.ListN.{length-set}
 use denote.Ref.{now}
 use borrow.Author.Needs.{needs}
-use Rattle.text_reader.proofs.LinesRead.{told-rows, told-bad, LinesRead, lines-start, told-first, starts-long, rows-long, lines-bad, lines-over, lines-turn, lines-left, lines-done}
+use Rattle.text_reader.proofs.RowLines.{told-rows, told-bad}
+use Rattle.text_reader.proofs.LinesRead.{LinesRead, lines-start, told-first, starts-long, rows-long, lines-bad, lines-over, lines-turn, lines-left, lines-done}
 use Rattle.text_reader.proofs.read_lines.Statement.{statement}
 use Rattle.text_reader.proofs.read_lines.Tie as tie
 

@@ -15,38 +15,38 @@ Inv-loop text at most i₀ value₀ i value = DigitsRead text at i value
 abbrev μ-loop : tie.MeasureT-loop
 μ-loop text at most i₀ value₀ i value = most - i
 
-sub-most-digits : tie.Need-sub-most-digits Inv-loop μ-loop
-sub-most-digits c = search needs
+sub-lesser : tie.Need-sub-lesser Inv-loop μ-loop
+sub-lesser c = search needs
 
-most-digits-requires : tie.Need-most-digits-requires Inv-loop μ-loop
-most-digits-requires c κs = search needs
+lesser-requires : tie.Need-lesser-requires Inv-loop μ-loop
+lesser-requires c κs = search needs
 
 loop-holds : tie.Need-loop-holds Inv-loop μ-loop
 loop-holds c = digits-start _ _ (c .before .before .pre)
 
-add-wide : tie.Need-add-wide Inv-loop μ-loop
-add-wide c = search needs
+add-wide8 : tie.Need-add-wide8 Inv-loop μ-loop
+add-wide8 c = search needs
 
-shared-slice-read-wide : tie.Need-shared-slice-read-wide Inv-loop μ-loop
-shared-slice-read-wide c = search needs
+shared-slice-read-wide8 : tie.Need-shared-slice-read-wide8 Inv-loop μ-loop
+shared-slice-read-wide8 c = search needs
 
-wide-requires : tie.Need-wide-requires Inv-loop μ-loop
-wide-requires c κs = search needs
+wide8-requires : tie.Need-wide8-requires Inv-loop μ-loop
+wide8-requires c κs = search needs
 
 is-digit-requires : tie.Need-is-digit-requires Inv-loop μ-loop
 is-digit-requires c κs = search needs
 
 returns : tie.Need-returns Inv-loop μ-loop
-returns c = (c .before .before .before .before .before .loop .inv, inr (inr (rw (c .before .before .wide .ensures .0) at (digit-no _ (c .before .is-digit .ensures) (c .if1 .taken)))))
+returns c = (c .before .before .before .before .before .loop .inv, inr (inr (rw (c .before .before .wide8 .ensures .0) at (digit-no _ (c .before .is-digit .ensures) (c .if1 .taken)))))
 
 mul-value : tie.Need-mul-value Inv-loop μ-loop
-mul-value c = let few = c .before .before .before .before .before .before .most-digits .ensures in let fit = digits-fit _ _ (c .before .before .before .before .before .loop .inv) (omega (arith, c .before .before .before .before .loop-test .taken)) in omega arith
+mul-value c = let few = c .before .before .before .before .before .before .lesser .ensures in let fit = digits-fit _ _ (c .before .before .before .before .before .loop .inv) (omega (arith, c .before .before .before .before .loop-test .taken)) in omega arith
 
 sub-value : tie.Need-sub-value Inv-loop μ-loop
 sub-value c = digit-yes _ (c .before .is-digit .ensures) (c .if1 .left) .0
 
 add-value : tie.Need-add-value Inv-loop μ-loop
-add-value c = let few = c .before .before .before .before .before .before .most-digits .ensures in let fit = digits-fit _ _ (c .before .before .before .before .before .loop .inv) (omega (arith, c .before .before .before .before .loop-test .taken)) in let high = c .before .before .wide .ensures .1 in omega arith
+add-value c = let few = c .before .before .before .before .before .before .lesser .ensures in let fit = digits-fit _ _ (c .before .before .before .before .before .loop .inv) (omega (arith, c .before .before .before .before .loop-test .taken)) in let high = c .before .before .wide8 .ensures .1 in omega arith
 
 add-i : tie.Need-add-i Inv-loop μ-loop
 add-i c = search needs
@@ -55,10 +55,10 @@ loop-less : tie.Need-loop-less Inv-loop μ-loop
 loop-less c = search needs
 
 loop-again : tie.Need-loop-again Inv-loop μ-loop
-loop-again c = let few = c .before .before .before .before .before .before .most-digits .ensures in let t = c .before .before .before .before .loop-test .taken in digits-turn _ _ (c .before .before .before .before .before .loop .inv) (omega arith) (omega arith) (c .before .before .wide .ensures .0) (digit-yes _ (c .before .is-digit .ensures) (c .if1 .left))
+loop-again c = let few = c .before .before .before .before .before .before .lesser .ensures in let t = c .before .before .before .before .loop-test .taken in digits-turn _ _ (c .before .before .before .before .before .loop .inv) (omega arith) (omega arith) (c .before .before .wide8 .ensures .0) (digit-yes _ (c .before .is-digit .ensures) (c .if1 .left))
 
 returns-2 : tie.Need-returns-2 Inv-loop μ-loop
-returns-2 c = let few = c .before .before .most-digits .ensures in let l = c .loop-test .left in (c .before .loop .inv, digits-stop _ _ (c .before .loop .inv) (let h = c .before .loop .inv .there .inside in let f = c .before .loop .inv .there .few in omega arith))
+returns-2 c = let few = c .before .before .lesser .ensures in let l = c .loop-test .left in (c .before .loop .inv, digits-stop _ _ (c .before .loop .inv) (let h = c .before .loop .inv .there .inside in let f = c .before .loop .inv .there .few in omega arith))
 
 pub read-digits-spec : {M : Type 1} → statement M
 read-digits-spec =
@@ -66,12 +66,12 @@ read-digits-spec =
     (tie.spec
     Inv-loop
     μ-loop
-    sub-most-digits
-    most-digits-requires
+    sub-lesser
+    lesser-requires
     loop-holds
-    add-wide
-    shared-slice-read-wide
-    wide-requires
+    add-wide8
+    shared-slice-read-wide8
+    wide8-requires
     is-digit-requires
     returns
     mul-value

@@ -1,0 +1,58 @@
+-- The slices lent are the program's buffers.
+-- Assumes nothing.
+use Prim.Native.Nat.{ℕ}
+use mathlib.Core.Path.{_≡_, ap}
+use mathlib.Core.List.{List}
+use lib.ListN.{replicate}
+use borrow.Author.Needs.{needs}
+use Rattle.papers.specs.declared.Answer.{Answer}
+use Rattle.papers.specs.Job.{Job}
+use Rattle.papers.specs.Refusals.{Outcome, Lent}
+use Rattle.papers.specs.Check.{checked}
+use Rattle.papers.specs.Text.{buffers}
+use Rattle.lent.specs.Six.{six}
+use Rattle.buffered_check.proofs.check_in_buffers.Statement.{statement}
+use Rattle.buffered_check.proofs.check_in_buffers.Tie as tie
+
+-- the check in zeroed slices of the program's sizes is that in its buffers
+in-buffers : (job : Job) (plan : List ℕ) {a : Answer} {lent : Lent} → record { answer = a; lent = lent }
+    ≡ checked job plan (six (replicate 256 0) (replicate 256 0) (replicate 256 0) (replicate 257 0) (replicate 4096 0) (replicate 2056 0)) → a ≡ checked job plan buffers .answer
+unfolding buffers
+in-buffers job plan e = ap (λ (o : Outcome Lent). o .answer) e
+
+slice-aggregate-check-plan : tie.Need-slice-aggregate-check-plan
+slice-aggregate-check-plan c = search needs
+
+slice-aggregate-check-plan-2 : tie.Need-slice-aggregate-check-plan-2
+slice-aggregate-check-plan-2 c = search needs
+
+slice-aggregate-check-plan-3 : tie.Need-slice-aggregate-check-plan-3
+slice-aggregate-check-plan-3 c = search needs
+
+slice-aggregate-check-plan-4 : tie.Need-slice-aggregate-check-plan-4
+slice-aggregate-check-plan-4 c = search needs
+
+slice-aggregate-check-plan-5 : tie.Need-slice-aggregate-check-plan-5
+slice-aggregate-check-plan-5 c = search needs
+
+slice-aggregate-check-plan-6 : tie.Need-slice-aggregate-check-plan-6
+slice-aggregate-check-plan-6 c = search needs
+
+check-plan-requires : tie.Need-check-plan-requires
+check-plan-requires c κs = search needs
+
+returns : tie.Need-returns
+returns c = in-buffers _ _ (c .before .before .before .before .before .before .check-plan .ensures)
+
+pub check-in-buffers-spec : {M : Type 1} → statement M
+check-in-buffers-spec =
+    tie.close
+    (tie.spec
+    slice-aggregate-check-plan
+    slice-aggregate-check-plan-2
+    slice-aggregate-check-plan-3
+    slice-aggregate-check-plan-4
+    slice-aggregate-check-plan-5
+    slice-aggregate-check-plan-6
+    check-plan-requires
+    returns)

@@ -1,2 +1,0 @@
-pub mod Rising
-pub mod Reading

@@ -1,0 +1,32 @@
+// The test of a job's starts, 4.
+use papers::Answer;
+ghost use mathlib.Core.Path.{_≡_};
+ghost use Prim.Native.Nat.{_≤_};
+ghost use Rattle.papers.specs.Bounds.{maxColumns};
+ghost use Rattle.papers.specs.Refusals.{answerOf, startsTest};
+
+// 4: not n + 1 starts, or the first not 0; the first column that would end before it begins; the last start not the row count.
+// One pass over the columns: no start of the first `done` columns falls.
+pub fn starts_fault(n: u64, starts: &[u64], rows: &[u32]) -> Answer
+    requires few { ⌜ n ≤ maxColumns ⌝ }
+    ensures { λ r. ⌜ r ≡ answerOf (startsTest n (now (starts .entry)) (now (rows .entry))) ⌝ }
+{
+    if starts.len() as u64 != n + 1 {
+        return basics::answered(4, 0, 0);
+    }
+    if starts[0] != 0 {
+        return basics::answered(4, 0, 0);
+    }
+    let mut done = 0;
+    while done < n {
+        let c = done as usize;
+        if starts[c + 1] < starts[c] {
+            return basics::answered(4, done + 1, 0);
+        }
+        done += 1;
+    }
+    if starts[n as usize] != rows.len() as u64 {
+        return basics::answered(4, n, 0);
+    }
+    basics::answered(0, 0, 0)
+}

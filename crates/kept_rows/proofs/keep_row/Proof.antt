@@ -1,0 +1,32 @@
+-- A place that the slice has is stored; a store at a place behind its end stores nothing (set-out).
+-- Assumes nothing.
+use mathlib.Core.Path.{sym, ap}
+use lib.ListN.{set}
+use lib.Seq.{set-out}
+use denote.Ref.{now}
+use borrow.Author.Needs.{needs}
+use Rattle.kept_rows.specs.Narrowed.{narrowed}
+use Rattle.kept_rows.proofs.keep_row.Statement.{statement}
+use Rattle.kept_rows.proofs.keep_row.Tie as tie
+
+narrow-requires : tie.Need-narrow-requires
+narrow-requires c κs = search needs
+
+mul-rows : tie.Need-mul-rows
+mul-rows c = search needs
+
+slice-write-rows : tie.Need-slice-write-rows
+slice-write-rows c = search needs
+
+same-length : tie.Need-same-length
+same-length c = search needs
+
+returns : tie.Need-returns
+returns c = ap (set (now (c .before .before .before .args .rows)) (c .before .before .before .args .i)) (c .narrow .ensures)
+
+returns-2 : tie.Need-returns-2
+returns-2 c = sym (set-out (now (c .before .before .args .rows)) (c .before .before .args .i) (narrowed (c .before .before .args .row)) (c .if1 .left))
+
+pub keep-row-spec : {M : Type 1} → statement M
+keep-row-spec =
+    tie.close (tie.spec narrow-requires mul-rows slice-write-rows same-length returns returns-2)

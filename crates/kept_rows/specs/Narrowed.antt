@@ -1,0 +1,7 @@
+-- A row of a job text as it is kept.
+-- Assumes nothing.
+use Prim.Native.Nat.{ℕ, _-_, _^_, min}
+
+-- no greater than 32 bits hold
+abbrev pub narrowed : ℕ → ℕ
+narrowed row = min row (2 ^ 32 - 1)

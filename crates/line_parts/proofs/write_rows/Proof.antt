@@ -1,0 +1,62 @@
+-- The loop's invariant: storing the numbers from i on at next leaves what storing all of them leaves. The measure is how many are left.
+-- Assumes nothing.
+use Prim.Native.Nat.{_-_}
+use lib.ListN.{length}
+use borrow.Author.Needs.{needs}
+use Rattle.line_parts.proofs.Writing.{writes-all}
+use Rattle.line_parts.proofs.Lines.{Listed, listed-room, listed-turn, listed-stop}
+use Rattle.line_parts.proofs.write_rows.Statement.{statement}
+use Rattle.line_parts.proofs.write_rows.Tie as tie
+
+abbrev Inv-loop : tie.InvT-loop
+Inv-loop rows bytes₀ at next₀ i₀ bytes next i = Listed rows bytes₀ at bytes next i
+
+abbrev μ-loop : tie.MeasureT-loop
+μ-loop rows bytes₀ at next₀ i₀ bytes next i = length rows - i
+
+loop-holds : tie.Need-loop-holds Inv-loop μ-loop
+loop-holds c = record { written = writes-all _ _ _; room = c .before .before .pre }
+
+mul-wide32 : tie.Need-mul-wide32 Inv-loop μ-loop
+mul-wide32 c = search needs
+
+shared-slice-read-wide32 : tie.Need-shared-slice-read-wide32 Inv-loop μ-loop
+shared-slice-read-wide32 c = search needs
+
+wide32-requires : tie.Need-wide32-requires Inv-loop μ-loop
+wide32-requires c κs = search needs
+
+write-number-requires : tie.Need-write-number-requires Inv-loop μ-loop
+write-number-requires c κs = listed-room (c .before .before .before .before .loop .inv) (c .before .before .before .loop-test .taken) (c .before .wide32 .ensures .0)
+
+add-i : tie.Need-add-i Inv-loop μ-loop
+add-i c = search needs
+
+loop-less : tie.Need-loop-less Inv-loop μ-loop
+loop-less c = search needs
+
+loop-again : tie.Need-loop-again Inv-loop μ-loop
+loop-again c = listed-turn (c .before .before .before .before .before .before .before .loop .inv) (c .before .before .before .before .before .before .loop-test .taken) (c .before .before .before .before .wide32 .ensures .0) (c .before .before .write-number .ensures .0) (c .before .before .write-number .ensures .1)
+
+same-length : tie.Need-same-length Inv-loop μ-loop
+same-length c = c .before .loop .inv .written .long
+
+returns : tie.Need-returns Inv-loop μ-loop
+returns c = listed-stop (c .before .loop .inv) (c .loop-test .left)
+
+pub write-rows-spec : {M : Type 1} → statement M
+write-rows-spec =
+    tie.close
+    (tie.spec
+    Inv-loop
+    μ-loop
+    loop-holds
+    mul-wide32
+    shared-slice-read-wide32
+    wide32-requires
+    write-number-requires
+    add-i
+    loop-less
+    loop-again
+    same-length
+    returns)

@@ -1,0 +1,61 @@
+-- The loop's invariant: storing the letters from i on at their place leaves what storing all of them leaves. The measure is how many are left.
+-- Assumes nothing.
+use Prim.Native.Nat.{_-_}
+use lib.ListN.{length}
+use borrow.Author.Needs.{needs}
+use Rattle.line_parts.proofs.Lines.{Spelled, spelled-start, spelled-turn, spelled-stop}
+use Rattle.line_parts.proofs.write_word.Statement.{statement}
+use Rattle.line_parts.proofs.write_word.Tie as tie
+
+abbrev Inv-loop : tie.InvT-loop
+Inv-loop word bytes₀ at i₀ bytes i = Spelled word bytes₀ at bytes i
+
+abbrev μ-loop : tie.MeasureT-loop
+μ-loop word bytes₀ at i₀ bytes i = length word - i
+
+loop-holds : tie.Need-loop-holds Inv-loop μ-loop
+loop-holds c = spelled-start _ _ _
+
+shared-slice-read-bytes : tie.Need-shared-slice-read-bytes Inv-loop μ-loop
+shared-slice-read-bytes c = search needs
+
+add-bytes : tie.Need-add-bytes Inv-loop μ-loop
+add-bytes c = search needs
+
+slice-write-bytes : tie.Need-slice-write-bytes Inv-loop μ-loop
+slice-write-bytes c = search needs
+
+add-i : tie.Need-add-i Inv-loop μ-loop
+add-i c = search needs
+
+loop-less : tie.Need-loop-less Inv-loop μ-loop
+loop-less c = search needs
+
+loop-again : tie.Need-loop-again Inv-loop μ-loop
+loop-again c = spelled-turn (c .before .before .loop .inv) (c .before .loop-test .taken)
+
+add-result : tie.Need-add-result Inv-loop μ-loop
+add-result c = search needs
+
+same-length : tie.Need-same-length Inv-loop μ-loop
+same-length c = c .before .loop .inv .written .long
+
+returns : tie.Need-returns Inv-loop μ-loop
+returns c = spelled-stop (c .before .loop .inv) (c .loop-test .left)
+
+pub write-word-spec : {M : Type 1} → statement M
+write-word-spec =
+    tie.close
+    (tie.spec
+    Inv-loop
+    μ-loop
+    loop-holds
+    shared-slice-read-bytes
+    add-bytes
+    slice-write-bytes
+    add-i
+    loop-less
+    loop-again
+    add-result
+    same-length
+    returns)

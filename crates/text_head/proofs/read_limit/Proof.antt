@@ -1,0 +1,44 @@
+-- The second number ends the line, or the mark follows it.
+-- Assumes nothing.
+use borrow.Author.Needs.{needs}
+use Rattle.text_words.proofs.Told.{word-more, word-last, word-bad}
+use Rattle.text_head.proofs.Heads.{head-bad, head-two, head-further}
+use Rattle.text_head.proofs.read_limit.Statement.{statement}
+use Rattle.text_head.proofs.read_limit.Tie as tie
+
+read-word-requires : tie.Need-read-word-requires
+read-word-requires c κs = search needs
+
+enum-known-limit : tie.Need-enum-known-limit
+enum-known-limit c = search needs
+
+returns : tie.Need-returns
+returns c = head-two (word-last (c .before .before .before .read-word .ensures) (c .before .limit .given .1)) _
+
+enum-known-limit-2 : tie.Need-enum-known-limit-2
+enum-known-limit-2 c = search needs
+
+read-mark-requires : tie.Need-read-mark-requires
+read-mark-requires c κs = word-more (c .before .before .before .read-word .ensures) (c .before .limit2 .given .1) .inside
+
+returns-2 : tie.Need-returns-2
+returns-2 c = head-further (word-more (c .before .before .before .before .read-word .ensures) (c .before .before .limit2 .given .1)) _ (c .read-mark .ensures)
+
+enum-told : tie.Need-enum-told
+enum-told c = search needs
+
+returns-3 : tie.Need-returns-3
+returns-3 c = head-bad (word-bad (c .before .before .read-word .ensures) (c .enum-told .given .1))
+
+pub read-limit-spec : {M : Type 1} → statement M
+read-limit-spec =
+    tie.close
+    (tie.spec
+    read-word-requires
+    enum-known-limit
+    returns
+    enum-known-limit-2
+    read-mark-requires
+    returns-2
+    enum-told
+    returns-3)

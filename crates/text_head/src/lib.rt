@@ -1,0 +1,76 @@
+// Line 1 of a job text: n, the limit, and a mark or none.
+ghost use mathlib.Core.List.{[], _∷_};
+ghost use Prim.Native.Nat.{_≤_};
+ghost use lib.ListN.{length};
+ghost use Rattle.text_head.specs.Heads.{HeadTold};
+use papers::JobHead;
+use text_words::Word;
+
+// What line 1 holds: the numbers of a job, and the place behind the line; or bad text.
+pub enum Head {
+    Numbers { head: JobHead, next: usize },
+    Bad,
+}
+
+// The end of line 1, behind n and limit: the mark.
+fn read_mark(text: &[u8], at: usize, n: u64, limit: u64) -> Head
+    requires { ⌜ at ≤ length (now text) ⌝ }
+    ensures { λ r. ⌜ HeadTold (now (text .entry)) (n ∷ limit ∷ []) at r ⌝ }
+{
+    match text_words::read_word(text, at) {
+        Word::Last { value: mark, next } => {
+            return Head::Numbers {
+                head: JobHead { n, mark, limit },
+                next,
+            };
+        }
+        Word::More { value: _, next: _ } => {
+            return Head::Bad;
+        }
+        Word::Bad => {
+            return Head::Bad;
+        }
+    }
+}
+
+// The rest of line 1, behind n: the limit, and a mark or none.
+fn read_limit(text: &[u8], at: usize, n: u64) -> Head
+    requires { ⌜ at ≤ length (now text) ⌝ }
+    ensures { λ r. ⌜ HeadTold (now (text .entry)) (n ∷ []) at r ⌝ }
+{
+    match text_words::read_word(text, at) {
+        Word::Last { value: limit, next } => {
+            return Head::Numbers {
+                head: JobHead {
+                    n,
+                    mark: program_sizes::DEFAULT_MARK,
+                    limit,
+                },
+                next,
+            };
+        }
+        Word::More { value: limit, next } => {
+            return read_mark(text, next, n, limit);
+        }
+        Word::Bad => {
+            return Head::Bad;
+        }
+    }
+}
+
+// Line 1.
+pub fn read_head(text: &[u8]) -> Head
+    ensures { λ r. ⌜ HeadTold (now (text .entry)) [] 0 r ⌝ }
+{
+    match text_words::read_word(text, 0) {
+        Word::Last { value: _, next: _ } => {
+            return Head::Bad;
+        }
+        Word::More { value: n, next } => {
+            return read_limit(text, next, n);
+        }
+        Word::Bad => {
+            return Head::Bad;
+        }
+    }
+}

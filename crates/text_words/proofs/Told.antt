@@ -1,0 +1,48 @@
+-- From an answer to what was read: the number at a place, or that a line that begins there has none.
+-- Assumes nothing.
+use Prim.Native.Nat.{ℕ}
+use mathlib.Core.Path.{_≡_, sym, ap, _∙_}
+use mathlib.Core.List.{List, [], _∷_}
+use native.Mathlib.Omega.{arith}
+use lib.ListN.{drop}
+use Rattle.papers.specs.Text.{newline, space, afterLines, numbersAt}
+use Rattle.text_laws.specs.Grammar.{behind}
+use Rattle.text_laws.proofs.ByWords.{numbers-last, numbers-next, after-last, after-next}
+use Rattle.text_words.specs.declared.Word.{Word}
+use Rattle.text_words.specs.declared.Word.the-variants.{More, Last, Bad}
+use Rattle.text_words.specs.Words.{LineTo, Number, WordRead, more, last, bad}
+
+module _ {text : List ℕ} {at : ℕ} {r : Word} where
+  pub word-more : {x next : ℕ} → WordRead text at r → r ≡ More x next → Number text at space x next
+  word-more {x} {next} (more y m e n) g = let a : y ≡ x = cc in let b : m ≡ next = cc in rw (← a, ← b) n
+  word-more (last y m e n) g = absurd (let z : _≡_ {A = ℕ} 0 1 = cc in omega arith)
+  word-more (bad e n) g = absurd (let z : _≡_ {A = ℕ} 0 1 = cc in omega arith)
+
+  pub word-last : {x next : ℕ} → WordRead text at r → r ≡ Last x next → Number text at newline x next
+  word-last (more y m e n) g = absurd (let z : _≡_ {A = ℕ} 0 1 = cc in omega arith)
+  word-last {x} {next} (last y m e n) g = let a : y ≡ x = cc in let b : m ≡ next = cc in rw (← a, ← b) n
+  word-last (bad e n) g = absurd (let z : _≡_ {A = ℕ} 0 1 = cc in omega arith)
+
+  pub word-bad : WordRead text at r → r ≡ Bad → numbersAt (drop at text) 1 ≡ []
+  word-bad (more y m e n) g = absurd (let z : _≡_ {A = ℕ} 0 1 = cc in omega arith)
+  word-bad (last y m e n) g = absurd (let z : _≡_ {A = ℕ} 0 1 = cc in omega arith)
+  word-bad (bad e n) g = n
+
+-- a number in front of a space: the rest of the line follows
+module _ {text : List ℕ} {at x next : ℕ} (n : Number text at space x next) where
+  pub more-numbers : numbersAt (drop at text) 1 ≡ behind (x ∷ []) (numbersAt (drop next text) 1)
+  more-numbers = ap (λ (t : List ℕ). numbersAt t 1) (n .stands) ∙ numbers-next x (n .short) (drop next text)
+
+  pub more-after : afterLines 1 (drop next text) ≡ afterLines 1 (drop at text)
+  more-after = sym (ap (afterLines 1) (n .stands) ∙ after-next x (n .short) (drop next text))
+
+  pub line-behind : {end : ℕ} → LineTo text next end → LineTo text at end
+  line-behind l = let a = n .on in let b = l .on in record { rest = l .rest ∙ more-after; on = omega arith; inside = l .inside }
+
+-- a number in front of a newline: the line ends
+module _ {text : List ℕ} {at x next : ℕ} (n : Number text at newline x next) where
+  pub last-numbers : numbersAt (drop at text) 1 ≡ x ∷ []
+  last-numbers = ap (λ (t : List ℕ). numbersAt t 1) (n .stands) ∙ numbers-last x (n .short) (drop next text)
+
+  pub line-ends : LineTo text at next
+  line-ends = record { rest = sym (ap (afterLines 1) (n .stands) ∙ after-last x (n .short) (drop next text)); on = n .on; inside = n .inside }
