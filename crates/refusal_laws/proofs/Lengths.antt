@@ -13,22 +13,16 @@ use Rattle.papers.specs.declared.Number.{Number}
 use Rattle.papers.specs.declared.Number.the-variants.{Value, Ended, TooLong, NotShortest}
 use Rattle.papers.specs.Bounds.{maxGroups}
 use Rattle.papers.specs.Lists.{flat}
-use Rattle.papers.specs.Numbers.{bytesOf, encode}
 use Rattle.papers.specs.Job.{Job, pattern}
 use Rattle.papers.specs.Key.{listNumbers, listsNumbers, listsOf, keyNumbers, keyOf}
 use Rattle.papers.specs.Conditions.{Stands, ended, too-long, not-shortest, value, Field, column, pops, count, gap, peak, nothing, high, fromList, fromGap, fromStep, following, Reaches, begin, next}
 use Rattle.list_laws.proofs.Tests.{Test, passes, fails, test}
 use Rattle.bytes_laws.proofs.Gaps.{length-gaps}
-use Rattle.bytes_laws.proofs.Numbers.{bytes-length}
+use Rattle.bytes_laws.proofs.Writing.{encode-short}
 use Rattle.job_laws.proofs.Starts.{Starts}
 use Rattle.job_laws.proofs.Laid.{length-lists, rows-laid}
 
 -- ---- a key
-
-encode-short : (xs : List ℕ) → length (encode xs) ≤ maxGroups * length xs
-unfolding encode
-encode-short [] = omega arith
-encode-short (x ∷ xs) = let b = bytes-length x .1 in omega (arith, encode-short xs, length-append (bytesOf x) (encode xs))
 
 count-numbers : (j : ℕ) (ls : List (List ℕ)) → length (listsNumbers j ls) ≡ length ls + length (flat ls)
 unfolding listsNumbers listNumbers flat

@@ -2,7 +2,6 @@
 -- stored. The measure is how many are left.
 -- Assumes nothing.
 use Prim.Native.Nat.{_+_, _-_, _/_, _%_, _<_}
-use mathlib.Core.Path.{refl}
 use native.Mathlib.Omega.{arith}
 use lib.ListN.{length}
 use borrow.Author.Needs.{needs}

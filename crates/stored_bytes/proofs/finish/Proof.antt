@@ -1,6 +1,5 @@
 -- A law for each way out: the slice too short and cleared, and the places behind the bytes cleared.
 -- Assumes nothing.
-use native.Mathlib.Omega.{arith}
 use borrow.Author.Needs.{needs}
 use Rattle.stored_bytes.proofs.Stores.{finished-short, finished-whole}
 use Rattle.stored_bytes.proofs.finish.Statement.{statement}
