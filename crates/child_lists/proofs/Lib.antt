@@ -3,3 +3,4 @@ pub mod Buffers
 pub mod Picking
 pub mod Making
 pub mod Joining
+pub mod NextChild

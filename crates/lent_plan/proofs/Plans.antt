@@ -103,23 +103,19 @@ module _ (job : Job) (p : first jobTests job ≡ passed) where
       pub orderable : Orderable (job .mark) n (mid .parents) (mid .order) (mid .pops) (mid .factorStarts) (mid .work)
       orderable =
           record {
-            given = rw (parents-front, starts-front) given;
+            given = rw (parents-front, starts-front) (record {
+              rowed = rowed below (passes .few);
+              columns = omega (arith, length-parents below, passes .few);
+              marked = passes .marked;
+              order-length = sym (length-parents below);
+              pops-length = sym (length-parents below);
+              work-length = omega (arith, length-parents below, alike .work, long .work);
+            });
             parents-long = rw (alike .parents) (long .parents);
             order-long = rw (alike .order) (long .order);
             pops-long = rw (alike .pops) (long .pops);
             starts-long = rw (alike .starts) (long .starts);
           }
-        where
-          given : Given (job .mark) parents starts n n (length (mid .work))
-          given =
-              record {
-                rowed = rowed below (passes .few);
-                columns = omega (arith, length-parents below, passes .few);
-                marked = passes .marked;
-                order-length = sym (length-parents below);
-                pops-length = sym (length-parents below);
-                work-length = omega (arith, length-parents below, alike .work, long .work);
-              }
 
       -- ---- the order is made
 
@@ -137,14 +133,11 @@ module _ (job : Job) (p : first jobTests job ≡ passed) where
             (rw (parents-front, starts-front, listing .pops, same-pops below, same-order below (job .mark)) at (ordering .counts))
             ∙ zeros-behind n (map (popsOf n (pattern job)) order) (before .pops) (length-map order (popsOf n (pattern job)) ∙ order-length below (job .mark)) (long .pops)
 
-        work-cleared : work ≡ zeros (before .work)
-        work-cleared = ordering .cleared ∙ rw (alike .work)
-
         holds : six (mid .parents) steps counts (mid .factorStarts) (mid .factorRows) work ≡ holdingPlan job (planOf job) before
         unfolding holdingPlan holding planOf
         holds =
             sixes parents-hold (order-holds ∙ ap (λ l. thenZeros l (before .order)) (sym (map-map _ _ order ∙ map-id order)))
-            (pops-hold ∙ ap (λ l. thenZeros l (before .pops)) (sym (map-map _ _ order))) starts-hold rows-hold work-cleared
+            (pops-hold ∙ ap (λ l. thenZeros l (before .pops)) (sym (map-map _ _ order))) starts-hold rows-hold (ordering .cleared ∙ rw (alike .work))
 
         -- 9
         pub made-peak : job .limit < most → Made job before (six (mid .parents) steps counts (mid .factorStarts) (mid .factorRows) work) (answer 9 0 most)

@@ -27,7 +27,7 @@ use Rattle.child_lists.specs.Marks.{Changed}
 use Rattle.column_list.specs.Stored.{Stored}
 use Rattle.column_list.proofs.Hung.{hung-none}
 use Rattle.structure.specs.Hanging.{hanging, Hangable}
-use Rattle.structure.proofs.Storing.{parent-is, stored-on}
+use Rattle.structure.proofs.Storing.{parent-is, stored-none, stored-on}
 use Rattle.list_test.specs.Lists.{PlanLists, wrong, FirstWrong}
 use Rattle.list_test.proofs.Plans.{starts-long, first-start, plan-part, plan-list, stands-fits, stands}
 
@@ -45,26 +45,15 @@ pub record Passing (n : ℕ) (A : Pattern) (fs fr p₀ w₀ p w : List ℕ) (m :
 
 pub pass-begin : {n : ℕ} {lists : List (List ℕ)} {fs fr : List ℕ} (A : Pattern) (p w w₁ : List ℕ) → PlanLists n lists fs fr
     → workLength n ≤ length w → w₁ ≡ zeros w → Passing n A fs fr p w₁ p w₁ 0
-unfolding least upTo flat
-pass-begin {n} {lists} {fs} {fr} A p w w₁ l hw e =
+unfolding least upTo
+pass-begin {fs = fs} {fr} A p w w₁ l hw e =
     record {
       most = omega arith;
-      stored = record {
-        rows-fit = rw (lists-none (R A)) (omega arith);
-        rows-are = rw (lists-none (R A));
-        starts-long = starts-long l;
-        starts-are = λ k h. first k (omega arith);
-        chains = λ j a b. rw (hung-none A j, e) (zero-at w j);
-        fresh = λ q h. rw e (omega (arith, zero-at w q));
-        work-long = rw (e, length-replicate) (omega arith);
-      };
+      stored = stored-none A fs fr w w₁ (starts-long l) (first-start l) (omega arith) e;
       none = refl;
       parents-are = refl;
       long = refl;
     }
-  where
-    first : (k : ℕ) → k ≡ 0 → getD fs k 0 ≡ length (flat (listsOf k (R A)))
-    first k z = rw (z, lists-none (R A)) (first-start l)
 
 module _ {n m : ℕ} {A : Pattern} {fs fr p₀ w₀ p w : List ℕ} (s : Passing n A fs fr p₀ w₀ p w m) where
   pub long-p : length p ≡ length p₀

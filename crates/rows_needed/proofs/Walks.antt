@@ -70,11 +70,10 @@ module _ {n i t c : ℕ} {starts rows p w : List ℕ} (r : Walk n i starts rows 
     -- the row behind row i, if there is one
     next-row : cursor n w₁ c + 1 < getD starts c 0 → (i < getD rows (cursor n w₁ c + 1) 0) × ((getD rows (cursor n w₁ c + 1) 0 ≤ n) × (cursor n w₁ c + 1 < length rows))
     next-row b =
-        let o = out in
-        let f = o .place .from-start in
-        let g = rows-rise (r .tested) c (o .column .1) (cursor n w₁ c) (cursor n w₁ c + 1) f (omega arith) b in
-        let e = row-range (r .tested) c (o .column .1) (cursor n w₁ c + 1) (omega arith) b in
-        (omega (arith, o .points .1), (e .1 .1 .0, e .1 .1 .1))
+        let f = out .place .from-start in
+        let g = rows-rise (r .tested) c (out .column .1) (cursor n w₁ c) (cursor n w₁ c + 1) f (omega arith) b in
+        let e = row-range (r .tested) c (out .column .1) (cursor n w₁ c + 1) (omega arith) b in
+        (omega (arith, out .points .1), (e .1 .1 .0, e .1 .1 .1))
 
     pub filing : Filing n c (cursor n w₁ c + 1) starts rows w₁
     filing =
@@ -103,13 +102,16 @@ module _ {n i t c : ℕ} {starts rows p w : List ℕ} (r : Walk n i starts rows 
           ahead = λ b. let e = next-row b in (e .0, e .1 .0);
         }
 
+    abbrev after : List ℕ
+    after = filed n c (cursor n w₁ c + 1) starts rows w₁
+
     done : Filed (out .rest) new
     done = file (out .rest) new
 
-    cursors : (d : ℕ) → UpTo n d → d ≢ c → cursor n (filed n c (cursor n w₁ c + 1) starts rows w₁) d ≡ cursor n w d
+    cursors : (d : ℕ) → UpTo n d → d ≢ c → cursor n after d ≡ cursor n w d
     cursors d u z = done .moved .stay d u z .cursors ∙ same (n + n + n + d) (omega arith)
 
-    module _ (w₂ : List ℕ) (e : w₂ ≡ filed n c (cursor n w₁ c + 1) starts rows w₁) where
+    module _ (w₂ : List ℕ) (e : w₂ ≡ after) where
       -- the others are still to do
       pub walked : Walk n i starts rows p₁ w₂ t₁ (getD w (n + n + c) 0)
       walked =
@@ -118,38 +120,30 @@ module _ {n i t c : ℕ} {starts rows p w : List ℕ} (r : Walk n i starts rows 
             tested = r .tested;
             low = r .low;
             high = r .high;
-            row = row-ext (filed n c (cursor n w₁ c + 1) starts rows w₁) good (r .high) (done .marks) (k .row n (columnOf starts rows) start);
+            row = row-ext after good (r .high) (done .marks) (k .row n (columnOf starts rows) start);
             buckets = rw (same (n + n + c) (omega (arith, column))) at (done .buckets);
             leaf = leaf;
             long-parents = rw lp (r .long-parents);
           })
         where
-          mark : (d : ℕ) → UpTo n d → getD w₁ d 0 ≡ i
-              → (getD (filed n c (cursor n w₁ c + 1) starts rows w₁) d 0 ≡ i) ⊎ Points n starts rows (filed n c (cursor n w₁ c + 1) starts rows w₁) d i
+          mark : (d : ℕ) → UpTo n d → getD w₁ d 0 ≡ i → (getD after d 0 ≡ i) ⊎ Points n starts rows after d i
           mark d u m = inl (done .marks d (u .1) ∙ m)
 
-          leaf : (d : ℕ) → UpTo n d → i ∈ columnOf starts rows d
-              → (getD (filed n c (cursor n w₁ c + 1) starts rows w₁) d 0 ≡ i) ⊎ Points n starts rows (filed n c (cursor n w₁ c + 1) starts rows w₁) d i
+          leaf : (d : ℕ) → UpTo n d → i ∈ columnOf starts rows d → (getD after d 0 ≡ i) ⊎ Points n starts rows after d i
           leaf d u m =
               ⊎-elim
               (λ (y : getD w d 0 ≡ i). mark d u (k .kept d y))
               (λ (y : Points n starts rows w d i).
               ⊎-elim
               (λ (z : d ≡ c). mark d u (rw z (k .met)))
-              (λ (z : d ≢ c). inr (points-ext n starts rows w (filed n c (cursor n w₁ c + 1) starts rows w₁) d i (cursors d u z) y))
+              (λ (z : d ≢ c). inr (points-ext n starts rows w after d i (cursors d u z) y))
               (same-or d c))
               (r .leaf d u m)
 
       -- one row less is ahead
       pub falls : ahead n starts w₂ < ahead n starts w
       falls =
-          let u = out .column in
-          let one =
-          sum-bump n c
-          (λ d. getD starts d 0 - cursor n (filed n c (cursor n w₁ c + 1) starts rows w₁) d)
-          (λ d. getD starts d 0 - cursor n w d)
-          (u .0)
-          (u .1)
+          let one = sum-bump n c (λ d. getD starts d 0 - cursor n after d) (λ d. getD starts d 0 - cursor n w d) (out .column .0) (out .column .1)
           (rw (done .moved .placed) (omega (arith, out .points .0, same (n + n + n + c) (omega arith))))
           (λ d a v m. ap (λ k. getD starts d 0 - k) (sym (cursors d (a, v) m))) in
           rw e (omega arith)

@@ -15,7 +15,7 @@ use Rattle.papers.specs.Tree.{parent}
 use Rattle.list_laws.proofs.Ascending.{asc-length}
 use Rattle.list_laws.proofs.UpTo.{length-upTo}
 use Rattle.list_laws.proofs.Stores.{sets-append, length-starts, starts-again}
-use Rattle.job_laws.proofs.Laid.{length-lists}
+use Rattle.job_laws.proofs.Laid.{length-lists, lists-none}
 use Rattle.fill_laws.proofs.Fill.{R-asc, R-range}
 use Rattle.column_laws.proofs.Places.{zero-at}
 use Rattle.column_laws.proofs.Families.{map-upTo, flat-more, length-more, starts-next}
@@ -23,7 +23,7 @@ use Rattle.child_lists.specs.Buffers.{held}
 use Rattle.column_list.specs.Stored.{rowsTo, Stored, Next, Gathers}
 use Rattle.column_list.proofs.Hung.{hung-none}
 use Rattle.structure.specs.Listed.{Storable, Stores, Lengths, Listed}
-use Rattle.structure.proofs.Storing.{parent-is, lacks, storable, stored-on}
+use Rattle.structure.proofs.Storing.{parent-is, stored-none, lacks, storable, stored-on}
 
 -- m columns are done; s₀ has 0 as its first start
 pub record Running (n : ℕ) (A : Pattern) (p₀ s₀ f₀ w₀ x₀ y₀ p s f w x y : List ℕ) (m : ℕ) : Type 0 where
@@ -39,28 +39,16 @@ pub record Running (n : ℕ) (A : Pattern) (p₀ s₀ f₀ w₀ x₀ y₀ p s f 
   pub long-x : length x ≡ length x₀
   pub long-y : length y ≡ length y₀
 
-none-listed : (A : Pattern) → listsOf 0 (R A) ≡ []
-unfolding listsOf upTo
-none-listed A = refl
-
 pub run-begin : {n : ℕ} (A : Pattern) (p s f x y w w₁ : List ℕ) → Lengths n p s x y w → w₁ ≡ zeros w
     → Running n A p (set s 0 0) f w₁ x y p (set s 0 0) f w₁ x y 0
 unfolding upTo startsFrom flat
-run-begin {n} A p s f x y w w₁ l e =
+run-begin A p s f x y w w₁ l e =
     record {
       most = omega arith;
-      stored = record {
-        rows-fit = rw (none-listed A) (omega arith);
-        rows-are = rw (none-listed A);
-        starts-long = rw length-set (l .starts-long);
-        starts-are = λ k h. first k (omega arith);
-        chains = λ j a b. rw (hung-none A j, e) (zero-at w j);
-        fresh = λ q h. rw e (omega (arith, zero-at w q));
-        work-long = rw (e, length-replicate) (l .work-long);
-      };
+      stored = stored-none A (set s 0 0) f w w₁ (rw length-set (l .starts-long)) (getD-set-same s 0 0 0 (omega (arith, l .starts-long))) (l .work-long) e;
       parents-are = refl;
-      starts-are = rw (none-listed A) (sym (set-set s 0 0 0));
-      rows-are = rw (none-listed A);
+      starts-are = rw (lists-none (R A)) (sym (set-set s 0 0 0));
+      rows-are = rw (lists-none (R A));
       room-p = l .parents-long;
       room-x = l .room-x;
       room-y = l .room-y;
@@ -68,9 +56,6 @@ run-begin {n} A p s f x y w w₁ l e =
       long-x = refl;
       long-y = refl;
     }
-  where
-    first : (k : ℕ) → k ≡ 0 → getD (set s 0 0) k 0 ≡ length (rowsTo A k)
-    first k z = rw (z, none-listed A) (getD-set-same s 0 0 0 (omega (arith, l .starts-long)))
 
 module _ {n m : ℕ} {A : Pattern} {p₀ s₀ f₀ w₀ x₀ y₀ p s f w x y : List ℕ} (good : Below n A) (r : Running n A p₀ s₀ f₀ w₀ x₀ y₀ p s f w x y m) where
   pub long-p : length p ≡ length p₀
@@ -114,12 +99,7 @@ module _ {n m : ℕ} {A : Pattern} {p₀ s₀ f₀ w₀ x₀ y₀ p s f w x y : 
     pub run-held : (len ≤ length x₁) × (len ≤ length y₁)
     run-held =
         let k = asc-length n (m + 1) (R A (m + 1)) (R-asc good (m + 1)) (λ i t. R-range good (m + 1) i t .1) in
-        let c = g .count in
-        let a = r .long-x in
-        let b = r .long-y in
-        let u = r .room-x in
-        let v = r .room-y in
-        (omega arith, omega arith)
+        (omega (arith, g .count, r .long-x, r .room-x), omega (arith, g .count, r .long-y, r .room-y))
 
     module _ (list : List ℕ) (q : list ≡ held turn len x₁ y₁) (h : len ≤ length f - getD s m 0) where
       is : list ≡ R A (m + 1)

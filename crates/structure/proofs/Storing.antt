@@ -1,4 +1,4 @@
--- One more column stored: its list behind the others, its end, and its place among its parent's children.
+-- One column more is stored, from none on: its list behind the others, its end, and its place among its parent's children.
 -- Assumes nothing.
 use Prim.Native.Nat.{ℕ, suc, _+_, _-_, _<_, _≤_}
 use mathlib.Core.Path.{_≡_, refl, ap, _∙_}
@@ -7,19 +7,21 @@ use mathlib.Core.List.{List, [], _∷_, _++_}
 use native.Mathlib.Omega.{arith}
 use native.Mathlib.Nat.{le-suc-iff}
 use native.Mathlib.Numerals.{add-one}
-use lib.ListN.{length, getD, take, drop, set, length-set}
+use lib.ListN.{length, getD, take, drop, set, length-set, length-replicate}
 use lib.Seq.{sets, sets-eq, length-sets, take-at, getD-set-same, getD-set-other}
-use Rattle.papers.specs.Lists.{head0}
+use Rattle.papers.specs.Lists.{head0, flat, zeros}
 use Rattle.papers.specs.Job.{Pattern, Below}
 use Rattle.papers.specs.Fill.{R}
 use Rattle.papers.specs.Tree.{parent}
+use Rattle.job_laws.proofs.Laid.{lists-none}
 use Rattle.fill_laws.proofs.Parents.{parent-within}
+use Rattle.column_laws.proofs.Places.{zero-at}
 use Rattle.column_laws.proofs.Families.{flat-more, length-more}
 use Rattle.child_lists.specs.Marks.{Changed, Fresh}
 use Rattle.column_laws.proofs.Chains.{chain-ext}
 use Rattle.column_list.specs.Hung.{hung}
 use Rattle.column_list.specs.Stored.{rowsTo, Stored}
-use Rattle.column_list.proofs.Hung.{hung-from}
+use Rattle.column_list.proofs.Hung.{hung-none, hung-from}
 use Rattle.structure.specs.Hanging.{hanging}
 use Rattle.structure.specs.Listed.{Storable, Stores}
 use Rattle.structure.proofs.Hanging.{Chains, hanging-else, length-hanging, hanging-chains}
@@ -39,6 +41,24 @@ least-some (x ∷ xs) h = refl
 pub parent-is : (A : Pattern) (j : ℕ) → head0 (R A j) ≡ parent A j
 unfolding parent
 parent-is A j = refl
+
+-- ---- before the first column: no list, and no column is hung
+
+pub stored-none : {n : ℕ} (A : Pattern) (fs fr w w₁ : List ℕ) → n < length fs → getD fs 0 0 ≡ 0 → n + n + n < length w → w₁ ≡ zeros w → Stored n 0 A fs fr w₁
+unfolding flat
+stored-none A fs fr w w₁ long z hw e =
+    record {
+      rows-fit = rw (lists-none (R A)) (omega arith);
+      rows-are = rw (lists-none (R A));
+      starts-long = long;
+      starts-are = λ k h. first k (omega arith);
+      chains = λ j a b. rw (hung-none A j, e) (zero-at w j);
+      fresh = λ q h. rw e (omega (arith, zero-at w q));
+      work-long = rw (e, length-replicate) hw;
+    }
+  where
+    first : (k : ℕ) → k ≡ 0 → getD fs k 0 ≡ length (rowsTo A k)
+    first k y = rw (y, lists-none (R A)) z
 
 -- ---- column m + 1
 

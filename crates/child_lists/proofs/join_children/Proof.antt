@@ -3,7 +3,8 @@
 -- Assumes nothing.
 use mathlib.Core.Path.{sym, _∙_}
 use native.Mathlib.Omega.{arith}
-use Rattle.child_lists.proofs.Joining.{State, begin, child-at, falls, ends, link, link-first, falls-marked, markable, roomy, passes-over, joins, stop}
+use Rattle.child_lists.proofs.Joining.{State, begin, stop}
+use Rattle.child_lists.proofs.NextChild.{child-at, falls, ends, link, link-first, falls-marked, markable, roomy, passes-over, joins}
 use Rattle.child_lists.proofs.join_children.Statement.{statement}
 use Rattle.child_lists.proofs.join_children.Tie as tie
 

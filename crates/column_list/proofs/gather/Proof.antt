@@ -1,6 +1,6 @@
 -- `column_list::gather` meets its contract: no child, one child, or several, of which the longest is joined first.
 -- Assumes nothing.
-use mathlib.Core.Path.{sym}
+use mathlib.Core.Path.{refl, sym, _∙_}
 use native.Mathlib.Omega.{arith}
 use lib.Seq.{length-take-le}
 use Rattle.column_laws.proofs.Columns.{tested-below}
@@ -24,7 +24,7 @@ copy-at-requires : tie.Need-copy-at-requires
 copy-at-requires c κs = let h = own-fits (tested-below (c .before .before .before .before .before .before .before .before .before .before .before .pre .0)) (c .before .before .before .before .before .before .before .before .before .before .before .pre .1) _ (c .before .before .before .pattern-rows .ensures) in omega arith
 
 same-length : tie.Need-same-length
-same-length c = omega arith
+same-length c = c .before .before .copy-at .kept .0
 
 returns : tie.Need-returns
 returns c = alone (tested-below (c .before .before .before .before .before .before .before .before .before .before .before .before .before .before .pre .0)) (c .before .before .before .before .before .before .before .before .before .before .before .before .before .before .pre .1) _ (c .before .before .before .before .before .before .pattern-rows .ensures) (c .before .before .before .before .if1 .taken) _ (c .before .before .copy-at .ensures)
@@ -48,10 +48,10 @@ slice-read-if2 : tie.Need-slice-read-if2
 slice-read-if2 c = first-link (tested-below (c .before .before .before .before .before .before .before .before .before .before .before .before .before .before .before .before .before .before .pre .0)) (c .before .before .before .before .before .before .before .before .before .before .before .before .before .before .before .before .before .before .pre .1) _ (c .before .before .before .before .before .before .before .before .before .before .pattern-rows .ensures) (c .before .before .before .before .before .before .before .before .if1 .left) _ (c .before .before .before .before .before .before .longest .ensures)
 
 same-length-2 : tie.Need-same-length-2
-same-length-2 c = omega arith
+same-length-2 c = refl
 
 same-length-3 : tie.Need-same-length-3
-same-length-3 c = omega arith
+same-length-3 c = c .before .before .before .before .unite .kept .1 .1 .0
 
 returns-2 : tie.Need-returns-2
 returns-2 c = single (tested-below (c .before .before .before .before .before .before .before .before .before .before .before .before .before .before .before .before .before .before .before .pre .0)) (c .before .before .before .before .before .before .before .before .before .before .before .before .before .before .before .before .before .before .before .pre .1) _ (c .before .before .before .before .before .before .before .before .before .before .before .pattern-rows .ensures) (c .before .before .before .before .before .before .before .before .before .if1 .left) _ (c .before .before .before .before .before .before .before .longest .ensures) _ (c .before .before .before .before .before .before .handed-on .ensures) _ _ (c .before .before .before .before .unite .ensures) (c .if2 .taken)
@@ -75,13 +75,13 @@ join-children-requires : tie.Need-join-children-requires
 join-children-requires c κs = several (tested-below (c .before .before .before .before .before .before .before .before .before .before .before .before .before .before .before .before .before .before .before .before .before .before .before .before .before .before .before .pre .0)) (c .before .before .before .before .before .before .before .before .before .before .before .before .before .before .before .before .before .before .before .before .before .before .before .before .before .before .before .pre .1) _ (c .before .before .before .before .before .before .before .before .before .before .before .before .before .before .before .before .before .before .before .pattern-rows .ensures) (c .before .before .before .before .before .before .before .before .before .before .before .before .before .before .before .before .before .if1 .left) _ (c .before .before .before .before .before .before .before .before .before .before .before .before .before .before .before .longest .ensures) _ (c .before .before .before .before .before .before .before .before .before .before .before .before .before .before .handed-on .ensures) _ _ (c .before .before .before .before .before .before .before .before .before .before .before .before .unite .ensures) _ (c .before .before .before .before .before .mark .ensures) (c .before .before .before .before .before .mark .kept .1 .1 .1 .0)
 
 same-length-4 : tie.Need-same-length-4
-same-length-4 c = omega arith
+same-length-4 c = c .before .before .before .before .before .before .join-children .kept .1 .1 .1 .1 .1 .1 .0 ∙ c .before .before .before .before .before .before .before .before .before .before .before .before .mark .kept .1 .1 .1 .0
 
 same-length-5 : tie.Need-same-length-5
-same-length-5 c = omega arith
+same-length-5 c = c .before .before .before .before .before .before .join-children .kept .1 .1 .1 .1 .1 .1 .1 .0 ∙ c .before .before .before .before .before .before .before .before .before .before .before .before .before .before .before .before .before .before .before .unite .kept .1 .1 .0
 
 same-length-6 : tie.Need-same-length-6
-same-length-6 c = omega arith
+same-length-6 c = c .before .before .before .before .before .before .join-children .kept .1 .1 .1 .1 .1 .1 .1 .1 .0
 
 returns-3 : tie.Need-returns-3
 returns-3 c = all-joined (tested-below (c .before .before .before .before .before .before .before .before .before .before .before .before .before .before .before .before .before .before .before .before .before .before .before .before .before .before .before .before .before .before .before .before .before .before .pre .0)) (c .before .before .before .before .before .before .before .before .before .before .before .before .before .before .before .before .before .before .before .before .before .before .before .before .before .before .before .before .before .before .before .before .before .before .pre .1) _ (c .before .before .before .before .before .before .before .before .before .before .before .before .before .before .before .before .before .before .before .before .before .before .before .before .before .before .pattern-rows .ensures) (c .before .before .before .before .before .before .before .before .before .before .before .before .before .before .before .before .before .before .before .before .before .before .before .before .if1 .left) _ (c .before .before .before .before .before .before .before .before .before .before .before .before .before .before .before .before .before .before .before .before .before .before .longest .ensures) _ (c .before .before .before .before .before .before .before .before .before .before .before .before .before .before .before .before .before .before .before .before .before .handed-on .ensures) _ _ (c .before .before .before .before .before .before .before .before .before .before .before .before .before .before .before .before .before .before .before .unite .ensures) _ (c .before .before .before .before .before .before .before .before .before .before .before .before .mark .ensures) (c .before .before .before .before .before .before .before .before .before .before .before .before .mark .kept .1 .1 .1 .0) _ _ _ _ _ (c .before .before .before .before .before .before .join-children .ensures)

@@ -17,7 +17,7 @@ abbrev μ-loop : tie.MeasureT-loop
 μ-loop n starts rows parents₀ fstarts₀ frows₀ x₀ y₀ work₀ m₀ parents fstarts frows x y work m = n - m
 
 clear64-requires : tie.Need-clear64-requires Inv-loop μ-loop
-clear64-requires c κs = omega arith
+clear64-requires c κs = tt
 
 slice-write-fstarts : tie.Need-slice-write-fstarts Inv-loop μ-loop
 slice-write-fstarts c = let l = c .before .before .before .before .before .before .before .before .before .before .before .before .pre .1 .starts-long in omega arith
@@ -47,13 +47,13 @@ same-length-3 : tie.Need-same-length-3 Inv-loop μ-loop
 same-length-3 c = long-f (tested-below (c .before .before .before .before .before .before .before .before .before .before .before .before .before .before .before .before .before .before .before .before .before .before .before .before .before .before .before .before .before .pre .0)) (c .before .before .before .before .before .before .before .before .before .before .before .before .before .before .before .before .loop .inv)
 
 same-length-4 : tie.Need-same-length-4 Inv-loop μ-loop
-same-length-4 c = omega arith
+same-length-4 c = c .before .before .before .before .before .before .before .before .before .gather .kept .1 .1 .1 .1 .1 .1 .1 .0 ∙ c .before .before .before .before .before .before .before .before .before .before .before .before .before .before .before .before .loop .inv .long-x
 
 same-length-5 : tie.Need-same-length-5 Inv-loop μ-loop
-same-length-5 c = omega arith
+same-length-5 c = c .before .before .before .before .before .before .before .before .before .gather .kept .1 .1 .1 .1 .1 .1 .1 .1 .0 ∙ c .before .before .before .before .before .before .before .before .before .before .before .before .before .before .before .before .loop .inv .long-y
 
 same-length-6 : tie.Need-same-length-6 Inv-loop μ-loop
-same-length-6 c = omega arith
+same-length-6 c = c .before .before .before .before .before .before .before .before .before .gather .kept .1 .1 .1 .1 .1 .1 .0 ∙ c .before .before .before .before .before .before .before .before .before .before .before .before .before .before .before .before .loop .inv .long-w ∙ c .before .before .before .before .before .before .before .before .before .before .before .before .before .before .before .before .before .before .before .clear64 .kept .0
 
 returns : tie.Need-returns Inv-loop μ-loop
 returns c = run-short (tested-below (c .before .before .before .before .before .before .before .before .before .before .before .before .before .before .before .before .before .before .before .before .before .before .before .before .before .before .before .before .before .pre .0)) (c .before .before .before .before .before .before .before .before .before .before .before .before .before .before .before .before .loop .inv) _ refl (c .before .before .before .before .before .before .before .before .before .before .before .before .before .before .before .loop-test .taken) (c .before .before .before .before .before .before .before .before .before .gather .ensures) (c .if1 .taken)
@@ -83,13 +83,13 @@ same-length-9 : tie.Need-same-length-9 Inv-loop μ-loop
 same-length-9 c = long-f (tested-below (c .before .before .before .before .before .before .before .before .before .before .before .before .before .before .pre .0)) (c .before .loop .inv)
 
 same-length-10 : tie.Need-same-length-10 Inv-loop μ-loop
-same-length-10 c = omega arith
+same-length-10 c = c .before .loop .inv .long-x
 
 same-length-11 : tie.Need-same-length-11 Inv-loop μ-loop
-same-length-11 c = omega arith
+same-length-11 c = c .before .loop .inv .long-y
 
 same-length-12 : tie.Need-same-length-12 Inv-loop μ-loop
-same-length-12 c = omega arith
+same-length-12 c = c .before .loop .inv .long-w ∙ c .before .before .before .before .clear64 .kept .0
 
 returns-2 : tie.Need-returns-2 Inv-loop μ-loop
 returns-2 c = run-all (tested-below (c .before .before .before .before .before .before .before .before .before .before .before .before .before .before .pre .0)) (c .before .loop .inv) _ refl (c .loop-test .left)

@@ -1,0 +1,122 @@
+-- One turn of the loop over a column's children: all that child d hands on is marked already, or it is joined and marked.
+-- Assumes nothing.
+use Prim.Native.Nat.{ℕ, _+_, _-_, _<_, _≤_}
+use mathlib.Core.Path.{_≡_, refl, sym, ap, _∙_}
+use mathlib.Core.Logic.{_≢_}
+use mathlib.Core.Bool.{true}
+use mathlib.Core.List.{List, _∷_, List·Memᴰ·head, List·Memᴰ·tail}
+use native.Mathlib.Omega.{arith}
+use lib.ListN.{length, getD, take}
+use lib.Seq.{length-take-le}
+use Rattle.papers.specs.Lists.{_∈_, merge, every}
+use Rattle.list_laws.proofs.Ascending.{asc-above}
+use Rattle.list_laws.proofs.Merges.{merge-left, merge-right}
+use Rattle.column_laws.proofs.Chains.{chain-end, chain-only}
+use Rattle.child_lists.specs.Marks.{marked, isMarked, Markable, Sound, Changed}
+use Rattle.child_lists.specs.Buffers.{held, Roomy}
+use Rattle.child_lists.specs.Children.{handedOn, Child, Siblings, Makes, Begun, Joining, Joined}
+use Rattle.child_lists.proofs.Marks.{marks-sound, changed-none, changed-more, changed-marked, covered-in}
+use Rattle.child_lists.proofs.Buffers.{first-buffer}
+use Rattle.child_lists.proofs.Picking.{Further, further, siblings-ext}
+use Rattle.child_lists.proofs.Making.{makes-join, makes-skip, makes-end, makes-only, makes-few}
+use Rattle.child_lists.proofs.Joining.{State}
+
+module _ {n j c len : ℕ} {fs fr w₀ x₀ y₀ w x y : List ℕ} {d turn count : ℕ} (s : State n j c len fs fr w₀ x₀ y₀ w x y d turn count) (h : d ≢ 0) where
+  next : Further n d fs w (s .left)
+  next = further (s .siblings) h
+
+  pub child-at : Child fs d
+  child-at = next .child
+
+  pub falls : getD w (n + d) 0 < d
+  falls = next .falls
+
+  here : d ∈ s .left
+  here = rw (next .is) (List·Memᴰ·head refl)
+
+  pub ends : getD fs d 0 ≤ length fr
+  ends = s .begun .ends d (s .left-in d here)
+
+  pub link : n + d < length w
+  link = omega (arith, s .siblings .links, next .most)
+
+  pub link-first : n + d < length w₀
+  link-first = rw (← s .long-w) link
+
+  positive : (i : ℕ) → i ∈ handedOn fs fr d → 1 ≤ i
+  positive i m = omega (arith, asc-above j (handedOn fs fr d) (s .makes .asc-hands d here) m)
+
+  makes : Makes j (handedOn fs fr) (d ∷ next .rest) (held turn count x y) (s .whole)
+  makes = rw (next .is) at (s .makes)
+
+  -- what d hands on
+  module _ (more : List ℕ) (e : more ≡ handedOn fs fr d) where
+    new-row : (i : ℕ) → i ∈ more → i ∈ s .whole
+    new-row i m = s .makes .hands-in d i here (rw e at m)
+
+    pub markable : Markable n more w
+    markable = record { most = λ i m. s .begun .most i (new-row i m); long = rw (s .long-w) (s .begun .room-work) }
+
+    pub roomy : Roomy turn count more x y
+    roomy =
+        let a = makes-few (s .begun .most) (s .makes) in
+        let b = makes-few (s .begun .most) (makes-join makes) in
+        let k = s .size in
+        let rx = s .begun .room-x in
+        let ry = s .begun .room-y in
+        let lx = s .long-x in
+        let ly = s .long-y in
+        record { held-x = omega arith; held-y = omega arith; joined-x = rw e (omega arith); joined-y = rw e (omega arith) }
+
+    -- all its rows are marked
+    pub passes-over : true ≡ every (isMarked n j w) more → State n j c len fs fr w₀ x₀ y₀ w x y (getD w (n + d) 0) turn count
+    passes-over q =
+        record {
+          children = s .children;
+          whole = s .whole;
+          begun = s .begun;
+          left = next .rest;
+          left-in = λ k m. s .left-in k (rw (next .is) (List·Memᴰ·tail m));
+          siblings = next .siblings;
+          makes = makes-skip makes (λ i m. covered-in n j more w (held turn count x y) (sym q) (s .sound) i (positive i m) (rw e m));
+          size = s .size;
+          sound = s .sound;
+          turns = s .turns;
+          changed = s .changed;
+          long-w = s .long-w;
+          long-x = s .long-x;
+          long-y = s .long-y;
+        }
+
+    change : (w′ : List ℕ) → w′ ≡ marked n j more w → Changed n j w w′
+    change w′ f = rw f (changed-marked n j more w (λ i m. positive i (rw e at m)))
+
+    next-link : (w′ : List ℕ) → w′ ≡ marked n j more w → getD w′ (n + d) 0 ≡ getD w (n + d) 0
+    next-link w′ f = change w′ f .links (n + d) (omega (arith, next .most))
+
+    pub falls-marked : (w′ : List ℕ) → w′ ≡ marked n j more w → getD w′ (n + d) 0 < d
+    falls-marked w′ f = rw (next-link w′ f) falls
+
+    -- it is joined and its rows are marked
+    pub joins : (x′ y′ w′ : List ℕ) (count′ : ℕ)
+        → (count′ ≡ length (merge (held turn count x y) more)) × (held (1 - turn) count′ x′ y′ ≡ merge (held turn count x y) more)
+        → w′ ≡ marked n j more w → length x′ ≡ length x → length y′ ≡ length y → length w′ ≡ length w
+        → State n j c len fs fr w₀ x₀ y₀ w′ x′ y′ (getD w′ (n + d) 0) (1 - turn) count′
+    joins x′ y′ w′ count′ q f lx ly lw =
+        record {
+          children = s .children;
+          whole = s .whole;
+          begun = s .begun;
+          left = next .rest;
+          left-in = λ k m. s .left-in k (rw (next .is) (List·Memᴰ·tail m));
+          siblings = rw (next-link w′ f) (siblings-ext w′ (next .siblings) (change w′ f) lw);
+          makes = rw (q .1, e) (makes-join makes);
+          size = ap length (q .1) ∙ sym (q .0);
+          sound = rw (q .1, f) (marks-sound n j more w (held turn count x y) (merge (held turn count x y) more) (s .sound)
+              (λ i m. merge-left (held turn count x y) more m) (λ i m. merge-right (held turn count x y) more m));
+          turns = omega arith;
+          changed = changed-more w′ (s .changed) (change w′ f);
+          long-w = lw ∙ s .long-w;
+          long-x = lx ∙ s .long-x;
+          long-y = ly ∙ s .long-y;
+        }
