@@ -1,25 +1,20 @@
 -- The loop over a column's children, from its first to its last turn: what is held and the children left make the whole list, what is marked is held,
 -- and only marks change.
 -- Assumes nothing.
-use Prim.Native.Nat.{ℕ, _+_, _-_, _<_, _≤_}
+use Prim.Native.Nat.{ℕ, _-_, _≤_}
 use mathlib.Core.Path.{_≡_, refl, sym, ap, _∙_}
-use mathlib.Core.Logic.{_≢_}
-use mathlib.Core.Bool.{true}
-use mathlib.Core.List.{List, _∷_, List·Memᴰ·head, List·Memᴰ·tail}
+use mathlib.Core.List.{List}
 use native.Mathlib.Omega.{arith}
-use lib.ListN.{length, getD, take}
+use lib.ListN.{length, take}
 use lib.Seq.{length-take-le}
-use Rattle.papers.specs.Lists.{_∈_, merge, every}
-use Rattle.list_laws.proofs.Ascending.{asc-above}
-use Rattle.list_laws.proofs.Merges.{merge-left, merge-right}
+use Rattle.papers.specs.Lists.{_∈_}
 use Rattle.column_laws.proofs.Chains.{chain-end, chain-only}
-use Rattle.child_lists.specs.Marks.{marked, isMarked, Markable, Sound, Changed}
-use Rattle.child_lists.specs.Buffers.{held, Roomy}
-use Rattle.child_lists.specs.Children.{handedOn, Child, Siblings, Makes, Begun, Joining, Joined}
-use Rattle.child_lists.proofs.Marks.{marks-sound, changed-none, changed-more, changed-marked, covered-in}
+use Rattle.child_lists.specs.Marks.{marked, Sound, Changed}
+use Rattle.child_lists.specs.Buffers.{held}
+use Rattle.child_lists.specs.Children.{handedOn, Siblings, Makes, Begun, Joining, Joined}
+use Rattle.child_lists.proofs.Marks.{changed-none}
 use Rattle.child_lists.proofs.Buffers.{first-buffer}
-use Rattle.child_lists.proofs.Picking.{Further, further, siblings-ext}
-use Rattle.child_lists.proofs.Making.{makes-join, makes-skip, makes-end, makes-only, makes-few}
+use Rattle.child_lists.proofs.Making.{makes-end, makes-only}
 
 -- the children from d on are left
 pub record State (n j c len : ℕ) (fs fr w₀ x₀ y₀ w x y : List ℕ) (d turn count : ℕ) : Type 0 where

@@ -6,19 +6,16 @@ use mathlib.Core.Logic.{_≢_}
 use mathlib.Core.Bool.{true}
 use mathlib.Core.List.{List, _∷_, List·Memᴰ·head, List·Memᴰ·tail}
 use native.Mathlib.Omega.{arith}
-use lib.ListN.{length, getD, take}
-use lib.Seq.{length-take-le}
+use lib.ListN.{length, getD}
 use Rattle.papers.specs.Lists.{_∈_, merge, every}
 use Rattle.list_laws.proofs.Ascending.{asc-above}
 use Rattle.list_laws.proofs.Merges.{merge-left, merge-right}
-use Rattle.column_laws.proofs.Chains.{chain-end, chain-only}
-use Rattle.child_lists.specs.Marks.{marked, isMarked, Markable, Sound, Changed}
+use Rattle.child_lists.specs.Marks.{marked, isMarked, Markable, Changed}
 use Rattle.child_lists.specs.Buffers.{held, Roomy}
-use Rattle.child_lists.specs.Children.{handedOn, Child, Siblings, Makes, Begun, Joining, Joined}
-use Rattle.child_lists.proofs.Marks.{marks-sound, changed-none, changed-more, changed-marked, covered-in}
-use Rattle.child_lists.proofs.Buffers.{first-buffer}
+use Rattle.child_lists.specs.Children.{handedOn, Child, Makes}
+use Rattle.child_lists.proofs.Marks.{marks-sound, changed-more, changed-marked, covered-in}
 use Rattle.child_lists.proofs.Picking.{Further, further, siblings-ext}
-use Rattle.child_lists.proofs.Making.{makes-join, makes-skip, makes-end, makes-only, makes-few}
+use Rattle.child_lists.proofs.Making.{makes-join, makes-skip, makes-few}
 use Rattle.child_lists.proofs.Joining.{State}
 
 module _ {n j c len : ℕ} {fs fr w₀ x₀ y₀ w x y : List ℕ} {d turn count : ℕ} (s : State n j c len fs fr w₀ x₀ y₀ w x y d turn count) (h : d ≢ 0) where

@@ -3,31 +3,28 @@
 -- Assumes nothing.
 use Prim.Native.Nat.{ℕ, suc, _+_, _<_, _≤_}
 use mathlib.Core.Path.{_≡_, refl, sym, ap, _∙_}
-use mathlib.Core.Logic.{_≢_}
 use mathlib.Core.List.{List, _++_, map, map-map, map-id}
 use native.Mathlib.Omega.{arith}
 use lib.ListN.{length, take, drop, length-map}
 use lib.Seq.{sets-eq}
-use Rattle.papers.specs.declared.Answer.{Answer}
 use Rattle.papers.specs.Lists.{flat, zeros, thenZeros}
 use Rattle.papers.specs.Job.{Job, pattern, Below}
 use Rattle.papers.specs.Fill.{R}
 use Rattle.papers.specs.Order.{popsOf, orderOf}
 use Rattle.papers.specs.Key.{listsOf}
 use Rattle.papers.specs.Plan.{planOf}
-use Rattle.papers.specs.Refusals.{answer, passed, first, Outcome, jobTests, Lent, allZero, holding}
-use Rattle.papers.specs.Analysis.{holdingPlan, analysed}
-use Rattle.list_laws.proofs.Stores.{sets-zeros, length-then-zeros, take-then-zeros, length-starts}
+use Rattle.papers.specs.Refusals.{answer, passed, first, jobTests, Lent, holding}
+use Rattle.papers.specs.Analysis.{holdingPlan}
+use Rattle.list_laws.proofs.Stores.{sets-zeros, take-then-zeros, length-starts}
 use Rattle.job_laws.proofs.Passed.{Passed, passes-iff, passed-below}
 use Rattle.job_laws.proofs.Laid.{length-lists}
 use Rattle.column_laws.proofs.Families.{length-grows}
 use Rattle.order_laws.proofs.Patterns.{order-length}
-use Rattle.order.specs.Given.{Given}
 use Rattle.structure.specs.Listed.{Listed}
 use Rattle.lent.specs.Six.{six, LongEnough}
 use Rattle.lent.proofs.Sixes.{sixes}
 use Rattle.lent_lists.specs.Listing.{Listing}
-use Rattle.lent.proofs.Alike.{zero-long, Alike, zeros-alike}
+use Rattle.lent.proofs.Alike.{zero-long, Alike}
 use Rattle.lent_order.specs.Ordering.{Orderable, Ordering}
 use Rattle.stored_tree.proofs.Ties.{parentsOf, startsOf, length-parents, same-order, same-pops, same-peak, rowed}
 use Rattle.lent_plan.specs.Made.{Made}

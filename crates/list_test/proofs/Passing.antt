@@ -7,12 +7,11 @@ use mathlib.Core.Bool.{Bool, true, false, not}
 use mathlib.Core.List.{List, map}
 use native.Mathlib.Omega.{arith}
 use native.Mathlib.Numerals.{add-one}
-use lib.ListN.{length, getD, set, length-map, length-replicate}
+use lib.ListN.{length, set, length-map}
 use lib.Seq.{sets, length-sets}
 use Rattle.papers.specs.Bounds.{workLength}
-use Rattle.papers.specs.Lists.{same, least, head0, upTo, flat, zeros}
+use Rattle.papers.specs.Lists.{same, least, head0, upTo, zeros}
 use Rattle.papers.specs.Job.{Pattern, Below, columnOf}
-use Rattle.papers.specs.Key.{listsOf}
 use Rattle.papers.specs.Fill.{R}
 use Rattle.papers.specs.Tree.{parent}
 use Rattle.list_laws.proofs.Leasts.{least-none, least-here, least-same}
@@ -20,12 +19,9 @@ use Rattle.list_laws.proofs.Members.{same-true}
 use Rattle.list_laws.proofs.Stores.{sets-more}
 use Rattle.list_laws.proofs.UpTo.{length-upTo}
 use Rattle.fill_laws.proofs.Parents.{parent-within}
-use Rattle.job_laws.proofs.Laid.{lists-none}
-use Rattle.column_laws.proofs.Places.{zero-at}
 use Rattle.column_laws.proofs.Families.{map-upTo}
 use Rattle.child_lists.specs.Marks.{Changed}
 use Rattle.column_list.specs.Stored.{Stored}
-use Rattle.column_list.proofs.Hung.{hung-none}
 use Rattle.structure.specs.Hanging.{hanging, Hangable}
 use Rattle.structure.proofs.Storing.{parent-is, stored-none, stored-on}
 use Rattle.list_test.specs.Lists.{PlanLists, wrong, FirstWrong}

@@ -85,49 +85,38 @@ module _ (job : Job) (lent : Lent) (p : first analysisTests (record { job = job;
   -- ---- the slices that hold it
 
   module _ {after : Lent} (h : after ≡ holdingPlan job (planOf job) lent) where
-    order-holds : after .order ≡ thenZeros (columnsIn (planOf job .steps)) (lent .order)
+    hold : (after .order ≡ thenZeros (columnsIn (planOf job .steps)) (lent .order)) × (after .pops ≡ thenZeros (popsIn (planOf job .steps)) (lent .pops))
+        × (after .factorStarts ≡ thenZeros (startsFrom 0 (planOf job .lists)) (lent .factorStarts)) × (after .factorRows ≡ thenZeros (flat (planOf job .lists)) (lent .factorRows))
     unfolding holdingPlan holding
-    order-holds = ap (λ (l : Lent). l .order) h
-
-    pops-hold : after .pops ≡ thenZeros (popsIn (planOf job .steps)) (lent .pops)
-    unfolding holdingPlan holding
-    pops-hold = ap (λ (l : Lent). l .pops) h
-
-    starts-hold : after .factorStarts ≡ thenZeros (startsFrom 0 (planOf job .lists)) (lent .factorStarts)
-    unfolding holdingPlan holding
-    starts-hold = ap (λ (l : Lent). l .factorStarts) h
-
-    rows-hold : after .factorRows ≡ thenZeros (flat (planOf job .lists)) (lent .factorRows)
-    unfolding holdingPlan holding
-    rows-hold = ap (λ (l : Lent). l .factorRows) h
+    hold = (ap (λ (l : Lent). l .order) h, ap (λ (l : Lent). l .pops) h, ap (λ (l : Lent). l .factorStarts) h, ap (λ (l : Lent). l .factorRows) h)
 
     -- how many rows they are stands behind the last start
     last-is : getD (after .factorStarts) (job .n) 0 ≡ length (flat (planOf job .lists))
     unfolding thenZeros
-    last-is = rw (starts-hold, List·getD-append (startsFrom 0 (planOf job .lists)) _ 0 (job .n) (omega (arith, length-begins))) begins-last
+    last-is = rw (hold .2, List·getD-append (startsFrom 0 (planOf job .lists)) _ 0 (job .n) (omega (arith, length-begins))) begins-last
 
     -- their fronts are the parts of the plan
     order-front : take (job .n) (after .order) ≡ columnsIn (planOf job .steps)
-    order-front = rw order-holds (front _ _ _ length-columns)
+    order-front = rw (hold .0) (front _ _ _ length-columns)
 
     pops-front : take (job .n) (after .pops) ≡ popsIn (planOf job .steps)
-    pops-front = rw pops-hold (front _ _ _ length-pops)
+    pops-front = rw (hold .1) (front _ _ _ length-pops)
 
     starts-front : take (job .n + 1) (after .factorStarts) ≡ startsFrom 0 (planOf job .lists)
-    starts-front = rw starts-hold (front _ _ _ length-begins)
+    starts-front = rw (hold .2) (front _ _ _ length-begins)
 
     rows-front : take (getD (after .factorStarts) (job .n) 0) (after .factorRows) ≡ flat (planOf job .lists)
-    rows-front = rw (last-is, rows-hold) (front _ _ _ refl)
+    rows-front = rw (last-is, hold .3) (front _ _ _ refl)
 
     -- so the plan of the job lies in front of the slices
     in-front : InFront job (after .order) (after .pops) (after .factorStarts) (after .factorRows) (planOf job .peak)
     in-front =
         let tests = lists-iff (job .n) (startsFrom 0 (planOf job .lists)) (flat (planOf job .lists)) .1 factor in
         record {
-          order-long = omega (arith, ap length order-holds, length-then-zeros (columnsIn (planOf job .steps)) (lent .order) (omega (arith, length-columns, long .order)), long .order);
-          pops-long = omega (arith, ap length pops-hold, length-then-zeros (popsIn (planOf job .steps)) (lent .pops) (omega (arith, length-pops, long .pops)), long .pops);
-          starts-long = omega (arith, ap length starts-hold, length-then-zeros (startsFrom 0 (planOf job .lists)) (lent .factorStarts) (omega (arith, length-begins, long .starts)), long .starts);
-          rows-long = omega (arith, last-is, ap length rows-hold, length-then-zeros (flat (planOf job .lists)) (lent .factorRows) (long .rows), long .rows);
+          order-long = omega (arith, ap length (hold .0), length-then-zeros (columnsIn (planOf job .steps)) (lent .order) (omega (arith, length-columns, long .order)), long .order);
+          pops-long = omega (arith, ap length (hold .1), length-then-zeros (popsIn (planOf job .steps)) (lent .pops) (omega (arith, length-pops, long .pops)), long .pops);
+          starts-long = omega (arith, ap length (hold .2), length-then-zeros (startsFrom 0 (planOf job .lists)) (lent .factorStarts) (omega (arith, length-begins, long .starts)), long .starts);
+          rows-long = omega (arith, last-is, ap length (hold .3), length-then-zeros (flat (planOf job .lists)) (lent .factorRows) (long .rows), long .rows);
           writable =
               rw (order-front, pops-front, starts-front, rows-front)
               (record { passes = valid; all-steps = length-columns; all-pops = length-pops; starts-pass = tests .0; rows-pass = tests .1; declared = fit .peak });

@@ -5,7 +5,7 @@ use mathlib.Core.Path.{_≡_, refl, sym, ap, _∙_}
 use mathlib.Core.List.{List, [], _∷_, map}
 use native.Mathlib.Omega.{arith}
 use native.Mathlib.Numerals.{add-one}
-use lib.ListN.{length, getD, set, length-set, length-map, length-replicate}
+use lib.ListN.{length, getD, set, length-set, length-map}
 use lib.Seq.{sets, length-sets, getD-set-same, set-set}
 use Rattle.papers.specs.Lists.{head0, upTo, flat, startsFrom, zeros}
 use Rattle.papers.specs.Job.{Pattern, Below}
@@ -17,11 +17,9 @@ use Rattle.list_laws.proofs.UpTo.{length-upTo}
 use Rattle.list_laws.proofs.Stores.{sets-append, length-starts, starts-again}
 use Rattle.job_laws.proofs.Laid.{length-lists, lists-none}
 use Rattle.fill_laws.proofs.Fill.{R-asc, R-range}
-use Rattle.column_laws.proofs.Places.{zero-at}
 use Rattle.column_laws.proofs.Families.{map-upTo, flat-more, length-more, starts-next}
 use Rattle.child_lists.specs.Buffers.{held}
 use Rattle.column_list.specs.Stored.{rowsTo, Stored, Next, Gathers}
-use Rattle.column_list.proofs.Hung.{hung-none}
 use Rattle.structure.specs.Listed.{Storable, Stores, Lengths, Listed}
 use Rattle.structure.proofs.Storing.{parent-is, stored-none, lacks, storable, stored-on}
 

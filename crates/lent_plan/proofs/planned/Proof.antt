@@ -4,7 +4,6 @@ use mathlib.Core.Path.{_∙_}
 use native.Mathlib.Omega.{arith}
 use Rattle.column_laws.proofs.Testing.{tested}
 use Rattle.lent_plan.proofs.Plans.{made-rows, orderable, made-peak, made-done}
-use borrow.Author.Needs.{needs}
 use Rattle.lent_plan.proofs.planned.Statement.{statement}
 use Rattle.lent_plan.proofs.planned.Tie as tie
 
