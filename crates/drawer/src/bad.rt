@@ -1,13 +1,362 @@
-// Bad jobs, with their refusals worked out by hand. Each leaves all lent slices untouched. Starts and rows are the digits of a number, so many from its end.
-use super::call::Lengths;
-use super::call::wrong_in_call;
-use super::sheet::narrow;
-use super::sheet::widen;
-use super::sheet::write_digits;
-use super::tally;
-use super::tally::Tally;
+// Bad jobs, with their refusals worked out by hand. Each leaves all lent slices untouched.
+use analysis_call::Lengths;
+use analysis_call::wrong_in_call;
+use elimination::grid::less;
+use elimination::sheet;
+use elimination::sheet::Sheet;
+use elimination::sheet::set;
 use papers::Answer;
 use papers::JobHead;
+use tallies::Tally;
+
+// The jobs, each with n, mark and limit; the starts and the rows, as the digits of a number and so many from its end; the places lent of every slice; and
+// the number and the place of the refusal.
+// 1 to 3: too many columns, no such mark, too great a limit; the first of several decides. 4 at place 0 if the starts are not n + 1.
+// 4: the first start is not 0, at place 0; a start falls, at the lowest such column; the last is not the row count, at n.
+// 5: a row not above its column, or over n. 6: a row not above the one before it; a row with both is 5, and an earlier column comes first.
+// 7 comes after the tests of the job, and before those of the rows needed and of the peak.
+const JOBS: [usize; 320] = [
+    4097,
+    0,
+    10,
+    11,
+    3,
+    2,
+    1,
+    50,
+    1,
+    0, //
+    18446744073709551615,
+    3,
+    1099511627777,
+    11,
+    3,
+    2,
+    1,
+    50,
+    1,
+    0, //
+    2,
+    3,
+    10,
+    11,
+    3,
+    2,
+    1,
+    50,
+    2,
+    0, //
+    4096,
+    4294967296,
+    1099511627777,
+    11,
+    3,
+    2,
+    1,
+    50,
+    2,
+    0, //
+    2,
+    0,
+    1099511627777,
+    11,
+    3,
+    2,
+    1,
+    50,
+    3,
+    0, //
+    3,
+    2,
+    18446744073709551615,
+    11,
+    3,
+    2,
+    1,
+    50,
+    3,
+    0, //
+    1,
+    0,
+    10,
+    11,
+    3,
+    2,
+    1,
+    50,
+    4,
+    0, //
+    3,
+    0,
+    10,
+    11,
+    3,
+    2,
+    1,
+    50,
+    4,
+    0, //
+    4096,
+    0,
+    10,
+    11,
+    3,
+    2,
+    1,
+    50,
+    4,
+    0, //
+    2,
+    1,
+    0,
+    111,
+    3,
+    2,
+    1,
+    50,
+    4,
+    0, //
+    0,
+    1,
+    0,
+    0,
+    0,
+    0,
+    0,
+    50,
+    4,
+    0, //
+    0,
+    1,
+    0,
+    1,
+    1,
+    2,
+    1,
+    50,
+    4,
+    0, //
+    2,
+    1,
+    0,
+    21,
+    3,
+    2,
+    1,
+    50,
+    4,
+    2, //
+    4,
+    1,
+    0,
+    1213,
+    5,
+    234,
+    3,
+    50,
+    4,
+    3, //
+    4,
+    1,
+    0,
+    3213,
+    5,
+    234,
+    3,
+    50,
+    4,
+    2, //
+    3,
+    1,
+    0,
+    999,
+    4,
+    22,
+    2,
+    50,
+    4,
+    3, //
+    0,
+    1,
+    0,
+    0,
+    1,
+    2,
+    1,
+    50,
+    4,
+    0, //
+    2,
+    1,
+    0,
+    11,
+    3,
+    22,
+    2,
+    50,
+    4,
+    2, //
+    3,
+    1,
+    0,
+    111,
+    4,
+    1,
+    1,
+    50,
+    5,
+    1, //
+    3,
+    1,
+    0,
+    111,
+    4,
+    0,
+    1,
+    50,
+    5,
+    1, //
+    3,
+    1,
+    0,
+    111,
+    4,
+    9,
+    1,
+    50,
+    5,
+    1, //
+    3,
+    1,
+    0,
+    1,
+    4,
+    3,
+    1,
+    50,
+    5,
+    3, //
+    3,
+    1,
+    0,
+    1,
+    4,
+    4,
+    1,
+    50,
+    5,
+    3, //
+    4,
+    1,
+    0,
+    2333,
+    5,
+    323,
+    3,
+    50,
+    6,
+    1, //
+    4,
+    1,
+    0,
+    2333,
+    5,
+    441,
+    3,
+    50,
+    6,
+    1, //
+    4,
+    1,
+    0,
+    2333,
+    5,
+    313,
+    3,
+    50,
+    5,
+    1, //
+    4,
+    1,
+    0,
+    1333,
+    5,
+    243,
+    3,
+    50,
+    6,
+    2, //
+    4,
+    1,
+    0,
+    1333,
+    5,
+    144,
+    3,
+    50,
+    5,
+    1, //
+    2,
+    1,
+    0,
+    11,
+    3,
+    2,
+    1,
+    0,
+    7,
+    0, //
+    0,
+    1,
+    0,
+    0,
+    1,
+    0,
+    0,
+    0,
+    7,
+    0, //
+    2,
+    1,
+    0,
+    11,
+    3,
+    22,
+    2,
+    0,
+    4,
+    2, //
+    2,
+    1,
+    0,
+    22,
+    3,
+    22,
+    2,
+    0,
+    6,
+    1,
+];
+
+fn part(job: usize, k: usize) -> usize {
+    JOBS[job % 32 * 10 + k % 10]
+}
+
+fn head(job: usize) -> JobHead {
+    JobHead {
+        n: part(job, 0) as u64,
+        mark: part(job, 1) as u64,
+        limit: part(job, 2) as u64,
+    }
+}
+
+fn refusal(job: usize) -> Answer {
+    Answer {
+        number: part(job, 8) as u64,
+        place: part(job, 9) as u64,
+        count: 0,
+    }
+}
 
 // The same number of places for every slice.
 fn lengths(places: usize) -> Lengths {
@@ -21,122 +370,36 @@ fn lengths(places: usize) -> Lengths {
     }
 }
 
-// Calls the analysis of a bad job with lists of `columns` starts and `given` rows. The sheet has the job; there is no result.
-fn call(
-    tally: &mut Tally,
-    head: JobHead,
-    starts: usize,
-    columns: usize,
-    rows: usize,
-    given: usize,
-    places: usize,
-    right: Answer,
-) {
-    let mut sheet = [0usize; 1800];
-    write_digits(&mut sheet, 3, starts, columns);
-    write_digits(&mut sheet, 4, rows, given);
-    let s = widen(&sheet);
-    let r = narrow(&sheet);
-    let a = columns % 26;
-    let b = given % 301;
-    let wrong = wrong_in_call(head, &s[..a], &r[..b], lengths(places), &sheet, right);
-    tally::tell(tally, right.number, wrong, starts, rows, places);
-}
-
-// A refusal that counts nothing.
-fn refusal(number: u64, place: u64) -> Answer {
-    Answer {
-        number,
-        place,
-        count: 0,
+// The last `count` digits of a number, as one part of a sheet.
+fn write_digits(sheet: &mut Sheet, part: usize, number: usize, count: usize) {
+    let mut rest = number;
+    for k in 0..count {
+        set(sheet, part, less(count, k + 1), rest % 10);
+        rest = rest / 10;
     }
 }
 
-// A job whose head is at fault: starts 0 1 1 and row 2 are right for two columns.
-fn head(tally: &mut Tally, n: u64, mark: u64, limit: u64, number: u64) {
-    let head = JobHead { n, mark, limit };
-    call(tally, head, 11, 3, 2, 1, 50, refusal(number, 0));
+// A job's lists, into a sheet. There is no result.
+fn write_job(sheet: &mut Sheet, job: usize) {
+    write_digits(sheet, sheet::STARTS, part(job, 3), part(job, 4));
+    write_digits(sheet, sheet::ROWS, part(job, 5), part(job, 6));
 }
 
-// A job of n columns whose lists are at fault: its starts and how many they are, its rows and how many, the places lent of every slice, and the
-// number and the place of the refusal.
-fn lists(
-    tally: &mut Tally,
-    n: u64,
-    starts: usize,
-    columns: usize,
-    rows: usize,
-    given: usize,
-    places: usize,
-    number: u64,
-    place: u64,
-) {
-    let mark = 1;
-    let limit = 0;
-    let head = JobHead { n, mark, limit };
-    call(
-        tally,
-        head,
-        starts,
-        columns,
-        rows,
-        given,
-        places,
-        refusal(number, place),
-    );
-}
-
-// 1 to 3: too many columns, no such mark, too great a limit; the first of several decides. 4 at place 0 if the starts are not n + 1.
-fn heads(tally: &mut Tally) {
-    head(tally, 4097, 0, 10, 1);
-    head(tally, 18446744073709551615, 3, 1099511627777, 1);
-    head(tally, 2, 3, 10, 2);
-    head(tally, 4096, 4294967296, 1099511627777, 2);
-    head(tally, 2, 0, 1099511627777, 3);
-    head(tally, 3, 2, 18446744073709551615, 3);
-    head(tally, 1, 0, 10, 4);
-    head(tally, 3, 0, 10, 4);
-    head(tally, 4096, 0, 10, 4);
-}
-
-// 4: the first start is not 0, at place 0; a start falls, at the lowest such column; the last is not the row count, at n.
-fn starts(tally: &mut Tally) {
-    lists(tally, 2, 111, 3, 2, 1, 50, 4, 0);
-    lists(tally, 0, 0, 0, 0, 0, 50, 4, 0);
-    lists(tally, 0, 1, 1, 2, 1, 50, 4, 0);
-    lists(tally, 2, 21, 3, 2, 1, 50, 4, 2);
-    lists(tally, 4, 1213, 5, 234, 3, 50, 4, 3);
-    lists(tally, 4, 3213, 5, 234, 3, 50, 4, 2);
-    lists(tally, 3, 999, 4, 22, 2, 50, 4, 3);
-    lists(tally, 0, 0, 1, 2, 1, 50, 4, 0);
-    lists(tally, 2, 11, 3, 22, 2, 50, 4, 2);
-}
-
-// 5: a row not above its column, or over n. 6: a row not above the one before it; a row with both is 5, and an earlier column comes first.
-fn rows(tally: &mut Tally) {
-    lists(tally, 3, 111, 4, 1, 1, 50, 5, 1);
-    lists(tally, 3, 111, 4, 0, 1, 50, 5, 1);
-    lists(tally, 3, 111, 4, 9, 1, 50, 5, 1);
-    lists(tally, 3, 1, 4, 3, 1, 50, 5, 3);
-    lists(tally, 3, 1, 4, 4, 1, 50, 5, 3);
-    lists(tally, 4, 2333, 5, 323, 3, 50, 6, 1);
-    lists(tally, 4, 2333, 5, 441, 3, 50, 6, 1);
-    lists(tally, 4, 2333, 5, 313, 3, 50, 5, 1);
-    lists(tally, 4, 1333, 5, 243, 3, 50, 6, 2);
-    lists(tally, 4, 1333, 5, 144, 3, 50, 5, 1);
-}
-
-// 7 comes after the tests of the job, and before those of the rows needed and of the peak.
-fn slices(tally: &mut Tally) {
-    lists(tally, 2, 11, 3, 2, 1, 0, 7, 0);
-    lists(tally, 0, 0, 1, 0, 0, 0, 7, 0);
-    lists(tally, 2, 11, 3, 22, 2, 0, 4, 2);
-    lists(tally, 2, 22, 3, 22, 2, 0, 6, 1);
+fn hold(tally: &mut Tally, job: usize) {
+    let mut sheet = [0usize; 10200];
+    write_job(&mut sheet, job);
+    let starts = comparison::longs(&sheet, sheet::STARTS);
+    let rows = comparison::words(&sheet, sheet::ROWS);
+    let a = part(job, 4) % 301;
+    let b = part(job, 6) % 301;
+    let lent = lengths(part(job, 7));
+    let right = refusal(job);
+    let wrong = wrong_in_call(head(job), &starts[..a], &rows[..b], lent, &sheet, right);
+    tallies::tell(tally, right.number, wrong, 0, job as u64);
 }
 
 pub fn all(tally: &mut Tally) {
-    heads(tally);
-    starts(tally);
-    rows(tally);
-    slices(tally);
+    for job in 0..32 {
+        hold(tally, job);
+    }
 }

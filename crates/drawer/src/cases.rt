@@ -1,91 +1,49 @@
-// A pattern under a mark: what the elimination says of it, and the calls that are held against that.
-use super::call::Lengths;
-use super::call::wrong_in_call;
-use super::sheet::Sheet;
-use super::sheet::narrow;
-use super::sheet::widen;
-use super::sheet::write_line;
-use super::sheet::write_rows;
-use super::tally;
-use super::tally::Tally;
+// A pattern under a mark: what the elimination says of it, and the calls that are held against that. All of it is in a sheet: the lists of the fill, the
+// plan, as its room the peak, and in its head the mark and the seed by which the pattern is named.
+use analysis_call::Lengths;
+use analysis_call::wrong_in_call;
+use drawn_lists::shapes;
 use elimination::fill;
 use elimination::grid::Grid;
-use elimination::grid::Line;
 use elimination::grid::add;
 use elimination::grid::less;
 use elimination::orders;
-use elimination::shapes;
+use elimination::sheet;
+use elimination::sheet::Sheet;
+use elimination::sheet::get;
+use elimination::sheet::length;
+use elimination::sheet::set;
 use elimination::stack;
 use papers::Answer;
 use papers::JobHead;
+use tallies::Tally;
+use tallies::count;
 
-// A pattern's size and mark, the factor rows it needs, its peak, and the seed by which it is named.
-pub struct Case {
-    pub n: usize,
-    pub mark: usize,
-    pub rows: usize,
-    pub peak: usize,
-    pub seed: usize,
-}
+// Places in the head of a sheet.
+const MARK: usize = 20;
 
-// The factor starts and rows of a fill, into a sheet. Answers how many rows there are.
-fn write_factor(sheet: &mut Sheet, filled: &Grid, counts: &Line, n: usize) -> usize {
-    let mut starts = [0usize; 25];
-    fill::starts(counts, n, &mut starts);
-    write_line(sheet, 3, &starts, 0);
-    let mut rows = [0usize; 300];
-    let needed = fill::list(filled, &mut rows);
-    write_rows(sheet, &rows);
-    needed
-}
+const SEED: usize = 21;
 
-// The order and the pops under a mark, into a sheet. Answers the peak.
-fn write_order(sheet: &mut Sheet, parents: &Line, counts: &Line, n: usize, mark: usize) -> usize {
-    let mut children = [0usize; 25];
-    fill::children(parents, &mut children);
-    let mut lists = [0usize; 625];
-    orders::order(&mut lists, parents, counts, &children, mark, n);
-    let mut columns = [0usize; 25];
-    let mut pops = [0usize; 25];
-    orders::steps(&lists, &children, &mut columns, &mut pops);
-    write_line(sheet, 1, &columns, 1);
-    write_line(sheet, 2, &pops, 1);
-    stack::peak(&lists, 0, &children, counts)
-}
+// Places of the tally: the factor rows, and the peaks under each mark.
+const ROWS: usize = 10;
 
-// What the elimination says of a pattern under a mark, with all results in a sheet, which has to be zero.
-pub fn work_out(sheet: &mut Sheet, pattern: &Grid, n: usize, mark: usize, seed: usize) -> Case {
+const PEAKS: usize = 11;
+
+// What the elimination says of a pattern under a mark, into a sheet, which has to be zero. Answers the peak.
+pub fn work_out(sheet: &mut Sheet, pattern: &Grid, n: usize, mark: usize) -> usize {
     let mut grid = *pattern;
     fill::eliminate(&mut grid);
-    let mut counts = [0usize; 25];
-    let mut parents = [0usize; 25];
-    fill::columns(&grid, &mut counts, &mut parents);
-    write_line(sheet, 0, &parents, 1);
-    let rows = write_factor(sheet, &grid, &counts, n);
-    let peak = write_order(sheet, &parents, &counts, n, mark);
-    Case {
-        n,
-        mark,
-        rows,
-        peak,
-        seed,
-    }
-}
-
-// The starts and the rows of a pattern itself, into a sheet. Answers how many rows there are.
-fn write_job(sheet: &mut Sheet, pattern: &Grid, n: usize) -> usize {
-    let mut counts = [0usize; 25];
-    let mut parents = [0usize; 25];
-    fill::columns(pattern, &mut counts, &mut parents);
-    write_factor(sheet, pattern, &counts, n)
+    fill::write_lists(sheet, &grid, n);
+    orders::write_plan(sheet, mark);
+    stack::peak(sheet, 0)
 }
 
 // The limits tried: one below the peak, the peak, one above it, 0, and the greatest.
-fn limit(peak: usize, choice: usize) -> u64 {
+fn limit(peak: usize, choice: usize) -> usize {
     match choice % 5 {
-        0 => less(peak, 1) as u64,
-        1 => peak as u64,
-        2 => add(peak, 1) as u64,
+        0 => less(peak, 1),
+        1 => peak,
+        2 => add(peak, 1),
         3 => 0,
         _ => 1099511627776,
     }
@@ -102,27 +60,25 @@ fn rows_length(needed: usize, choice: usize) -> usize {
 }
 
 // A slice's length: its fixed length and up to three more, or one less if the choice is to lend this one short.
-fn length(fixed: usize, seed: usize, choice: usize, short: usize) -> usize {
+fn lent(fixed: usize, seed: usize, choice: usize, short: usize) -> usize {
     if choice == short {
         return less(fixed, 1);
     }
-    add(
-        fixed,
-        shapes::choice(shapes::next(add(seed, add(choice, short))), 4),
-    )
+    let lot = shapes::next(add(seed, add(choice, short)));
+    add(fixed, shapes::choice(lot, 4))
 }
 
 // The lengths of the lent slices at a choice. Below 20 all have their fixed length, from 20 to 24 one does not.
-fn lengths(case: Case, choice: usize) -> Lengths {
-    let n = case.n;
-    let seed = shapes::next(case.seed);
+fn lengths(sheet: &Sheet, choice: usize) -> Lengths {
+    let n = sheet::n(sheet);
+    let seed = shapes::next(get(sheet, sheet::HEAD, SEED));
     Lengths {
-        parents: length(n, seed, choice, 20),
-        order: length(n, seed, choice, 21),
-        pops: length(n, seed, choice, 22),
-        starts: length(add(n, 1), seed, choice, 23),
-        rows: rows_length(case.rows, choice),
-        work: length(add(n % 25 * 8, 8), seed, choice, 24),
+        parents: lent(n, seed, choice, 20),
+        order: lent(n, seed, choice, 21),
+        pops: lent(n, seed, choice, 22),
+        starts: lent(add(n, 1), seed, choice, 23),
+        rows: rows_length(length(sheet, sheet::ROWS), choice),
+        work: lent(n % 25 * 8 + 8, seed, choice, 24),
     }
 }
 
@@ -144,54 +100,60 @@ fn answer(number: u64, count: usize) -> Answer {
 }
 
 // The right answer for a sound job: 7, 8, 9 or done.
-fn right_answer(case: Case, choice: usize) -> Answer {
-    if short(case.n, choice) {
+fn right_answer(sheet: &Sheet, choice: usize) -> Answer {
+    let rows = length(sheet, sheet::ROWS);
+    let peak = get(sheet, sheet::HEAD, sheet::ROOM);
+    if short(sheet::n(sheet), choice) {
         return answer(7, 0);
     }
-    if rows_length(case.rows, choice) < case.rows {
-        return answer(8, case.rows);
+    if rows_length(rows, choice) < rows {
+        return answer(8, rows);
     }
-    if limit(case.peak, choice) < case.peak as u64 {
-        return answer(9, case.peak);
+    if limit(peak, choice) < peak {
+        return answer(9, peak);
     }
-    answer(0, case.peak)
+    answer(0, peak)
 }
 
-// One call with the limit and the lengths of a choice.
-fn hold(tally: &mut Tally, starts: &[u64], rows: &[u32], sheet: &Sheet, case: Case, choice: usize) {
-    let right = right_answer(case, choice);
-    let head = JobHead {
-        n: case.n as u64,
-        mark: case.mark as u64,
-        limit: limit(case.peak, choice),
-    };
-    let wrong = wrong_in_call(head, starts, rows, lengths(case, choice), sheet, right);
-    tally::tell(tally, right.number, wrong, case.seed, case.mark, choice);
+// The head of the job at a choice.
+fn head(sheet: &Sheet, choice: usize) -> JobHead {
+    JobHead {
+        n: sheet::n(sheet) as u64,
+        mark: get(sheet, sheet::HEAD, MARK) as u64,
+        limit: limit(get(sheet, sheet::HEAD, sheet::ROOM), choice) as u64,
+    }
 }
 
-// The calls of every choice.
-fn hold_choices(tally: &mut Tally, starts: &[u64], rows: &[u32], sheet: &Sheet, case: Case) {
+// The calls with the limit and the lengths of every choice.
+fn hold_choices(tally: &mut Tally, starts: &[u64], rows: &[u32], sheet: &Sheet) {
     for choice in 0..25 {
-        hold(tally, starts, rows, sheet, case, choice);
+        let right = right_answer(sheet, choice);
+        let lent = lengths(sheet, choice);
+        let wrong = wrong_in_call(head(sheet, choice), starts, rows, lent, sheet, right);
+        let seed = get(sheet, sheet::HEAD, SEED);
+        tallies::tell(tally, right.number, wrong, seed as u64, choice as u64);
     }
 }
 
-// The calls of a job whose starts and rows are in a sheet of lists.
-fn hold_job(tally: &mut Tally, lists: &Sheet, given: usize, sheet: &Sheet, case: Case) {
-    let starts = widen(lists);
-    let rows = narrow(lists);
-    let a = case.n % 25 + 1;
-    let b = given % 301;
-    hold_choices(tally, &starts[..a], &rows[..b], sheet, case);
+// The calls of the job whose lists are in another sheet.
+fn hold_job(tally: &mut Tally, job: &Sheet, sheet: &Sheet) {
+    let starts = comparison::longs(job, sheet::STARTS);
+    let rows = comparison::words(job, sheet::ROWS);
+    let a = length(job, sheet::STARTS) % 301;
+    let b = length(job, sheet::ROWS) % 301;
+    hold_choices(tally, &starts[..a], &rows[..b], sheet);
 }
 
 // Works a pattern out under a mark and holds the analysis of it to that.
 pub fn hold_pattern(tally: &mut Tally, pattern: &Grid, n: usize, mark: usize, seed: usize) {
-    let mut sheet = [0usize; 1800];
-    let case = work_out(&mut sheet, pattern, n, mark, seed);
-    let mut lists = [0usize; 1800];
-    let given = write_job(&mut lists, pattern, n);
-    hold_job(tally, &lists, given, &sheet, case);
-    tally::count(tally, tally::ROWS, case.rows as u64);
-    tally::count(tally, add(tally::PEAKS, mark % 3), case.peak as u64);
+    let mut sheet = [0usize; 10200];
+    let peak = work_out(&mut sheet, pattern, n, mark);
+    set(&mut sheet, sheet::HEAD, sheet::ROOM, peak);
+    set(&mut sheet, sheet::HEAD, MARK, mark);
+    set(&mut sheet, sheet::HEAD, SEED, seed);
+    let mut job = [0usize; 10200];
+    fill::write_lists(&mut job, pattern, n);
+    hold_job(tally, &job, &sheet);
+    count(tally, ROWS, length(&sheet, sheet::ROWS) as u64);
+    count(tally, add(PEAKS, mark % 3), peak as u64);
 }

@@ -1,16 +1,13 @@
 // Holds the analysis against an elimination apart from it: patterns of up to 24 columns in many shapes, every mark, limits about the peak, factor
 // slices about the rows needed, slices lent too short, the paper's bench pieces, and bad jobs. Number, place, count and every place of the six slices
-// are compared. Prints a tally; a case with anything wrong is named in it.
-mod sheet; // sheet.rt: what lent slices hold before and after a call
-mod call; // call.rt: one call, compared
-mod tally; // tally.rt: what is counted and printed
+// are compared. Prints a tally by right answers; a case with anything wrong is named in it by its seed and its choice of limit and lengths.
 mod cases; // cases.rt: a pattern under a mark
 mod bench; // bench.rt: bench pieces
 mod bad; // bad.rt: bad jobs
 
+use drawn_lists::shapes;
 use elimination::grid::Grid;
-use elimination::shapes;
-use tally::Tally;
+use tallies::Tally;
 
 // Once in how many a random row is put into a pattern: two kinds are random only, the others get a few in later rounds.
 fn odds(kind: usize, round: usize) -> usize {
@@ -40,9 +37,9 @@ fn hold(tally: &mut Tally, seed: usize) {
     let n = seed % 25;
     let mut grid = [0usize; 625];
     draw(&mut grid, n, seed / 25 % 16, seed / 400, seed);
-    cases::hold_pattern(tally, &grid, n, 0, seed);
-    cases::hold_pattern(tally, &grid, n, 1, seed);
-    cases::hold_pattern(tally, &grid, n, 2, seed);
+    for mark in 0..3 {
+        cases::hold_pattern(tally, &grid, n, mark, seed);
+    }
 }
 
 // The patterns of the first seeds.
@@ -53,9 +50,17 @@ fn hold_drawn(tally: &mut Tally, seeds: usize) {
 }
 
 fn main() {
-    let mut tally = [0u64; 16];
+    let mut tally = [0u64; 32];
     bad::all(&mut tally);
     bench::all(&mut tally);
     hold_drawn(&mut tally, 800);
-    tally::print(&tally);
+    tallies::print(
+        &tally,
+        b"cases ^
+done, and refused 1 to 9 @ A B C D E F G H I
+factor rows J
+peaks under mark 0, 1, 2 K L M
+mismatches _
+",
+    );
 }

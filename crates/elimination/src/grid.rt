@@ -1,7 +1,5 @@
-// Grids of 25 by 25 numbers and lines of 25. Places count from 0 and wrap, so every number is a place.
+// Grids of 25 by 25 numbers. Places count from 0 and wrap, so every number is a place.
 pub type Grid = [usize; 625];
-
-pub type Line = [usize; 25];
 
 // What stands in a row and a column of a grid.
 pub fn cell(grid: &Grid, row: usize, column: usize) -> usize {
@@ -10,15 +8,6 @@ pub fn cell(grid: &Grid, row: usize, column: usize) -> usize {
 
 pub fn put(grid: &mut Grid, row: usize, column: usize, value: usize) {
     grid[row % 25 * 25 + column % 25] = value;
-}
-
-// What stands at a place of a line.
-pub fn at(line: &Line, place: usize) -> usize {
-    line[place % 25]
-}
-
-pub fn set(line: &mut Line, place: usize, value: usize) {
-    line[place % 25] = value;
 }
 
 // The sum of two numbers below a million.

@@ -1,11 +1,12 @@
-// The stack of updates, by the rule of the room in use. A line holds the entries of the updates on the stack, the lowest first.
-use super::grid::Grid;
-use super::grid::Line;
+// The stack of updates, by the rule of the room in use: the columns that they come from, the lowest first.
 use super::grid::add;
-use super::grid::at;
-use super::grid::cell;
 use super::grid::less;
-use super::grid::set;
+use super::sheet;
+use super::sheet::Sheet;
+use super::sheet::get;
+use super::sheet::row_count;
+
+pub type Stack = [usize; 32];
 
 // The entries of a lower triangle of r rows: 1 and 2 and so on up to r.
 pub fn triangle(r: usize) -> usize {
@@ -16,48 +17,52 @@ pub fn triangle(r: usize) -> usize {
     entries
 }
 
-// The entries of the updates on a stack.
-fn held(stack: &Line, height: usize) -> usize {
-    let mut entries = 0;
+// The entries of the lowest `height` updates.
+fn entries(sheet: &Sheet, stack: &Stack, height: usize) -> usize {
+    let mut sum = 0;
     for k in 0..height {
-        entries = add(entries, at(stack, k));
+        sum = add(sum, triangle(row_count(sheet, stack[k % 32])));
     }
-    entries
+    sum
 }
 
-// The room in use at a step that takes off `pops` updates and whose front has a top and `rows` rows: the entries held before it, less those of the
-// top update if it takes any off, and those of the front.
-fn in_use(stack: &Line, height: usize, pops: usize, rows: usize) -> usize {
-    let before = held(stack, height);
-    let front = triangle(add(rows, 1));
+// The room in use at a step that takes off `pops` updates for the front of c: the entries held before it, less those of the top update if it takes any
+// off, and those of the front.
+pub fn in_use(sheet: &Sheet, stack: &Stack, height: usize, c: usize, pops: usize) -> usize {
+    let front = triangle(add(row_count(sheet, c), 1));
     if pops == 0 {
-        return add(before, front);
+        return add(entries(sheet, stack, height), front);
     }
-    add(less(before, at(stack, less(height, 1))), front)
+    add(entries(sheet, stack, less(height, 1)), front)
 }
 
-// The step is done: its children's updates are off and its own is on; a root has none. Answers the new height.
-fn step(stack: &mut Line, height: usize, pops: usize, rows: usize) -> usize {
+// The topmost `pops` updates come off and that of c goes on, unless c has no rows. Answers how many there are then.
+pub fn change(sheet: &Sheet, stack: &mut Stack, height: usize, c: usize, pops: usize) -> usize {
     let left = less(height, pops);
-    if rows == 0 {
+    if row_count(sheet, c) == 0 {
         return left;
     }
-    set(stack, left, triangle(rows));
+    stack[left % 32] = c;
     add(left, 1)
 }
 
-// The greatest room in use over the steps of row j of `lists`: the row's first cell has their number, the next ones have their columns.
-pub fn peak(lists: &Grid, j: usize, pops: &Line, counts: &Line) -> usize {
-    let mut stack = [0usize; 25];
+pub fn greater(a: usize, b: usize) -> usize {
+    if a < b {
+        return b;
+    }
+    a
+}
+
+// The greatest room in use over the steps of the subtree of j, of all steps if j is 0. The pops of a step are the children of its column.
+pub fn peak(sheet: &Sheet, j: usize) -> usize {
+    let mut stack = [0usize; 32];
     let mut height = 0;
     let mut greatest = 0;
-    for k in 0..cell(lists, j, 0) {
-        let c = cell(lists, j, k + 1);
-        let room = in_use(&stack, height, at(pops, c), at(counts, c));
-        if greatest < room {
-            greatest = room;
-        }
-        height = step(&mut stack, height, at(pops, c), at(counts, c));
+    for k in 0..get(sheet, sheet::SIZES, j) {
+        let c = get(sheet, sheet::subtree(j), k);
+        let pops = sheet::children(sheet, c);
+        greatest = greater(greatest, in_use(sheet, &stack, height, c, pops));
+        height = change(sheet, &mut stack, height, c, pops);
     }
     greatest
 }

@@ -1,22 +1,21 @@
 // Holds the run against a simulation apart from it, over drawn cases that meet every refusal of a run. Number, place, count and every place of the stack
-// list are compared. Prints a tally; a case with anything wrong is named in it.
-mod tally; // tally.rt: what is counted and printed
+// list are compared. Prints a tally by right answers; a case with anything wrong is named by the seed that it is drawn from, and its right place.
 mod notes; // notes.rt: what else is told of a case
 
-use simulation::case::Case;
-use tally::Tally;
+use elimination::sheet::Sheet;
+use tallies::Tally;
 
-// A case, named by the seed that it is drawn from.
-fn hold(tally: &mut Tally, case: &Case, seed: usize) {
+fn hold(tally: &mut Tally, case: &Sheet, seed: usize) {
     let right = simulation::simulate(case);
-    tally::tell(tally, right, run_call::wrong_in_call(case, right), seed);
+    let wrong = run_call::wrong_in_call(case, right);
+    tallies::tell(tally, right.number, wrong, seed as u64, right.place);
     notes::note(tally, case, right);
 }
 
 fn hold_all(tally: &mut Tally, cases: usize) {
-    let mut case = [0usize; 1800];
     let mut seed = 1;
     for _ in 0..cases {
+        let mut case = [0usize; 10200];
         let after = run_cases::draw_case(&mut case, seed);
         hold(tally, &case, seed);
         seed = after;
@@ -26,5 +25,25 @@ fn hold_all(tally: &mut Tally, cases: usize) {
 fn main() {
     let mut tally = [0u64; 32];
     hold_all(&mut tally, 12000);
-    tally::print(&tally);
+    tallies::print(
+        &tally,
+        b"cases ^
+done: @
+refused 1: A
+refused 4: D
+refused 5: E
+refused 6: F
+refused 7: G
+refused 14: N
+refused 21: U
+refused 22: V
+refused 23: W
+refused 24: X
+done with a column repeated: Y
+refused 22 for an update below the top: Z
+places together [
+counts together ]
+mismatches _
+",
+    );
 }

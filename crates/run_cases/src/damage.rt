@@ -1,29 +1,29 @@
 // One argument of a case changed.
+use drawn_lists::shapes::choice;
+use drawn_lists::shapes::next;
 use elimination::grid::add;
 use elimination::grid::less;
-use elimination::shapes::choice;
-use elimination::shapes::next;
-use simulation::case;
-use simulation::case::Case;
-use simulation::case::get;
-use simulation::case::length;
-use simulation::case::set;
+use elimination::sheet;
+use elimination::sheet::Sheet;
+use elimination::sheet::get;
+use elimination::sheet::length;
+use elimination::sheet::set;
 
 // The part to change: in the head n and the lengths stand.
 fn part_of(lot: usize) -> usize {
     match lot {
-        0 | 1 | 2 => case::HEAD,
-        3 | 4 => case::STARTS,
-        5 | 6 => case::ROWS,
-        7 | 8 => case::COLUMNS,
-        _ => case::POPS,
+        0 | 1 | 2 => sheet::HEAD,
+        3 | 4 => sheet::STARTS,
+        5 | 6 => sheet::ROWS,
+        7 | 8 => sheet::COLUMNS,
+        _ => sheet::POPS,
     }
 }
 
 // The place to change in a part that has so many.
 fn place_of(part: usize, places: usize, seed: usize) -> usize {
-    if part == case::HEAD {
-        return add(case::N, choice(seed, 6));
+    if part == sheet::HEAD {
+        return add(sheet::N, choice(seed, 6));
     }
     choice(seed, places)
 }
@@ -46,26 +46,26 @@ fn other(x: usize, n: usize, lot: usize, seed: usize) -> usize {
 
 // A number that the place can hold: starts and n have 64 bits, lengths go up to 300.
 fn narrow(part: usize, place: usize, x: usize) -> usize {
-    if part == case::STARTS {
+    if part == sheet::STARTS {
         return x;
     }
-    if part != case::HEAD {
+    if part != sheet::HEAD {
         return x % 4294967296;
     }
-    if place == case::N {
+    if place == sheet::N {
         return x;
     }
     x % 301
 }
 
-pub fn damage(case: &mut Case, seed: usize) -> usize {
+pub fn damage(case: &mut Sheet, seed: usize) -> usize {
     let a = next(seed);
     let b = next(a);
     let c = next(b);
     let d = next(c);
     let part = part_of(choice(a, 12));
     let place = place_of(part, length(case, part), b);
-    let value = other(get(case, part, place), case::n(case), choice(c, 12), d);
+    let value = other(get(case, part, place), sheet::n(case), choice(c, 12), d);
     set(case, part, place, narrow(part, place, value));
     d
 }

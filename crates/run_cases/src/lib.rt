@@ -4,58 +4,61 @@
 mod lot; // lot.rt: steps by lot
 mod damage; // damage.rt: an argument changed
 
+use drawn_lists::shapes::choice;
+use drawn_lists::shapes::next;
 use elimination::fill;
 use elimination::grid::add;
 use elimination::grid::less;
-use elimination::shapes::choice;
-use elimination::shapes::next;
-use simulation::case;
-use simulation::case::Case;
-use simulation::case::set;
+use elimination::orders;
+use elimination::sheet;
+use elimination::sheet::Sheet;
+use elimination::sheet::set;
 
 // The greatest room.
 const MOST: usize = 18446744073709551615;
 
-// A number that is right nowhere, at every place.
-fn clear(case: &mut Case) {
-    for place in 0..1800 {
+// A number that is right nowhere, at every place of the arguments; the stack list has none.
+fn clear(case: &mut Sheet) {
+    for place in 0..1500 {
         case[place] = 7000;
     }
 }
 
 // Columns, pops and stack list have n places or a few more.
-fn draw_lengths(case: &mut Case, seed: usize) -> usize {
+fn draw_lengths(case: &mut Sheet, seed: usize) -> usize {
     let mut state = seed;
     for part in 3..6 {
         state = next(state);
-        let length = add(case::n(case), choice(state, 4));
-        set(case, case::HEAD, add(case::N, part), length);
+        let length = add(sheet::n(case), choice(state, 4));
+        sheet::set_length(case, part, length);
     }
     state
 }
 
-// All arguments but the room, which is the greatest.
-fn draw_steps(case: &mut Case, seed: usize) -> usize {
-    let a = next(seed);
-    let n = choice(a, 13);
+// The lists of a grid of n columns.
+fn draw_lists(case: &mut Sheet, n: usize, seed: usize) -> usize {
     let mut grid = [0usize; 625];
-    let mut counts = [0usize; 25];
-    let mut parents = [0usize; 25];
-    let b = drawn_lists::draw_grid(&mut grid, n, a);
-    fill::columns(&grid, &mut counts, &mut parents);
-    drawn_lists::write_lists(case, &grid, &counts, n);
-    set(case, case::HEAD, case::ROOM, MOST);
+    let a = drawn_lists::draw_grid(&mut grid, n, seed);
+    fill::write_lists(case, &grid, n);
+    a
+}
+
+// All arguments but the room, which is the greatest: the steps are those of a plan, or drawn by lot.
+fn draw_steps(case: &mut Sheet, seed: usize) -> usize {
+    let a = next(seed);
+    let b = draw_lists(case, choice(a, 13), a);
+    set(case, sheet::HEAD, sheet::ROOM, MOST);
     let c = next(draw_lengths(case, b));
     let d = next(c);
     if choice(c, 2) == 0 {
-        drawn_lists::write_plan(case, &parents, &counts, n, choice(d, 3));
+        orders::write_plan(case, choice(d, 3));
         return d;
     }
     lot::draw_lot(case, d)
 }
 
 // Half of the cases stay as they are; one argument is changed, or two.
-fn draw_damage(case: &mut Case, seed: usize) -> usize {
+fn draw_damage(case: &mut Sheet, seed: usize) -> usize {
     let a = next(seed);
     let harm = choice(a, 6);
     if harm < 3 {
@@ -82,21 +85,17 @@ fn room_of(needed: usize, lot: usize, seed: usize) -> usize {
 }
 
 // A room about what the steps need.
-fn draw_room(case: &mut Case, seed: usize) -> usize {
+fn draw_room(case: &mut Sheet, seed: usize) -> usize {
     let needed = simulation::simulate(case).count as usize;
     let a = next(seed);
     let b = next(a);
-    set(
-        case,
-        case::HEAD,
-        case::ROOM,
-        room_of(needed, choice(a, 8), b),
-    );
+    let room = room_of(needed, choice(a, 8), b);
+    set(case, sheet::HEAD, sheet::ROOM, room);
     b
 }
 
-// The case of a seed.
-pub fn draw_case(case: &mut Case, seed: usize) -> usize {
+// The case of a seed, into a sheet that is zero.
+pub fn draw_case(case: &mut Sheet, seed: usize) -> usize {
     clear(case);
     let a = draw_steps(case, seed);
     let b = draw_damage(case, a);

@@ -1,12 +1,12 @@
 // Steps by lot.
+use drawn_lists::shapes::choice;
+use drawn_lists::shapes::next;
 use elimination::grid::add;
 use elimination::grid::less;
-use elimination::shapes::choice;
-use elimination::shapes::next;
-use simulation::case;
-use simulation::case::Case;
-use simulation::case::get;
-use simulation::case::set;
+use elimination::sheet;
+use elimination::sheet::Sheet;
+use elimination::sheet::get;
+use elimination::sheet::set;
 
 fn least(a: usize, b: usize) -> usize {
     if a < b {
@@ -25,21 +25,21 @@ fn column(kind: usize, c: usize, n: usize, seed: usize) -> usize {
 }
 
 // Columns, often repeated, and pops below a number.
-fn write_steps(case: &mut Case, n: usize, kind: usize, pops: usize, seed: usize) -> usize {
+fn write_steps(case: &mut Sheet, n: usize, kind: usize, pops: usize, seed: usize) -> usize {
     let mut state = seed;
     let mut c = 1;
     for k in 0..n {
         let a = next(state);
         state = next(a);
         c = column(kind, c, n, a);
-        set(case, case::COLUMNS, k, c);
-        set(case, case::POPS, k, choice(state, pops));
+        set(case, sheet::COLUMNS, k, c);
+        set(case, sheet::POPS, k, choice(state, pops));
     }
     state
 }
 
 // Takes one off the pops of the step that is refused 21, or a number up to the given one. Answers whether there was one.
-fn mend_step(case: &mut Case, upto: u64) -> bool {
+fn mend_step(case: &mut Sheet, upto: u64) -> bool {
     let right = simulation::simulate(case);
     if right.number < 21 {
         return false;
@@ -48,13 +48,13 @@ fn mend_step(case: &mut Case, upto: u64) -> bool {
         return false;
     }
     let step = less(right.place as usize, 1);
-    let pops = get(case, case::POPS, step);
-    set(case, case::POPS, step, less(pops, 1));
+    let pops = get(case, sheet::POPS, step);
+    set(case, sheet::POPS, step, less(pops, 1));
     true
 }
 
 // Mends pops, so many times.
-fn mend(case: &mut Case, upto: u64, times: usize) {
+fn mend(case: &mut Sheet, upto: u64, times: usize) {
     for _ in 0..times {
         if !mend_step(case, upto) {
             return;
@@ -71,10 +71,10 @@ fn mended(lot: usize) -> u64 {
 }
 
 // The columns and the pops of a case. The pops are mended, but for a quarter of the cases.
-pub fn draw_lot(case: &mut Case, seed: usize) -> usize {
+pub fn draw_lot(case: &mut Sheet, seed: usize) -> usize {
     let a = next(seed);
     let b = next(a);
-    let n = case::n(case);
+    let n = sheet::n(case);
     let c = next(write_steps(case, n, choice(a, 3), add(choice(b, 4), 1), b));
     let d = next(c);
     if choice(c, 4) != 0 {

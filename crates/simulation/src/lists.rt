@@ -1,55 +1,38 @@
 // The refusals of the lists: 4, 5 and 6. Number 0 says that there is none.
-use super::case;
-use super::case::Case;
-use super::case::get;
-use super::case::length;
+use super::answer;
+use elimination::grid::add;
 use elimination::grid::less;
+use elimination::sheet;
+use elimination::sheet::Sheet;
+use elimination::sheet::begin;
+use elimination::sheet::get;
+use elimination::sheet::length;
 use papers::Answer;
 
-// A refusal that counts nothing.
-pub fn refusal(number: u64, place: usize) -> Answer {
-    Answer {
-        number,
-        place: place as u64,
-        count: 0,
-    }
+// 4 at place 0: not n + 1 starts, or the first not 0.
+fn bad_starts(case: &Sheet, n: usize) -> bool {
+    length(case, sheet::STARTS) != add(n, 1) || get(case, sheet::STARTS, 0) != 0
 }
 
-// The lowest column whose rows would end before they begin; 0 if there is none.
-fn falling(case: &Case, n: usize) -> usize {
+// 4 at a column: the lowest whose rows would end before they begin; 0 if there is none.
+fn falling(case: &Sheet, n: usize) -> usize {
     for j in 0..n {
-        if get(case, case::STARTS, j + 1) < get(case, case::STARTS, j) {
+        if get(case, sheet::STARTS, j + 1) < get(case, sheet::STARTS, j) {
             return j + 1;
         }
     }
     0
 }
 
-// 4: not n + 1 starts, or the first not 0; a start that falls; a last start that is not the number of rows.
-pub fn starts_answer(case: &Case, n: usize) -> Answer {
-    if length(case, case::STARTS) == 0 {
-        return refusal(4, 0);
-    }
-    if less(length(case, case::STARTS), 1) != n {
-        return refusal(4, 0);
-    }
-    if get(case, case::STARTS, 0) != 0 {
-        return refusal(4, 0);
-    }
-    let j = falling(case, n);
-    if j != 0 {
-        return refusal(4, j);
-    }
-    if get(case, case::STARTS, n) != length(case, case::ROWS) {
-        return refusal(4, n);
-    }
-    refusal(0, 0)
+// 4 at n: the last start is not the number of rows.
+fn bad_last(case: &Sheet, n: usize) -> bool {
+    get(case, sheet::STARTS, n) != length(case, sheet::ROWS)
 }
 
 // The column whose list has the row at a place: the first that ends behind it.
-fn owner(case: &Case, n: usize, place: usize) -> usize {
+fn owner(case: &Sheet, n: usize, place: usize) -> usize {
     for j in 0..n {
-        if place < get(case, case::STARTS, j + 1) {
+        if place < get(case, sheet::STARTS, j + 1) {
             return j + 1;
         }
     }
@@ -57,31 +40,42 @@ fn owner(case: &Case, n: usize, place: usize) -> usize {
 }
 
 // 5: the row at a place is not above its column j, or over n. 6: it is not above the row before it, in the same list. 0: neither.
-fn row_fault(case: &Case, n: usize, place: usize, j: usize) -> u64 {
-    let row = get(case, case::ROWS, place);
-    if row <= j {
+fn row_fault(case: &Sheet, n: usize, place: usize, j: usize) -> u64 {
+    let row = get(case, sheet::ROWS, place);
+    if row <= j || n < row {
         return 5;
     }
-    if n < row {
-        return 5;
-    }
-    if get(case, case::STARTS, less(j, 1)) == place {
+    if begin(case, j) == place {
         return 0;
     }
-    if row <= get(case, case::ROWS, less(place, 1)) {
+    if row <= get(case, sheet::ROWS, less(place, 1)) {
         return 6;
     }
     0
 }
 
 // The first row that is 5 or 6, as the rows are read.
-pub fn rows_answer(case: &Case, n: usize) -> Answer {
-    for place in 0..length(case, case::ROWS) {
+fn rows_answer(case: &Sheet, n: usize) -> Answer {
+    for place in 0..length(case, sheet::ROWS) {
         let j = owner(case, n, place);
         let number = row_fault(case, n, place, j);
         if number != 0 {
-            return refusal(number, j);
+            return answer(number, j, 0);
         }
     }
-    refusal(0, 0)
+    answer(0, 0, 0)
+}
+
+pub fn lists_answer(case: &Sheet, n: usize) -> Answer {
+    if bad_starts(case, n) {
+        return answer(4, 0, 0);
+    }
+    let j = falling(case, n);
+    if j != 0 {
+        return answer(4, j, 0);
+    }
+    if bad_last(case, n) {
+        return answer(4, n, 0);
+    }
+    rows_answer(case, n)
 }

@@ -1,43 +1,48 @@
 // The steps of a run: 14 and 21 to 24.
-use super::case;
-use super::case::Case;
-use super::case::get;
-use super::stack::Stack;
-use super::stack::all_fit;
-use super::stack::change;
-use super::stack::in_use;
+use super::answer;
+use super::fronts::fits;
+use elimination::grid::less;
+use elimination::sheet;
+use elimination::sheet::Sheet;
+use elimination::sheet::get;
+use elimination::stack::Stack;
+use elimination::stack::change;
+use elimination::stack::greater;
+use elimination::stack::in_use;
 use papers::Answer;
 
-// 14, 21 or 22 of a step, the first that holds; 0 if none does.
-fn step_fault(case: &Case, n: usize, stack: &Stack, height: usize, c: usize, pops: usize) -> u64 {
-    if c == 0 {
-        return 14;
+// Whether all rows of the topmost `pops` updates are in the front of c.
+fn all_fit(case: &Sheet, stack: &Stack, height: usize, c: usize, pops: usize) -> bool {
+    for k in less(height, pops)..height {
+        if !fits(case, c, stack[k % 32]) {
+            return false;
+        }
     }
-    if n < c {
+    true
+}
+
+// 14, 21, 22 or 23 of a step that would use so much room, the first that holds; 0 if none does.
+fn step_fault(
+    case: &Sheet,
+    stack: &Stack,
+    height: usize,
+    c: usize,
+    pops: usize,
+    used: usize,
+) -> u64 {
+    if c == 0 || sheet::n(case) < c {
         return 14;
     }
     if height < pops {
         return 21;
     }
-    if all_fit(case, stack, height, c, pops) {
-        return 0;
+    if !all_fit(case, stack, height, c, pops) {
+        return 22;
     }
-    22
-}
-
-fn greater(a: usize, b: usize) -> usize {
-    if a < b {
-        return b;
+    if get(case, sheet::HEAD, sheet::ROOM) < used {
+        return 23;
     }
-    a
-}
-
-fn answer(number: u64, place: usize, greatest: usize) -> Answer {
-    Answer {
-        number,
-        place: place as u64,
-        count: greatest as u64,
-    }
+    0
 }
 
 // 24 if updates are left behind the last step, else done.
@@ -49,20 +54,17 @@ fn last_answer(n: usize, height: usize, greatest: usize) -> Answer {
 }
 
 // The steps one after the other, up to the first that is refused. `greatest` is over the steps before it.
-pub fn steps_answer(case: &Case, n: usize) -> Answer {
+pub fn steps_answer(case: &Sheet, n: usize) -> Answer {
     let mut stack = [0usize; 32];
     let mut height = 0;
     let mut greatest = 0;
     for k in 0..n {
-        let c = get(case, case::COLUMNS, k);
-        let pops = get(case, case::POPS, k);
-        let fault = step_fault(case, n, &stack, height, c, pops);
+        let c = get(case, sheet::COLUMNS, k);
+        let pops = get(case, sheet::POPS, k);
+        let used = in_use(case, &stack, height, c, pops);
+        let fault = step_fault(case, &stack, height, c, pops, used);
         if fault != 0 {
             return answer(fault, k + 1, greatest);
-        }
-        let used = in_use(case, &stack, height, c, pops);
-        if case::room(case) < used {
-            return answer(23, k + 1, greatest);
         }
         greatest = greater(greatest, used);
         height = change(case, &mut stack, height, c, pops);

@@ -1,4 +1,4 @@
--- Every lent part is within its array.
+-- Every part that is lent is within its array.
 -- Assumes nothing.
 use native.Mathlib.Omega.{arith}
 use lib.ListN.{length-take}
@@ -6,23 +6,23 @@ use borrow.Author.Needs.{needs}
 use Rattle.checked_plans.proofs.check.Statement.{statement}
 use Rattle.checked_plans.proofs.check.Tie as tie
 
-starts-of-requires : tie.Need-starts-of-requires
-starts-of-requires c κs = search needs
+longs-requires : tie.Need-longs-requires
+longs-requires c κs = tt
 
-list-of-requires : tie.Need-list-of-requires
-list-of-requires c κs = search needs
+words-requires : tie.Need-words-requires
+words-requires c κs = tt
 
 length-requires : tie.Need-length-requires
-length-requires c κs = search needs
+length-requires c κs = tt
 
 length-requires-2 : tie.Need-length-requires-2
-length-requires-2 c κs = search needs
+length-requires-2 c κs = tt
 
 keyed-requires : tie.Need-keyed-requires
-keyed-requires c κs = search needs
+keyed-requires c κs = tt
 
 head-requires : tie.Need-head-requires
-head-requires c κs = search needs
+head-requires c κs = tt
 
 array-share-prefix-starts : tie.Need-array-share-prefix-starts
 array-share-prefix-starts c = search needs
@@ -43,17 +43,17 @@ slice-aggregate-check-lists-3 : tie.Need-slice-aggregate-check-lists-3
 slice-aggregate-check-lists-3 c = simp length-take (omega arith)
 
 check-lists-requires : tie.Need-check-lists-requires
-check-lists-requires c κs = search needs
+check-lists-requires c κs = tt
 
 returns : tie.Need-returns
-returns c = search needs
+returns c = tt
 
 pub check-spec : {M : Type 1} → statement M
 check-spec =
     tie.close
     (tie.spec
-    starts-of-requires
-    list-of-requires
+    longs-requires
+    words-requires
     length-requires
     length-requires-2
     keyed-requires

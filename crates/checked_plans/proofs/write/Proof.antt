@@ -1,4 +1,4 @@
--- Every lent part is within its array.
+-- Every part that is lent is within its array.
 -- Assumes nothing.
 use native.Mathlib.Omega.{arith}
 use lib.ListN.{length-take}
@@ -6,38 +6,20 @@ use borrow.Author.Needs.{needs}
 use Rattle.checked_plans.proofs.write.Statement.{statement}
 use Rattle.checked_plans.proofs.write.Tie as tie
 
-starts-of-requires : tie.Need-starts-of-requires
-starts-of-requires c κs = search needs
-
-list-of-requires : tie.Need-list-of-requires
-list-of-requires c κs = search needs
-
-length-requires : tie.Need-length-requires
-length-requires c κs = search needs
-
-length-requires-2 : tie.Need-length-requires-2
-length-requires-2 c κs = search needs
+longs-requires : tie.Need-longs-requires
+longs-requires c κs = tt
 
 words-requires : tie.Need-words-requires
-words-requires c κs = search needs
+words-requires c κs = tt
 
-words-requires-2 : tie.Need-words-requires-2
-words-requires-2 c κs = search needs
+length-requires : tie.Need-length-requires
+length-requires c κs = tt
 
-words-requires-3 : tie.Need-words-requires-3
-words-requires-3 c κs = search needs
-
-longs-requires : tie.Need-longs-requires
-longs-requires c κs = search needs
-
-words-requires-4 : tie.Need-words-requires-4
-words-requires-4 c κs = search needs
-
-longs-requires-2 : tie.Need-longs-requires-2
-longs-requires-2 c κs = search needs
+length-requires-2 : tie.Need-length-requires-2
+length-requires-2 c κs = tt
 
 head-requires : tie.Need-head-requires
-head-requires c κs = search needs
+head-requires c κs = tt
 
 array-share-prefix-starts : tie.Need-array-share-prefix-starts
 array-share-prefix-starts c = search needs
@@ -69,29 +51,20 @@ slice-aggregate-write-plan-7 c = search needs
 slice-aggregate-write-plan-8 : tie.Need-slice-aggregate-write-plan-8
 slice-aggregate-write-plan-8 c = search needs
 
-slice-aggregate-write-plan-9 : tie.Need-slice-aggregate-write-plan-9
-slice-aggregate-write-plan-9 c = search needs
-
 write-plan-requires : tie.Need-write-plan-requires
-write-plan-requires c κs = search needs
+write-plan-requires c κs = tt
 
 returns : tie.Need-returns
-returns c = search needs
+returns c = tt
 
 pub write-spec : {M : Type 1} → statement M
 write-spec =
     tie.close
     (tie.spec
-    starts-of-requires
-    list-of-requires
+    longs-requires
+    words-requires
     length-requires
     length-requires-2
-    words-requires
-    words-requires-2
-    words-requires-3
-    longs-requires
-    words-requires-4
-    longs-requires-2
     head-requires
     array-share-prefix-starts
     slice-aggregate-write-plan
@@ -103,6 +76,5 @@ write-spec =
     slice-aggregate-write-plan-6
     slice-aggregate-write-plan-7
     slice-aggregate-write-plan-8
-    slice-aggregate-write-plan-9
     write-plan-requires
     returns)

@@ -1,7 +1,8 @@
--- A turn is safe whatever it finds. The measure is how many turns are left.
+-- Places wrap and numbers stay small, so a turn is safe whatever it finds. The measure is how many turns are left.
 -- Assumes nothing.
 use Prim.Native.Nat.{_-_}
 use native.Mathlib.Omega.{arith}
+use borrow.Author.Needs.{needs}
 use Rattle.checked_plans.proofs.write_starts.Statement.{statement}
 use Rattle.checked_plans.proofs.write_starts.Tie as tie
 
@@ -15,10 +16,10 @@ loop-holds : tie.Need-loop-holds Inv-loop μ-loop
 loop-holds c = tt
 
 mul-index64 : tie.Need-mul-index64 Inv-loop μ-loop
-mul-index64 c = omega arith
+mul-index64 c = search needs
 
 element-copy-out-index64 : tie.Need-element-copy-out-index64 Inv-loop μ-loop
-element-copy-out-index64 c = omega arith
+element-copy-out-index64 c = search needs
 
 index64-requires : tie.Need-index64-requires Inv-loop μ-loop
 index64-requires c κs = tt
@@ -38,11 +39,8 @@ loop-again c = tt
 add-requires : tie.Need-add-requires Inv-loop μ-loop
 add-requires c κs = tt
 
-add-requires-2 : tie.Need-add-requires-2 Inv-loop μ-loop
-add-requires-2 c κs = tt
-
-set-requires-2 : tie.Need-set-requires-2 Inv-loop μ-loop
-set-requires-2 c κs = tt
+set-length-requires : tie.Need-set-length-requires Inv-loop μ-loop
+set-length-requires c κs = tt
 
 returns : tie.Need-returns Inv-loop μ-loop
 returns c = tt
@@ -62,6 +60,5 @@ write-starts-spec =
     loop-less
     loop-again
     add-requires
-    add-requires-2
-    set-requires-2
+    set-length-requires
     returns)

@@ -1,7 +1,8 @@
--- A turn is safe whatever it finds. The measure is how many turns are left.
+-- Places wrap and numbers stay small, so a turn is safe whatever it finds. The measure is how many turns are left.
 -- Assumes nothing.
 use Prim.Native.Nat.{_-_}
 use native.Mathlib.Omega.{arith}
+use borrow.Author.Needs.{needs}
 use Rattle.checked_plans.proofs.write_words.Statement.{statement}
 use Rattle.checked_plans.proofs.write_words.Tie as tie
 
@@ -15,10 +16,10 @@ loop-holds : tie.Need-loop-holds Inv-loop μ-loop
 loop-holds c = tt
 
 mul-index32 : tie.Need-mul-index32 Inv-loop μ-loop
-mul-index32 c = omega arith
+mul-index32 c = search needs
 
 element-copy-out-index32 : tie.Need-element-copy-out-index32 Inv-loop μ-loop
-element-copy-out-index32 c = omega arith
+element-copy-out-index32 c = search needs
 
 index32-requires : tie.Need-index32-requires Inv-loop μ-loop
 index32-requires c κs = tt
@@ -35,11 +36,8 @@ loop-less c = omega arith
 loop-again : tie.Need-loop-again Inv-loop μ-loop
 loop-again c = tt
 
-add-requires : tie.Need-add-requires Inv-loop μ-loop
-add-requires c κs = tt
-
-set-requires-2 : tie.Need-set-requires-2 Inv-loop μ-loop
-set-requires-2 c κs = tt
+set-length-requires : tie.Need-set-length-requires Inv-loop μ-loop
+set-length-requires c κs = tt
 
 returns : tie.Need-returns Inv-loop μ-loop
 returns c = tt
@@ -58,6 +56,5 @@ write-words-spec =
     add-i
     loop-less
     loop-again
-    add-requires
-    set-requires-2
+    set-length-requires
     returns)

@@ -1,4 +1,4 @@
--- A turn is safe whatever it finds. The measure is how many turns are left.
+-- Places wrap and numbers stay small, so a turn is safe whatever it finds. The measure is how many turns are left.
 -- Assumes nothing.
 use Prim.Native.Nat.{_-_}
 use native.Mathlib.Omega.{arith}
@@ -6,10 +6,10 @@ use Rattle.rehearsal.proofs.hold_all.Statement.{statement}
 use Rattle.rehearsal.proofs.hold_all.Tie as tie
 
 abbrev Inv-loop : tie.InvT-loop
-Inv-loop tally₀ cases case₀ seed₀ counter₀ tally case seed counter = Unit {0}
+Inv-loop tally₀ cases seed₀ counter₀ tally seed counter = Unit {0}
 
 abbrev μ-loop : tie.MeasureT-loop
-μ-loop tally₀ cases case₀ seed₀ counter₀ tally case seed counter = cases - counter
+μ-loop tally₀ cases seed₀ counter₀ tally seed counter = cases - counter
 
 loop-holds : tie.Need-loop-holds Inv-loop μ-loop
 loop-holds c = tt

@@ -1,25 +1,28 @@
--- Every lent part is within its array.
+-- Every part that is lent is within its array.
 -- Assumes nothing.
+use native.Mathlib.Omega.{arith}
+use lib.ListN.{length-take}
+use borrow.Author.Needs.{needs}
 use native.Mathlib.Omega.{arith}
 use lib.ListN.{length-take}
 use borrow.Author.Needs.{needs}
 use Rattle.run_call.proofs.wrong_in_call.Statement.{statement}
 use Rattle.run_call.proofs.wrong_in_call.Tie as tie
 
-starts-of-requires : tie.Need-starts-of-requires
-starts-of-requires c κs = search needs
+longs-requires : tie.Need-longs-requires
+longs-requires c κs = search needs
 
-list-of-requires : tie.Need-list-of-requires
-list-of-requires c κs = search needs
+words-requires : tie.Need-words-requires
+words-requires c κs = search needs
 
-list-of-requires-2 : tie.Need-list-of-requires-2
-list-of-requires-2 c κs = search needs
+words-requires-2 : tie.Need-words-requires-2
+words-requires-2 c κs = search needs
 
-list-of-requires-3 : tie.Need-list-of-requires-3
-list-of-requires-3 c κs = search needs
+words-requires-3 : tie.Need-words-requires-3
+words-requires-3 c κs = search needs
 
-filled-requires : tie.Need-filled-requires
-filled-requires c κs = search needs
+filled32-requires : tie.Need-filled32-requires
+filled32-requires c κs = search needs
 
 length-requires : tie.Need-length-requires
 length-requires c κs = search needs
@@ -63,8 +66,8 @@ array-share-prefix-pops c = search needs
 slice-aggregate-run-4 : tie.Need-slice-aggregate-run-4
 slice-aggregate-run-4 c = simp length-take (omega arith)
 
-room-requires : tie.Need-room-requires
-room-requires c κs = search needs
+get-requires : tie.Need-get-requires
+get-requires c κs = search needs
 
 array-borrow-prefix-stack : tie.Need-array-borrow-prefix-stack
 array-borrow-prefix-stack c = search needs
@@ -78,11 +81,11 @@ run-requires c κs = search needs
 differences-requires : tie.Need-differences-requires
 differences-requires c κs = search needs
 
-wrong-places-requires : tie.Need-wrong-places-requires
-wrong-places-requires c κs = search needs
+wrong32-requires : tie.Need-wrong32-requires
+wrong32-requires c κs = search needs
 
-plus-requires : tie.Need-plus-requires
-plus-requires c κs = search needs
+add-requires : tie.Need-add-requires
+add-requires c κs = search needs
 
 returns : tie.Need-returns
 returns c = search needs
@@ -91,11 +94,11 @@ pub wrong-in-call-spec : {M : Type 1} → statement M
 wrong-in-call-spec =
     tie.close
     (tie.spec
-    starts-of-requires
-    list-of-requires
-    list-of-requires-2
-    list-of-requires-3
-    filled-requires
+    longs-requires
+    words-requires
+    words-requires-2
+    words-requires-3
+    filled32-requires
     length-requires
     length-requires-2
     length-requires-3
@@ -110,11 +113,11 @@ wrong-in-call-spec =
     slice-aggregate-run-3
     array-share-prefix-pops
     slice-aggregate-run-4
-    room-requires
+    get-requires
     array-borrow-prefix-stack
     slice-aggregate-run-5
     run-requires
     differences-requires
-    wrong-places-requires
-    plus-requires
+    wrong32-requires
+    add-requires
     returns)

@@ -1,7 +1,8 @@
--- A turn is safe whatever it finds. The measure is how many turns are left.
+-- Places wrap and numbers stay small, so a turn is safe whatever it finds. The measure is how many turns are left.
 -- Assumes nothing.
 use Prim.Native.Nat.{_-_}
 use native.Mathlib.Omega.{arith}
+use borrow.Author.Needs.{needs}
 use Rattle.run_cases.proofs.clear.Statement.{statement}
 use Rattle.run_cases.proofs.clear.Tie as tie
 
@@ -9,16 +10,16 @@ abbrev Inv-loop : tie.InvT-loop
 Inv-loop case₀ place₀ case place = Unit {0}
 
 abbrev μ-loop : tie.MeasureT-loop
-μ-loop case₀ place₀ case place = 1800 - place
+μ-loop case₀ place₀ case place = 1500 - place
 
 loop-holds : tie.Need-loop-holds Inv-loop μ-loop
 loop-holds c = tt
 
 mul-case : tie.Need-mul-case Inv-loop μ-loop
-mul-case c = omega arith
+mul-case c = search needs
 
 element-write-case : tie.Need-element-write-case Inv-loop μ-loop
-element-write-case c = omega arith
+element-write-case c = search needs
 
 add-place : tie.Need-add-place Inv-loop μ-loop
 add-place c = omega arith

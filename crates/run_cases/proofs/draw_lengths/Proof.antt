@@ -1,4 +1,4 @@
--- A turn is safe whatever it finds. The measure is how many turns are left.
+-- Places wrap and numbers stay small, so a turn is safe whatever it finds. The measure is how many turns are left.
 -- Assumes nothing.
 use Prim.Native.Nat.{_-_}
 use native.Mathlib.Omega.{arith}
@@ -26,11 +26,8 @@ choice-requires c κs = tt
 add-requires : tie.Need-add-requires Inv-loop μ-loop
 add-requires c κs = tt
 
-add-requires-2 : tie.Need-add-requires-2 Inv-loop μ-loop
-add-requires-2 c κs = tt
-
-set-requires : tie.Need-set-requires Inv-loop μ-loop
-set-requires c κs = tt
+set-length-requires : tie.Need-set-length-requires Inv-loop μ-loop
+set-length-requires c κs = tt
 
 add-part : tie.Need-add-part Inv-loop μ-loop
 add-part c = omega arith
@@ -55,8 +52,7 @@ draw-lengths-spec =
     n-requires
     choice-requires
     add-requires
-    add-requires-2
-    set-requires
+    set-length-requires
     add-part
     loop-less
     loop-again

@@ -1,4 +1,4 @@
--- The loop asks nothing of what it holds; the measure is how many turns are left.
+-- Places wrap and numbers stay small, so a turn is safe whatever it finds. The measure is how many turns are left.
 -- Assumes nothing.
 use Prim.Native.Nat.{_-_}
 use native.Mathlib.Omega.{arith}
@@ -18,11 +18,11 @@ loop-holds c = tt
 mul-number : tie.Need-mul-number Inv-loop μ-loop
 mul-number c = search needs
 
-place-requires : tie.Need-place-requires Inv-loop μ-loop
-place-requires c κs = tt
+get-requires : tie.Need-get-requires Inv-loop μ-loop
+get-requires c κs = tt
 
 add-number : tie.Need-add-number Inv-loop μ-loop
-add-number c = omega arith
+add-number c = search needs
 
 add-k : tie.Need-add-k Inv-loop μ-loop
 add-k c = omega arith
@@ -44,7 +44,7 @@ digits-spec =
     μ-loop
     loop-holds
     mul-number
-    place-requires
+    get-requires
     add-number
     add-k
     loop-less

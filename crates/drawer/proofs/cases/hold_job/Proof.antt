@@ -1,4 +1,4 @@
--- Every lent part is within its array.
+-- Every part that is lent is within its array.
 -- Assumes nothing.
 use native.Mathlib.Omega.{arith}
 use lib.ListN.{length-take}
@@ -6,14 +6,17 @@ use borrow.Author.Needs.{needs}
 use Rattle.drawer.proofs.cases.hold_job.Statement.{statement}
 use Rattle.drawer.proofs.cases.hold_job.Tie as tie
 
-widen-requires : tie.Need-widen-requires
-widen-requires c κs = tt
+longs-requires : tie.Need-longs-requires
+longs-requires c κs = tt
 
-narrow-requires : tie.Need-narrow-requires
-narrow-requires c κs = tt
+words-requires : tie.Need-words-requires
+words-requires c κs = tt
 
-add-a : tie.Need-add-a
-add-a c = omega arith
+length-requires : tie.Need-length-requires
+length-requires c κs = tt
+
+length-requires-2 : tie.Need-length-requires-2
+length-requires-2 c κs = tt
 
 array-share-prefix-starts : tie.Need-array-share-prefix-starts
 array-share-prefix-starts c = search needs
@@ -37,9 +40,10 @@ pub hold-job-spec : {M : Type 1} → statement M
 hold-job-spec =
     tie.close
     (tie.spec
-    widen-requires
-    narrow-requires
-    add-a
+    longs-requires
+    words-requires
+    length-requires
+    length-requires-2
     array-share-prefix-starts
     slice-aggregate-hold-choices
     array-share-prefix-rows

@@ -6,19 +6,22 @@ use Rattle.elimination.proofs.fill.eliminate.Statement.{statement}
 use Rattle.elimination.proofs.fill.eliminate.Tie as tie
 
 abbrev Inv-loop : tie.InvT-loop
-Inv-loop grid₀ k₀ grid k = Unit {0}
+Inv-loop grid₀ place₀ grid place = Unit {0}
 
 abbrev μ-loop : tie.MeasureT-loop
-μ-loop grid₀ k₀ grid k = 25 - k
+μ-loop grid₀ place₀ grid place = 625 - place
 
 loop-holds : tie.Need-loop-holds Inv-loop μ-loop
 loop-holds c = tt
 
-eliminate-column-requires : tie.Need-eliminate-column-requires Inv-loop μ-loop
-eliminate-column-requires c κs = tt
+coupled-requires : tie.Need-coupled-requires Inv-loop μ-loop
+coupled-requires c κs = tt
 
-add-k : tie.Need-add-k Inv-loop μ-loop
-add-k c = omega arith
+join-requires : tie.Need-join-requires Inv-loop μ-loop
+join-requires c κs = tt
+
+add-place : tie.Need-add-place Inv-loop μ-loop
+add-place c = omega arith
 
 loop-less : tie.Need-loop-less Inv-loop μ-loop
 loop-less c = omega arith
@@ -36,8 +39,9 @@ eliminate-spec =
     Inv-loop
     μ-loop
     loop-holds
-    eliminate-column-requires
-    add-k
+    coupled-requires
+    join-requires
+    add-place
     loop-less
     loop-again
     returns)

@@ -11,6 +11,9 @@ Inv-loop grid₀ k j i₀ grid i = Unit {0}
 abbrev μ-loop : tie.MeasureT-loop
 μ-loop grid₀ k j i₀ grid i = 25 - i
 
+add-requires : tie.Need-add-requires Inv-loop μ-loop
+add-requires c κs = tt
+
 loop-holds : tie.Need-loop-holds Inv-loop μ-loop
 loop-holds c = tt
 
@@ -38,6 +41,7 @@ join-spec =
     (tie.spec
     Inv-loop
     μ-loop
+    add-requires
     loop-holds
     coupled-requires
     put-requires

@@ -6,40 +6,34 @@ use Rattle.elimination.proofs.stack.peak.Statement.{statement}
 use Rattle.elimination.proofs.stack.peak.Tie as tie
 
 abbrev Inv-loop : tie.InvT-loop
-Inv-loop lists j pops counts stack₀ height₀ greatest₀ k₀ k-end stack height greatest k = Unit {0}
+Inv-loop sheet j stack₀ height₀ greatest₀ k₀ k-end stack height greatest k = Unit {0}
 
 abbrev μ-loop : tie.MeasureT-loop
-μ-loop lists j pops counts stack₀ height₀ greatest₀ k₀ k-end stack height greatest k = k-end - k
+μ-loop sheet j stack₀ height₀ greatest₀ k₀ k-end stack height greatest k = k-end - k
 
-cell-requires : tie.Need-cell-requires Inv-loop μ-loop
-cell-requires c κs = tt
+get-requires : tie.Need-get-requires Inv-loop μ-loop
+get-requires c κs = tt
 
 loop-holds : tie.Need-loop-holds Inv-loop μ-loop
 loop-holds c = tt
 
-add-cell : tie.Need-add-cell Inv-loop μ-loop
-add-cell c = omega arith
+subtree-requires : tie.Need-subtree-requires Inv-loop μ-loop
+subtree-requires c κs = tt
 
-cell-requires-2 : tie.Need-cell-requires-2 Inv-loop μ-loop
-cell-requires-2 c κs = tt
+get-requires-2 : tie.Need-get-requires-2 Inv-loop μ-loop
+get-requires-2 c κs = tt
 
-at-requires : tie.Need-at-requires Inv-loop μ-loop
-at-requires c κs = tt
-
-at-requires-2 : tie.Need-at-requires-2 Inv-loop μ-loop
-at-requires-2 c κs = tt
+children-requires : tie.Need-children-requires Inv-loop μ-loop
+children-requires c κs = tt
 
 in-use-requires : tie.Need-in-use-requires Inv-loop μ-loop
 in-use-requires c κs = tt
 
-at-requires-3 : tie.Need-at-requires-3 Inv-loop μ-loop
-at-requires-3 c κs = tt
+greater-requires : tie.Need-greater-requires Inv-loop μ-loop
+greater-requires c κs = tt
 
-at-requires-4 : tie.Need-at-requires-4 Inv-loop μ-loop
-at-requires-4 c κs = tt
-
-step-requires : tie.Need-step-requires Inv-loop μ-loop
-step-requires c κs = tt
+change-requires : tie.Need-change-requires Inv-loop μ-loop
+change-requires c κs = tt
 
 add-k : tie.Need-add-k Inv-loop μ-loop
 add-k c = omega arith
@@ -59,16 +53,14 @@ peak-spec =
     (tie.spec
     Inv-loop
     μ-loop
-    cell-requires
+    get-requires
     loop-holds
-    add-cell
-    cell-requires-2
-    at-requires
-    at-requires-2
+    subtree-requires
+    get-requires-2
+    children-requires
     in-use-requires
-    at-requires-3
-    at-requires-4
-    step-requires
+    greater-requires
+    change-requires
     add-k
     loop-less
     loop-again

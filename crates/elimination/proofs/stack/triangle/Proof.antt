@@ -2,6 +2,7 @@
 -- Assumes nothing.
 use Prim.Native.Nat.{_-_}
 use native.Mathlib.Omega.{arith}
+use borrow.Author.Needs.{needs}
 use Rattle.elimination.proofs.stack.triangle.Statement.{statement}
 use Rattle.elimination.proofs.stack.triangle.Tie as tie
 
@@ -15,7 +16,7 @@ loop-holds : tie.Need-loop-holds Inv-loop μ-loop
 loop-holds c = tt
 
 add-add : tie.Need-add-add Inv-loop μ-loop
-add-add c = omega arith
+add-add c = search needs
 
 add-requires : tie.Need-add-requires Inv-loop μ-loop
 add-requires c κs = tt

@@ -1,4 +1,4 @@
--- A turn is safe whatever it finds. The measure is how many turns are left.
+-- Places wrap and numbers stay small, so a turn is safe whatever it finds. The measure is how many turns are left.
 -- Assumes nothing.
 use Prim.Native.Nat.{_-_}
 use native.Mathlib.Omega.{arith}
@@ -14,14 +14,14 @@ abbrev μ-loop : tie.MeasureT-loop
 begin-requires : tie.Need-begin-requires Inv-loop μ-loop
 begin-requires c κs = tt
 
-end-requires : tie.Need-end-requires Inv-loop μ-loop
-end-requires c κs = tt
+get-requires : tie.Need-get-requires Inv-loop μ-loop
+get-requires c κs = tt
 
 loop-holds : tie.Need-loop-holds Inv-loop μ-loop
 loop-holds c = tt
 
-get-requires : tie.Need-get-requires Inv-loop μ-loop
-get-requires c κs = tt
+get-requires-2 : tie.Need-get-requires-2 Inv-loop μ-loop
+get-requires-2 c κs = tt
 
 in-front-requires : tie.Need-in-front-requires Inv-loop μ-loop
 in-front-requires c κs = tt
@@ -48,9 +48,9 @@ fits-spec =
     Inv-loop
     μ-loop
     begin-requires
-    end-requires
-    loop-holds
     get-requires
+    loop-holds
+    get-requires-2
     in-front-requires
     returns
     add-place

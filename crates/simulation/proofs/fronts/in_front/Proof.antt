@@ -1,4 +1,4 @@
--- A turn is safe whatever it finds. The measure is how many turns are left.
+-- Places wrap and numbers stay small, so a turn is safe whatever it finds. The measure is how many turns are left.
 -- Assumes nothing.
 use Prim.Native.Nat.{_-_}
 use native.Mathlib.Omega.{arith}
@@ -11,23 +11,20 @@ Inv-loop case c row place₀ place-end place = Unit {0}
 abbrev μ-loop : tie.MeasureT-loop
 μ-loop case c row place₀ place-end place = place-end - place
 
-returns : tie.Need-returns Inv-loop μ-loop
-returns c = tt
-
 begin-requires : tie.Need-begin-requires Inv-loop μ-loop
 begin-requires c κs = tt
-
-end-requires : tie.Need-end-requires Inv-loop μ-loop
-end-requires c κs = tt
-
-loop-holds : tie.Need-loop-holds Inv-loop μ-loop
-loop-holds c = tt
 
 get-requires : tie.Need-get-requires Inv-loop μ-loop
 get-requires c κs = tt
 
-returns-2 : tie.Need-returns-2 Inv-loop μ-loop
-returns-2 c = tt
+loop-holds : tie.Need-loop-holds Inv-loop μ-loop
+loop-holds c = tt
+
+get-requires-2 : tie.Need-get-requires-2 Inv-loop μ-loop
+get-requires-2 c κs = tt
+
+returns : tie.Need-returns Inv-loop μ-loop
+returns c = tt
 
 add-place : tie.Need-add-place Inv-loop μ-loop
 add-place c = omega arith
@@ -38,8 +35,8 @@ loop-less c = omega arith
 loop-again : tie.Need-loop-again Inv-loop μ-loop
 loop-again c = tt
 
-returns-3 : tie.Need-returns-3 Inv-loop μ-loop
-returns-3 c = tt
+returns-2 : tie.Need-returns-2 Inv-loop μ-loop
+returns-2 c = tt
 
 pub in-front-spec : {M : Type 1} → statement M
 in-front-spec =
@@ -47,13 +44,12 @@ in-front-spec =
     (tie.spec
     Inv-loop
     μ-loop
-    returns
     begin-requires
-    end-requires
-    loop-holds
     get-requires
-    returns-2
+    loop-holds
+    get-requires-2
+    returns
     add-place
     loop-less
     loop-again
-    returns-3)
+    returns-2)

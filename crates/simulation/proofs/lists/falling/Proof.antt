@@ -1,7 +1,8 @@
--- A turn is safe whatever it finds. The measure is how many turns are left.
+-- Places wrap and numbers stay small, so a turn is safe whatever it finds. The measure is how many turns are left.
 -- Assumes nothing.
 use Prim.Native.Nat.{_-_}
 use native.Mathlib.Omega.{arith}
+use borrow.Author.Needs.{needs}
 use Rattle.simulation.proofs.lists.falling.Statement.{statement}
 use Rattle.simulation.proofs.lists.falling.Tie as tie
 
@@ -15,7 +16,7 @@ loop-holds : tie.Need-loop-holds Inv-loop μ-loop
 loop-holds c = tt
 
 add-get : tie.Need-add-get Inv-loop μ-loop
-add-get c = omega arith
+add-get c = search needs
 
 get-requires : tie.Need-get-requires Inv-loop μ-loop
 get-requires c κs = tt
@@ -24,7 +25,7 @@ get-requires-2 : tie.Need-get-requires-2 Inv-loop μ-loop
 get-requires-2 c κs = tt
 
 add-result : tie.Need-add-result Inv-loop μ-loop
-add-result c = omega arith
+add-result c = search needs
 
 returns : tie.Need-returns Inv-loop μ-loop
 returns c = tt

@@ -1,4 +1,4 @@
--- A turn is safe whatever it finds. The measure is how many turns are left.
+-- Places wrap and numbers stay small, so a turn is safe whatever it finds. The measure is how many turns are left.
 -- Assumes nothing.
 use Prim.Native.Nat.{_-_}
 use native.Mathlib.Omega.{arith}
@@ -23,8 +23,8 @@ owner-requires c κs = tt
 row-fault-requires : tie.Need-row-fault-requires Inv-loop μ-loop
 row-fault-requires c κs = tt
 
-refusal-requires : tie.Need-refusal-requires Inv-loop μ-loop
-refusal-requires c κs = tt
+answer-requires : tie.Need-answer-requires Inv-loop μ-loop
+answer-requires c κs = tt
 
 returns : tie.Need-returns Inv-loop μ-loop
 returns c = tt
@@ -38,8 +38,8 @@ loop-less c = omega arith
 loop-again : tie.Need-loop-again Inv-loop μ-loop
 loop-again c = tt
 
-refusal-requires-2 : tie.Need-refusal-requires-2 Inv-loop μ-loop
-refusal-requires-2 c κs = tt
+answer-requires-2 : tie.Need-answer-requires-2 Inv-loop μ-loop
+answer-requires-2 c κs = tt
 
 returns-2 : tie.Need-returns-2 Inv-loop μ-loop
 returns-2 c = tt
@@ -54,10 +54,10 @@ rows-answer-spec =
     loop-holds
     owner-requires
     row-fault-requires
-    refusal-requires
+    answer-requires
     returns
     add-place
     loop-less
     loop-again
-    refusal-requires-2
+    answer-requires-2
     returns-2)

@@ -1,7 +1,8 @@
--- A turn is safe whatever it finds. The measure is how many turns are left.
+-- Places wrap and numbers stay small, so a turn is safe whatever it finds. The measure is how many turns are left.
 -- Assumes nothing.
 use Prim.Native.Nat.{_-_}
 use native.Mathlib.Omega.{arith}
+use borrow.Author.Needs.{needs}
 use Rattle.simulation.proofs.steps.steps_answer.Statement.{statement}
 use Rattle.simulation.proofs.steps.steps_answer.Tie as tie
 
@@ -20,32 +21,20 @@ get-requires c κs = tt
 get-requires-2 : tie.Need-get-requires-2 Inv-loop μ-loop
 get-requires-2 c κs = tt
 
+in-use-requires : tie.Need-in-use-requires Inv-loop μ-loop
+in-use-requires c κs = tt
+
 step-fault-requires : tie.Need-step-fault-requires Inv-loop μ-loop
 step-fault-requires c κs = tt
 
 add-answer : tie.Need-add-answer Inv-loop μ-loop
-add-answer c = omega arith
+add-answer c = search needs
 
 answer-requires : tie.Need-answer-requires Inv-loop μ-loop
 answer-requires c κs = tt
 
 returns : tie.Need-returns Inv-loop μ-loop
 returns c = tt
-
-in-use-requires : tie.Need-in-use-requires Inv-loop μ-loop
-in-use-requires c κs = tt
-
-room-requires : tie.Need-room-requires Inv-loop μ-loop
-room-requires c κs = tt
-
-add-answer-2 : tie.Need-add-answer-2 Inv-loop μ-loop
-add-answer-2 c = omega arith
-
-answer-requires-2 : tie.Need-answer-requires-2 Inv-loop μ-loop
-answer-requires-2 c κs = tt
-
-returns-2 : tie.Need-returns-2 Inv-loop μ-loop
-returns-2 c = tt
 
 greater-requires : tie.Need-greater-requires Inv-loop μ-loop
 greater-requires c κs = tt
@@ -65,8 +54,8 @@ loop-again c = tt
 last-answer-requires : tie.Need-last-answer-requires Inv-loop μ-loop
 last-answer-requires c κs = tt
 
-returns-3 : tie.Need-returns-3 Inv-loop μ-loop
-returns-3 c = tt
+returns-2 : tie.Need-returns-2 Inv-loop μ-loop
+returns-2 c = tt
 
 pub steps-answer-spec : {M : Type 1} → statement M
 steps-answer-spec =
@@ -77,19 +66,15 @@ steps-answer-spec =
     loop-holds
     get-requires
     get-requires-2
+    in-use-requires
     step-fault-requires
     add-answer
     answer-requires
     returns
-    in-use-requires
-    room-requires
-    add-answer-2
-    answer-requires-2
-    returns-2
     greater-requires
     change-requires
     add-k
     loop-less
     loop-again
     last-answer-requires
-    returns-3)
+    returns-2)

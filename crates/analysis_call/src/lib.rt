@@ -1,0 +1,95 @@
+// One call of the analysis, compared with what it has to do, for a test program. Nothing is promised but that every function is safe and ends.
+use comparison::filled32;
+use comparison::filled64;
+use comparison::wrong32;
+use comparison::wrong64;
+use elimination::grid::add;
+use elimination::sheet;
+use elimination::sheet::Sheet;
+use papers::Answer;
+use papers::JobHead;
+
+// The lengths of the six lent slices.
+pub struct Lengths {
+    pub parents: usize,
+    pub order: usize,
+    pub pops: usize,
+    pub starts: usize,
+    pub rows: usize,
+    pub work: usize,
+}
+
+// How many places of parents, order and pops are wrong after an answer.
+fn wrong_steps(
+    parents: &[u32; 300],
+    order: &[u32; 300],
+    pops: &[u32; 300],
+    lent: Lengths,
+    number: u64,
+    result: &Sheet,
+) -> usize {
+    let a = wrong32(parents, lent.parents, number, result, sheet::PARENTS);
+    let b = wrong32(order, lent.order, number, result, sheet::COLUMNS);
+    let c = wrong32(pops, lent.pops, number, result, sheet::POPS);
+    add(a, add(b, c))
+}
+
+// How many places of factor starts, factor rows and work are wrong after an answer. Work has to be zero, as the stack list of a sheet is.
+fn wrong_lists(
+    starts: &[u64; 300],
+    rows: &[u32; 300],
+    work: &[u64; 300],
+    lent: Lengths,
+    number: u64,
+    result: &Sheet,
+) -> usize {
+    let a = wrong64(starts, lent.starts, number, result, sheet::STARTS);
+    let b = wrong32(rows, lent.rows, number, result, sheet::ROWS);
+    let c = wrong64(work, lent.work, number, result, sheet::STACK);
+    add(a, add(b, c))
+}
+
+// Calls the analysis and counts what is wrong, in its answer and at every place of the six slices.
+pub fn wrong_in_call(
+    head: JobHead,
+    starts: &[u64],
+    rows: &[u32],
+    lent: Lengths,
+    result: &Sheet,
+    right: Answer,
+) -> usize {
+    let mut parents = filled32();
+    let mut order = parents;
+    let mut pops = parents;
+    let mut factor_rows = parents;
+    let mut factor_starts = filled64();
+    let mut work = factor_starts;
+    let a = lent.parents % 301;
+    let b = lent.order % 301;
+    let c = lent.pops % 301;
+    let d = lent.starts % 301;
+    let e = lent.rows % 301;
+    let f = lent.work % 301;
+    let found = analysis::analyse(
+        head,
+        starts,
+        rows,
+        &mut parents[..a],
+        &mut order[..b],
+        &mut pops[..c],
+        &mut factor_starts[..d],
+        &mut factor_rows[..e],
+        &mut work[..f],
+    );
+    let x = comparison::differences(found, right);
+    let y = wrong_steps(&parents, &order, &pops, lent, right.number, result);
+    let z = wrong_lists(
+        &factor_starts,
+        &factor_rows,
+        &work,
+        lent,
+        right.number,
+        result,
+    );
+    add(x, add(y, z))
+}

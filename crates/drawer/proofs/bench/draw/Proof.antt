@@ -1,0 +1,51 @@
+-- Places wrap and numbers stay small, so a turn is safe whatever it finds. The measure is how many turns are left.
+-- Assumes nothing.
+use Prim.Native.Nat.{_-_}
+use native.Mathlib.Omega.{arith}
+use Rattle.drawer.proofs.bench.draw.Statement.{statement}
+use Rattle.drawer.proofs.bench.draw.Tie as tie
+
+abbrev Inv-loop : tie.InvT-loop
+Inv-loop grid₀ from to k₀ grid k = Unit {0}
+
+abbrev μ-loop : tie.MeasureT-loop
+μ-loop grid₀ from to k₀ grid k = to - k
+
+loop-holds : tie.Need-loop-holds Inv-loop μ-loop
+loop-holds c = tt
+
+pair-requires : tie.Need-pair-requires Inv-loop μ-loop
+pair-requires c κs = tt
+
+pair-requires-2 : tie.Need-pair-requires-2 Inv-loop μ-loop
+pair-requires-2 c κs = tt
+
+put-requires : tie.Need-put-requires Inv-loop μ-loop
+put-requires c κs = tt
+
+add-k : tie.Need-add-k Inv-loop μ-loop
+add-k c = omega arith
+
+loop-less : tie.Need-loop-less Inv-loop μ-loop
+loop-less c = omega arith
+
+loop-again : tie.Need-loop-again Inv-loop μ-loop
+loop-again c = tt
+
+returns : tie.Need-returns Inv-loop μ-loop
+returns c = tt
+
+pub draw-spec : {M : Type 1} → statement M
+draw-spec =
+    tie.close
+    (tie.spec
+    Inv-loop
+    μ-loop
+    loop-holds
+    pair-requires
+    pair-requires-2
+    put-requires
+    add-k
+    loop-less
+    loop-again
+    returns)
