@@ -1,6 +1,4 @@
 // One call of the check, compared with what it has to do.
-use super::tally;
-use super::tally::Tally;
 use case_lines::line;
 use case_lines::line::Numbers;
 use case_lines::line::at;
@@ -13,6 +11,7 @@ use case_lines::sheet::wrong32;
 use case_lines::sheet::wrong64;
 use papers::Answer;
 use papers::JobHead;
+use tallies::Tally;
 
 // What a call answered, and in how many places the answer and the slices are wrong.
 struct Found {
@@ -109,5 +108,7 @@ pub fn hold(tally: &mut Tally, numbers: &Numbers) {
     let b = line::count(numbers, line::ROWS) % 513;
     let c = line::count(numbers, line::PLAN) % 2049;
     let found = call(numbers, &starts[..a], &rows[..b], &plan[..c]);
-    tally::tell(tally, found.answer, found.wrong);
+    let answer = found.answer;
+    let wrong = found.wrong as usize;
+    tallies::tell(tally, answer.number, wrong, answer.place, answer.count);
 }
