@@ -10,25 +10,17 @@ use lib.Seq.{getD-take, take-take, take-add, length-take-le, sets, sets-eq, set-
 use Rattle.papers.specs.Lists.{head0, flat, startsFrom}
 use Rattle.papers.specs.Job.{columnOf}
 use Rattle.list_laws.proofs.Stores.{length-starts}
-use Rattle.bytes_laws.proofs.Gaps.{RowsFit, ListsFit}
+use Rattle.bytes_laws.proofs.Gaps.{RowsFit}
 use Rattle.job_laws.proofs.Starts.{start-at, column-at, start-within}
 use Rattle.job_laws.proofs.Passed.{PassedLists}
 use Rattle.job_laws.proofs.Laid.{laid-column}
 use Rattle.job_laws.proofs.Readable.{laid-pass}
 use Rattle.column_laws.specs.Chains.{part}
-use Rattle.column_laws.proofs.Parts.{front-stored}
 use Rattle.column_laws.proofs.Columns.{column-part}
 use Rattle.column_list.specs.Stored.{Part}
 use Rattle.structure.specs.Hanging.{hanging}
 use Rattle.structure.specs.Listed.{Stores}
 use Rattle.list_test.specs.Lists.{PlanLists}
-
--- lists stored at the front of two slices that have room for them
-pub lists-stored : (n : ℕ) (lists : List (List ℕ)) (fs fr : List ℕ) → length lists ≡ n → ListsFit n 1 lists → n + 1 ≤ length fs → length (flat lists) ≤ length fr
-    → PlanLists n lists (sets fs 0 (startsFrom 0 lists)) (sets fr 0 (flat lists))
-lists-stored n lists fs fr e f a b =
-    let k : length (startsFrom 0 lists) ≡ n + 1 = omega (arith, length-starts 0 lists) in
-    record { count = e; fit = f; starts-are = rw k at (front-stored fs (startsFrom 0 lists) (omega arith)); rows-are = front-stored fr (flat lists) b }
 
 module _ {n : ℕ} {lists : List (List ℕ)} {fs fr : List ℕ} (p : PlanLists n lists fs fr) where
   laid : PassedLists n (startsFrom 0 lists) (flat lists)
