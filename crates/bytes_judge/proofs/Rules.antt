@@ -16,6 +16,7 @@ use Rattle.papers.specs.Refusals.{answer, passed, first, jobTests, Lent, allZer
 use Rattle.papers.specs.Analysis.{holdingPlan}
 use Rattle.papers.specs.Check.{CheckCall, keyTest, planRead, checkDone}
 use Rattle.bytes_laws.proofs.Plans.{Fit, plan-only}
+use Rattle.job_laws.specs.Parts.{InSlices}
 use Rattle.lent.specs.Six.{six, LongEnough}
 use Rattle.lent.proofs.Sixes.{each-zero}
 use Rattle.key_match.specs.declared.KeyMatch.{KeyMatch}
@@ -29,7 +30,7 @@ use Rattle.plan_judge.specs.Judged.{InFront, HoldPlan, judgeTests, ruling, Judg
 use Rattle.plan_judge.proofs.Rulings.{Told, refusal, clean, told, number-of}
 use Rattle.bytes_judge.specs.Ruled.{callOf, Ruled, refuses, passes, HeldIfWhole, Followed, fault, over, judged}
 use Rattle.bytes_judge.proofs.Ways.{passes-11, refuses-12, refuses-8, from-16}
-use Rattle.bytes_judge.proofs.Fronts.{InSlices, in-slices, held-in-front, done-holds}
+use Rattle.bytes_judge.proofs.Fronts.{in-slices, held-in-front, done-holds}
 
 -- ---- the answer of the reading
 

@@ -8,3 +8,4 @@ pub mod Laid
 pub mod Keys
 pub mod Readable
 pub mod Outcomes
+pub mod Parts

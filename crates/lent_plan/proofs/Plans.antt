@@ -92,10 +92,10 @@ module _ (job : Job) (p : first jobTests job ≡ passed) where
       -- their fronts
 
       parents-front : take n (mid .parents) ≡ parents
-      parents-front = rw parents-hold (ap (λ k. take k (thenZeros parents (before .parents))) (sym (length-parents below)) ∙ take-then-zeros parents (before .parents))
+      parents-front = rw parents-hold (take-then-zeros parents (before .parents) (length-parents below))
 
       starts-front : take (n + 1) (mid .factorStarts) ≡ starts
-      starts-front = rw starts-hold (ap (λ k. take k (thenZeros starts (before .factorStarts))) (sym length-starts-of) ∙ take-then-zeros starts (before .factorStarts))
+      starts-front = rw starts-hold (take-then-zeros starts (before .factorStarts) length-starts-of)
 
       pub orderable : Orderable (job .mark) n (mid .parents) (mid .order) (mid .pops) (mid .factorStarts) (mid .work)
       orderable =

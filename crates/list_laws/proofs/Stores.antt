@@ -36,10 +36,10 @@ pub length-then-zeros : (xs l : List ℕ) → length xs ≤ length l → length 
 unfolding thenZeros
 length-then-zeros xs l h = rw (length-append xs (replicate (length l - length xs) 0), length-replicate) (omega arith)
 
--- the part that holds the result
-pub take-then-zeros : (xs l : List ℕ) → take (length xs) (thenZeros xs l) ≡ xs
+-- the part that holds a result of k numbers
+pub take-then-zeros : {k : ℕ} (xs l : List ℕ) → length xs ≡ k → take k (thenZeros xs l) ≡ xs
 unfolding thenZeros
-take-then-zeros xs l = take-at xs (replicate (length l - length xs) 0) (length xs) refl
+take-then-zeros {k} xs l e = take-at xs (replicate (length l - length xs) 0) k e
 
 -- a store in front of a run
 set-sets : (ws l : List ℕ) (i v k : ℕ) → i < k → set (sets l k ws) i v ≡ sets (set l i v) k ws

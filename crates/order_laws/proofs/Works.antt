@@ -6,24 +6,20 @@ use mathlib.Core.Logic.{_↔_}
 use mathlib.Core.List.{[], _∷_, _++_, flatMap, List·Memᴰ·not-nil}
 use native.Mathlib.Omega.{arith}
 use lib.ListN.{length}
-use Rattle.papers.specs.Bounds.{maxColumns, maxPeak}
-use Rattle.papers.specs.Lists.{_∈_, Distinct, upTo}
+use Rattle.papers.specs.Lists.{_∈_, Distinct}
 use Rattle.papers.specs.Job.{Pattern, Below}
 use Rattle.papers.specs.Tree.{t, parent, rowCount, Under, subtreeOf}
 use Rattle.papers.specs.Room.{peakOf}
-use Rattle.papers.specs.Order.{alone, arranged, stepsOf, childrenOf, popsOf, W, orderOf, peak}
-use Rattle.list_laws.proofs.Counts.{distinct-length, same-length}
-use Rattle.list_laws.proofs.UpTo.{upTo-into, length-upTo}
+use Rattle.papers.specs.Order.{alone, arranged, stepsOf, childrenOf, popsOf, W, orderOf}
+use Rattle.list_laws.proofs.Counts.{same-length}
 use Rattle.order_laws.specs.Subtrees.{Kin, inTurn, butLast, subtreeSteps, siblingsOf}
 use Rattle.order_laws.proofs.Triangles.{t-suc}
-use Rattle.order_laws.proofs.Trees.{under-range}
 use Rattle.order_laws.proofs.Subtrees.{children-are, subtree-is, subtree-distinct}
 use Rattle.order_laws.proofs.Forests.{SubtreeOrder}
 use Rattle.order_laws.proofs.Ordering.{valid-distinct}
 use Rattle.order_laws.proofs.Arranged.{steps-suc, steps-enough}
 use Rattle.order_laws.proofs.Orders.{steps-order}
 use Rattle.order_laws.proofs.Patterns.{tree-of, root-rows}
-use Rattle.order_laws.proofs.RoomBounds.{peak-fits}
 use Rattle.order_laws.proofs.Needs.{need-children}
 
 -- the order: the subtrees of the roots
@@ -84,14 +80,3 @@ module _ {n : ℕ} {A : Pattern} (below : Below n A) where
     subtree-count =
         same-length (subtreeSteps mark n A j) (subtreeOf (parent A) n j) subtree-once (subtree-distinct (parent A) n j)
         (λ i m. subtree-is (tree-of below) j i l u .1 (subtree-columns i .0 m)) (λ i m. subtree-columns i .1 (subtree-is (tree-of below) j i l u .0 m))
-
-    within : (x : ℕ) → x ∈ subtreeSteps mark n A j → (1 ≤ x) × (x ≤ n)
-    within x m = under-range (tree-of below) j x l u (subtree-columns x .0 m)
-
-    few : length (subtreeSteps mark n A j) ≤ n
-    few = omega (arith, length-upTo n, distinct-length (subtreeSteps mark n A j) (upTo n) subtree-once (λ i m. let (a, b) = within i m in upTo-into n i a b))
-
-    -- W is no greater than a peak can be
-    pub W-fits : n ≤ maxColumns → W mark n A j ≤ maxPeak
-    unfolding W alone subtreeSteps peak
-    W-fits h = peak-fits below (subtreeSteps mark n A j) few within h

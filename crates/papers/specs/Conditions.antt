@@ -188,7 +188,7 @@ unfoldable pub groupsValue : List ℕ → ℕ → ℕ → ℕ
 groupsValue s at zero = getD s at 0
 groupsValue s at (suc k) = getD s at 0 - 128 + 128 * groupsValue s (at + 1) k
 
--- the number that starts at `at`: the bytes end inside it; it has more groups than six; its last of several groups is 0; or its value
+-- the number that starts at `at`: the bytes end inside it; it has too many groups; its last of several groups is 0; or its value
 pub data Stands (s : List ℕ) (at : ℕ) : Number → Type 0 where
   ended : {k : ℕ} → k ≤ maxGroups → length s ≤ at + k → Continues s at k → Stands s at Ended
   too-long : at + maxGroups < length s → Continues s at maxGroups → Stands s at TooLong

@@ -14,7 +14,7 @@ unfoldable pub groupsOf : ℕ → ℕ → List ℕ
 groupsOf zero x = x ∷ []
 groupsOf (suc f) x = elim (ltb x 128) [ true ↦ x ∷ [] | false ↦ (x % 128 + 128) ∷ groupsOf f (x / 128) ]
 
--- the bytes of a number below 128 to the sixth
+-- the bytes of a number that needs no more groups than a number may have
 unfoldable pub bytesOf : ℕ → List ℕ
 bytesOf x = groupsOf (maxGroups - 1) x
 

@@ -105,7 +105,7 @@ readLists n j (suc k) s at = then (readList n j s at) λ rows at. onto (rows ∷
 unfoldable pub atEnd : {A : Type 0} → A → List ℕ → ℕ → Read A
 atEnd a s at = elim (ltb at (length s)) [ true ↦ bad 15 (at + 1) | false ↦ got a at ]
 
--- the plan behind a key that ends at `at`: steps, lists, peak 0..2^40, the end
+-- the plan behind a key that ends at `at`: steps, lists, the peak from 0 to its bound, the end
 unfoldable pub readPlan : ℕ → List ℕ → ℕ → Read Plan
 readPlan n s at =
     then (readSteps n n s at) λ steps at.

@@ -58,15 +58,15 @@ outcome tests done zeroing call lent =
 
 -- ---- a job: 1 to 6
 
--- 1: n over 4,096
+-- 1: more columns than the bound
 unfoldable pub columnsTest : ℕ → Verdict
 columnsTest n = refusedIf (ltb maxColumns n) (answer 1 0 0) untouched
 
--- 2: mark not 0, 1, 2
+-- 2: no such mark
 unfoldable pub markTest : Job → Verdict
 markTest job = refusedIf (ltb maxMark (job .mark)) (answer 2 0 0) untouched
 
--- 3: limit over 2^40
+-- 3: a limit over its bound
 unfoldable pub limitTest : Job → Verdict
 limitTest job = refusedIf (ltb maxLimit (job .limit)) (answer 3 0 0) untouched
 

@@ -2,10 +2,9 @@
 -- the bytes decides.
 -- Assumes nothing.
 use Prim.Native.Nat.{ℕ, _<_, _≤_}
-use mathlib.Core.Path.{_≡_, refl, sym, ap, _∙_}
+use mathlib.Core.Path.{_≡_, refl, sym, _∙_}
 use mathlib.Core.Logic.{_≢_, _⊎_, inl, inr}
 use mathlib.Core.List.{List}
-use native.Mathlib.Omega.{arith}
 use lib.ListN.{length}
 use Rattle.papers.specs.declared.Answer.{Answer}
 use Rattle.papers.specs.Lists.{zeros, thenZeros}
@@ -18,44 +17,9 @@ use Rattle.job_laws.proofs.Firsts.{first-append-passed, first-append-refused, f
 use Rattle.job_laws.proofs.Outcomes.{outcome-untouched, outcome-zeroed, outcome-done}
 use Rattle.refusal_laws.proofs.Exactly.{Leaving}
 use Rattle.refusal_laws.proofs.Analysis.{analysis-leaving}
+use Rattle.plan_laws.proofs.Analysed.{same-answers, same-numbers, same-lent}
 use Rattle.plan_store.specs.Beside.{storedBeside}
 use Rattle.plan_store.proofs.Besides.{beside-short, beside-whole}
-
--- the parts of two outcomes that are one
-answers : {S : Type 0} {a b : Answer} {x y : S} → _≡_ {A = Outcome S} (record { answer = a; lent = x }) (record { answer = b; lent = y }) → a ≡ b
-answers {S} e = ap (λ (o : Outcome S). o .answer) e
-
-lents : {S : Type 0} {a b : Answer} {x y : S} → _≡_ {A = Outcome S} (record { answer = a; lent = x }) (record { answer = b; lent = y }) → x ≡ y
-lents {S} e = ap (λ (o : Outcome S). o .lent) e
-
-numbers : {a b : Answer} → a ≡ b → a .number ≡ b .number
-numbers e = ap (λ (a : Answer). a .number) e
-
--- ---- an analysis that answers 0
-
-module _ (job : Job) (lent : Lent) where
-  abbrev own : AnalysisCall
-  own = record { job = job; lent = lent }
-
-  -- it has passed its tests, counts the peak, and its slices hold the plan
-  pub analysis-done : {r : Answer} {after : Lent} → _≡_ {A = Outcome Lent} (record { answer = r; lent = after }) (analysed job lent) → r .number ≡ 0
-      → (first analysisTests (record { job = job; lent = lent }) ≡ passed) × (r .count ≡ planOf job .peak) × (after ≡ holdingPlan job (planOf job) lent)
-  unfolding analysed analysisDone
-  analysis-done {r} {after} e z = go (first analysisTests own) refl
-    where
-      -- a refusal has a number
-      numbered : (l : Leaves) {a : Answer} → first analysisTests own ≡ refused a l → r ≡ a → ⊥
-      numbered untouched {a} q f = let h : Leaving (refused a untouched) = rw q at (analysis-leaving own) in omega (arith, numbers f)
-      numbered zeroed {a} q f = let h : Leaving (refused a zeroed) = rw q at (analysis-leaving own) in omega (arith, numbers f)
-
-      go : (v : Verdict) → first analysisTests own ≡ v → (first analysisTests own ≡ passed) × (r .count ≡ planOf job .peak) × (after ≡ holdingPlan job (planOf job) lent)
-      go passed q =
-          let f = e ∙ outcome-done analysisTests analysisDone allZero own lent q in
-          (q, ap (λ (a : Answer). a .count) (answers f), lents f)
-      go (refused a untouched) q = absurd (numbered untouched q (answers (e ∙ outcome-untouched analysisTests analysisDone allZero own lent q)))
-      go (refused a zeroed) q = absurd (numbered zeroed q (answers (e ∙ outcome-zeroed analysisTests analysisDone allZero own lent q)))
-
--- ---- the outcome
 
 abbrev analysisOf : PlanCall → AnalysisCall
 analysisOf call = record { job = call .job; lent = call .slices .analysis }
@@ -82,15 +46,15 @@ module _ (job : Job) (slices : PlanLent) where
     where
       go : (v : Verdict) → first analysisTests (analysisOf call) ≡ v
           → _≡_ {A = Outcome PlanLent} (record { answer = r; lent = record { analysis = after; bytes = bytes } }) (planWritten job slices)
-      go passed q = absurd (z (numbers (answers (e ∙ outcome-done analysisTests analysisDone allZero (analysisOf call) (slices .analysis) q))))
+      go passed q = absurd (z (same-numbers (e ∙ outcome-done analysisTests analysisDone allZero (analysisOf call) (slices .analysis) q)))
       go (refused a untouched) q =
           let f = e ∙ outcome-untouched analysisTests analysisDone allZero (analysisOf call) (slices .analysis) q in
           let h : Leaving (refused a untouched) = rw q at (analysis-leaving (analysisOf call)) in
-          rw (answers f, lents f, early (rw (answers f) (h .1))) (sym (outcome-untouched planTests planDone planZero call slices (refused-on q)))
+          rw (same-answers f, same-lent f, early (rw (same-answers f) (h .1))) (sym (outcome-untouched planTests planDone planZero call slices (refused-on q)))
       go (refused a zeroed) q =
           let f = e ∙ outcome-zeroed analysisTests analysisDone allZero (analysisOf call) (slices .analysis) q in
           let h : Leaving (refused a zeroed) = rw q at (analysis-leaving (analysisOf call)) in
-          rw (answers f, lents f, late (rw (answers f) h)) (sym (outcome-zeroed planTests planDone planZero call slices (refused-on q)))
+          rw (same-answers f, same-lent f, late (rw (same-answers f) h)) (sym (outcome-zeroed planTests planDone planZero call slices (refused-on q)))
 
   -- ---- the analysis is done
 

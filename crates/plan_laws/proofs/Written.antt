@@ -52,7 +52,7 @@ module _ (job : Job) (slices : PlanLent) (done : planWritten job slices .answer 
   -- the part that holds its bytes
   part-is : writtenPart (planWritten job slices .answer) (planWritten job slices .lent .bytes) ≡ planBytes job (planOf job)
   unfolding planDone
-  part-is = rw written-is (take-then-zeros (planBytes job (planOf job)) (slices .bytes))
+  part-is = rw written-is (take-then-zeros (planBytes job (planOf job)) (slices .bytes) refl)
 
   -- a plan that was written passes for its job, given slices long enough
   pub written-plan-passes : (lent : Lent) → Long (job .n) (length (flat (planOf job .lists))) lent

@@ -1,13 +1,13 @@
--- A refusal prints its line; an analysis that is done has the plan of the job in the fronts of its slices, and what is printed of them is its listing.
+-- A refusal prints its line; an analysis that is done has the plan of the job in parts of its slices, and what is printed of them is its listing.
 -- Assumes nothing.
 use mathlib.Core.Path.{sym, ap, _∙_}
 use native.Mathlib.Omega.{arith}
 use lib.ListN.{length}
 use lib.Seq.{length-take-le}
 use borrow.Author.Needs.{needs}
-use Rattle.plan_bytes.proofs.Handed.{few-columns, done-in-front}
+use Rattle.plan_laws.proofs.Analysed.{done-few, done-parts}
 use Rattle.listing_plan.proofs.Parts.{written-as}
-use Rattle.listing_plan.proofs.Analysed.{refused-printed, done-printable, done-printed}
+use Rattle.listing_plan.proofs.Analysed.{refused-printed, done-steps, done-printable, done-printed}
 use Rattle.listing_plan.proofs.print_analysis.Statement.{statement}
 use Rattle.listing_plan.proofs.print_analysis.Tie as tie
 
@@ -42,40 +42,40 @@ returns : tie.Need-returns
 returns c = written-as (refused-printed _ _ (c .before .before .before .before .before .before .before .before .before .before .before .before .before .before .before .before .before .before .analyse .ensures) (c .before .before .before .before .if1 .taken)) (c .before .before .before .before .before .before .before .before .before .before .before .before .before .before .before .before .before .before .before .before .before .before .before .before .before .before .before .before .before .before .before .before .before .before .args .bytes .now) (c .before .before .write-refusal .ensures)
 
 mul-last : tie.Need-mul-last
-mul-last c = omega (arith, few-columns _ _ (c .before .before .before .before .before .before .before .before .before .before .before .before .before .before .analyse .ensures) (c .if1 .left))
+mul-last c = omega (arith, done-few _ _ (c .before .before .before .before .before .before .before .before .before .before .before .before .before .before .analyse .ensures) (c .if1 .left))
 
 slice-read-last : tie.Need-slice-read-last
-slice-read-last c = let f = done-in-front _ _ (c .before .before .before .before .before .before .before .before .before .before .before .before .before .before .before .analyse .ensures) (c .before .if1 .left) .starts-long in omega arith
+slice-read-last c = let f = done-parts _ _ (c .before .before .before .before .before .before .before .before .before .before .before .before .before .before .before .analyse .ensures) (c .before .if1 .left) .starts-long in omega arith
 
 slice-reshare-prefix-print-plan : tie.Need-slice-reshare-prefix-print-plan
-slice-reshare-prefix-print-plan c = done-in-front _ _ (c .before .before .before .before .before .before .before .before .before .before .before .before .before .before .before .analyse .ensures) (c .before .if1 .left) .order-long
+slice-reshare-prefix-print-plan c = done-parts _ _ (c .before .before .before .before .before .before .before .before .before .before .before .before .before .before .before .analyse .ensures) (c .before .if1 .left) .order-long
 
 slice-aggregate-print-plan : tie.Need-slice-aggregate-print-plan
-slice-aggregate-print-plan c = sym (length-take-le _ _ (done-in-front _ _ (c .before .before .before .before .before .before .before .before .before .before .before .before .before .before .before .before .analyse .ensures) (c .before .before .if1 .left) .order-long))
+slice-aggregate-print-plan c = sym (length-take-le _ _ (done-parts _ _ (c .before .before .before .before .before .before .before .before .before .before .before .before .before .before .before .before .analyse .ensures) (c .before .before .if1 .left) .order-long))
 
 slice-reshare-prefix-print-plan-2 : tie.Need-slice-reshare-prefix-print-plan-2
-slice-reshare-prefix-print-plan-2 c = done-in-front _ _ (c .before .before .before .before .before .before .before .before .before .before .before .before .before .before .before .before .analyse .ensures) (c .before .before .if1 .left) .pops-long
+slice-reshare-prefix-print-plan-2 c = done-parts _ _ (c .before .before .before .before .before .before .before .before .before .before .before .before .before .before .before .before .analyse .ensures) (c .before .before .if1 .left) .pops-long
 
 slice-aggregate-print-plan-2 : tie.Need-slice-aggregate-print-plan-2
-slice-aggregate-print-plan-2 c = sym (length-take-le _ _ (done-in-front _ _ (c .before .before .before .before .before .before .before .before .before .before .before .before .before .before .before .before .before .analyse .ensures) (c .before .before .before .if1 .left) .pops-long))
+slice-aggregate-print-plan-2 c = sym (length-take-le _ _ (done-parts _ _ (c .before .before .before .before .before .before .before .before .before .before .before .before .before .before .before .before .before .analyse .ensures) (c .before .before .before .if1 .left) .pops-long))
 
 add-print-plan : tie.Need-add-print-plan
-add-print-plan c = omega (arith, few-columns _ _ (c .before .before .before .before .before .before .before .before .before .before .before .before .before .before .before .before .before .analyse .ensures) (c .before .before .before .if1 .left))
+add-print-plan c = omega (arith, done-few _ _ (c .before .before .before .before .before .before .before .before .before .before .before .before .before .before .before .before .before .analyse .ensures) (c .before .before .before .if1 .left))
 
 slice-reshare-prefix-print-plan-3 : tie.Need-slice-reshare-prefix-print-plan-3
-slice-reshare-prefix-print-plan-3 c = done-in-front _ _ (c .before .before .before .before .before .before .before .before .before .before .before .before .before .before .before .before .before .analyse .ensures) (c .before .before .before .if1 .left) .starts-long
+slice-reshare-prefix-print-plan-3 c = done-parts _ _ (c .before .before .before .before .before .before .before .before .before .before .before .before .before .before .before .before .before .analyse .ensures) (c .before .before .before .if1 .left) .starts-long
 
 slice-aggregate-print-plan-3 : tie.Need-slice-aggregate-print-plan-3
-slice-aggregate-print-plan-3 c = sym (length-take-le _ _ (done-in-front _ _ (c .before .before .before .before .before .before .before .before .before .before .before .before .before .before .before .before .before .before .analyse .ensures) (c .before .before .before .before .if1 .left) .starts-long))
+slice-aggregate-print-plan-3 c = sym (length-take-le _ _ (done-parts _ _ (c .before .before .before .before .before .before .before .before .before .before .before .before .before .before .before .before .before .before .analyse .ensures) (c .before .before .before .before .if1 .left) .starts-long))
 
 slice-reshare-prefix-print-plan-4 : tie.Need-slice-reshare-prefix-print-plan-4
-slice-reshare-prefix-print-plan-4 c = done-in-front _ _ (c .before .before .before .before .before .before .before .before .before .before .before .before .before .before .before .before .before .before .analyse .ensures) (c .before .before .before .before .if1 .left) .rows-long
+slice-reshare-prefix-print-plan-4 c = done-parts _ _ (c .before .before .before .before .before .before .before .before .before .before .before .before .before .before .before .before .before .before .analyse .ensures) (c .before .before .before .before .if1 .left) .rows-long
 
 slice-aggregate-print-plan-4 : tie.Need-slice-aggregate-print-plan-4
-slice-aggregate-print-plan-4 c = sym (length-take-le _ _ (done-in-front _ _ (c .before .before .before .before .before .before .before .before .before .before .before .before .before .before .before .before .before .before .before .analyse .ensures) (c .before .before .before .before .before .if1 .left) .rows-long))
+slice-aggregate-print-plan-4 c = sym (length-take-le _ _ (done-parts _ _ (c .before .before .before .before .before .before .before .before .before .before .before .before .before .before .before .before .before .before .before .analyse .ensures) (c .before .before .before .before .before .if1 .left) .rows-long))
 
 print-plan-requires : tie.Need-print-plan-requires
-print-plan-requires c κs = (done-printable _ _ (c .before .before .before .before .before .before .before .before .before .before .before .before .before .before .before .before .before .before .before .before .before .analyse .ensures) (c .before .before .before .before .before .before .before .if1 .left), (let w = (done-in-front _ _ (c .before .before .before .before .before .before .before .before .before .before .before .before .before .before .before .before .before .before .before .before .before .analyse .ensures) (c .before .before .before .before .before .before .before .if1 .left) .writable) .all-steps in omega (arith, c .before .before .before .before .before .before .before .before .before .before .before .before .before .before .before .before .before .before .before .before .before .before .before .before .before .before .before .before .before .before .before .before .before .before .before .before .before .pre .0, c .before .before .before .before .before .before .before .before .before .before .before .before .before .before .before .before .before .before .before .before .before .analyse .kept .1 .1 .1 .1 .1 .1 .1 .1 .0), omega (arith, ap length (done-printed _ _ (c .before .before .before .before .before .before .before .before .before .before .before .before .before .before .before .before .before .before .before .before .before .analyse .ensures) (c .before .before .before .before .before .before .before .if1 .left)), c .before .before .before .before .before .before .before .before .before .before .before .before .before .before .before .before .before .before .before .before .before .before .before .before .before .before .before .before .before .before .before .before .before .before .before .before .before .pre .1)))
+print-plan-requires c κs = (done-printable _ _ (c .before .before .before .before .before .before .before .before .before .before .before .before .before .before .before .before .before .before .before .before .before .analyse .ensures) (c .before .before .before .before .before .before .before .if1 .left), (let k = done-steps _ _ (c .before .before .before .before .before .before .before .before .before .before .before .before .before .before .before .before .before .before .before .before .before .analyse .ensures) (c .before .before .before .before .before .before .before .if1 .left) in omega (arith, c .before .before .before .before .before .before .before .before .before .before .before .before .before .before .before .before .before .before .before .before .before .before .before .before .before .before .before .before .before .before .before .before .before .before .before .before .before .pre .0, c .before .before .before .before .before .before .before .before .before .before .before .before .before .before .before .before .before .before .before .before .before .analyse .kept .1 .1 .1 .1 .1 .1 .1 .1 .0), omega (arith, ap length (done-printed _ _ (c .before .before .before .before .before .before .before .before .before .before .before .before .before .before .before .before .before .before .before .before .before .analyse .ensures) (c .before .before .before .before .before .before .before .if1 .left)), c .before .before .before .before .before .before .before .before .before .before .before .before .before .before .before .before .before .before .before .before .before .before .before .before .before .before .before .before .before .before .before .before .before .before .before .before .before .pre .1)))
 
 same-length-8 : tie.Need-same-length-8
 same-length-8 c = c .before .before .before .before .before .before .before .before .before .before .before .before .before .before .before .before .before .before .before .before .before .before .before .before .before .before .analyse .kept .1 .1 .1 .0

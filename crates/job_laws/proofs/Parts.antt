@@ -1,0 +1,63 @@
+-- How long the lists of a plan of n columns are, so which parts of slices that hold it are its own.
+-- Assumes nothing.
+use Prim.Native.Nat.{ℕ, suc, _+_, _≤_}
+use mathlib.Core.Path.{_≡_, refl, sym, ap, _∙_}
+use mathlib.Core.List.{List}
+use native.Mathlib.Omega.{arith}
+use lib.ListN.{length, getD, length-map, List·getD-append}
+use Rattle.papers.specs.Lists.{flat, startsFrom, thenZeros}
+use Rattle.papers.specs.Job.{Job, start}
+use Rattle.papers.specs.Plan.{Plan, columnsIn, popsIn}
+use Rattle.papers.specs.Refusals.{Lent, holding}
+use Rattle.papers.specs.Analysis.{holdingPlan}
+use Rattle.list_laws.proofs.Stores.{length-then-zeros, take-then-zeros, length-starts}
+use Rattle.bytes_laws.proofs.Plans.{Fit}
+use Rattle.job_laws.specs.Parts.{InSlices, Parts}
+use Rattle.job_laws.proofs.Starts.{start-at}
+use Rattle.job_laws.proofs.Laid.{laid-starts}
+
+-- slices that hold a plan have it in them
+pub holding-in-slices : (job : Job) (plan : Plan) (lent : Lent) {after : Lent} → after ≡ holdingPlan job plan lent
+    → InSlices plan lent (after .order) (after .pops) (after .factorStarts) (after .factorRows)
+unfolding holdingPlan holding
+holding-in-slices job plan lent h = record {
+  columns = ap (λ (l : Lent). l .order) h;
+  popped = ap (λ (l : Lent). l .pops) h;
+  begins = ap (λ (l : Lent). l .factorStarts) h;
+  listed = ap (λ (l : Lent). l .factorRows) h;
+}
+
+module _ {n : ℕ} {plan : Plan} (fit : Fit n plan) where
+  pub length-columns : length (columnsIn (plan .steps)) ≡ n
+  length-columns = length-map (plan .steps) (λ x. x .0) ∙ fit .all-steps
+
+  pub length-pops : length (popsIn (plan .steps)) ≡ n
+  length-pops = length-map (plan .steps) (λ x. x .1) ∙ fit .all-steps
+
+  pub length-begins : length (startsFrom 0 (plan .lists)) ≡ n + 1
+  length-begins = length-starts 0 (plan .lists) ∙ ap (λ m. m + 1) (fit .all-lists)
+
+  -- the last start is behind the last row
+  pub last-begin : start (startsFrom 0 (plan .lists)) (suc n) ≡ length (flat (plan .lists))
+  last-begin = rw (fit .all-lists) at (laid-starts (plan .lists) .last)
+
+  module _ {before : Lent} {order pops starts rows : List ℕ} (held : InSlices plan before order pops starts rows) where
+    last-is : getD starts n 0 ≡ length (flat (plan .lists))
+    unfolding thenZeros
+    last-is =
+        rw (held .begins, List·getD-append (startsFrom 0 (plan .lists)) _ 0 n (omega (arith, length-begins)))
+        (sym (start-at (startsFrom 0 (plan .lists)) n) ∙ last-begin)
+
+    -- a slice keeps its length, and its part is the list that it holds
+    pub parts-held : n ≤ length (before .order) → n ≤ length (before .pops) → n + 1 ≤ length (before .factorStarts) → length (flat (plan .lists)) ≤ length (before .factorRows)
+        → Parts n plan order pops starts rows
+    parts-held o p s r = record {
+      order-long = omega (arith, ap length (held .columns), length-then-zeros (columnsIn (plan .steps)) (before .order) (omega (arith, length-columns)));
+      pops-long = omega (arith, ap length (held .popped), length-then-zeros (popsIn (plan .steps)) (before .pops) (omega (arith, length-pops)));
+      starts-long = omega (arith, ap length (held .begins), length-then-zeros (startsFrom 0 (plan .lists)) (before .factorStarts) (omega (arith, length-begins)));
+      rows-long = omega (arith, last-is, ap length (held .listed), length-then-zeros (flat (plan .lists)) (before .factorRows) r);
+      columns = rw (held .columns) (take-then-zeros _ _ length-columns);
+      popped = rw (held .popped) (take-then-zeros _ _ length-pops);
+      begins = rw (held .begins) (take-then-zeros _ _ length-begins);
+      listed = rw (last-is, held .listed) (take-then-zeros _ _ refl);
+    }
