@@ -35,7 +35,7 @@ pub fn write_plan(
         work,
     );
     if analysed.number != 0 {
-        plan_store::clear_late(analysed.number, bytes);
+        stored_bytes::clear_late(analysed.number, bytes);
         return analysed;
     }
     plan_store::store_beside(

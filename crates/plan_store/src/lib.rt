@@ -1,7 +1,5 @@
-// What writing a plan does beside the slices of its analysis: the plan stored, or all of them cleared; the bytes cleared where a refusal asks for it.
+// What writing a plan does beside the slices of its analysis: the plan stored, or all of them cleared.
 ghost use mathlib.Core.Path.{_≡_};
-ghost use Prim.Native.Nat.{_<_, _≤_};
-ghost use Rattle.papers.specs.Lists.{zeros};
 ghost use Rattle.papers.specs.Job.{jobOf};
 ghost use Rattle.papers.specs.Plan.{planOf, planBytes};
 ghost use Rattle.papers.specs.Refusals.{Outcome};
@@ -11,17 +9,6 @@ ghost use Rattle.plan_store.specs.InFront.{InFront};
 ghost use Rattle.plan_store.specs.Beside.{storedBeside};
 use papers::Answer;
 use papers::JobHead;
-
-// What a refusal with this number leaves of the bytes: up to 7 they stay, after it they are zero.
-pub fn clear_late(number: u64, bytes: &mut [u8])
-    ensures early { λ _. ⌜ (number ≤ 7 → now (bytes .exit) ≡ now (bytes .entry)) ⌝ }
-    ensures late { λ _. ⌜ (7 < number → now (bytes .exit) ≡ zeros (now (bytes .entry))) ⌝ }
-{
-    if number <= 7 {
-        return;
-    }
-    slices::clear8(bytes);
-}
 
 // The plan of a job that lies in front of the slices of its analysis, stored beside them; 10 with the bytes needed where it does not fit, and all slices
 // zero.

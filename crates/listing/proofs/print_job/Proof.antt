@@ -3,9 +3,9 @@
 use native.Mathlib.Omega.{arith}
 use borrow.Author.Needs.{needs}
 use Rattle.papers.specs.Job.{jobOf}
-use Rattle.listing_text.proofs.Told.{fits-in, printed-in}
-use Rattle.listing_text.proofs.print_job.Statement.{statement}
-use Rattle.listing_text.proofs.print_job.Tie as tie
+use Rattle.listing.proofs.Told.{fits-in, printed-in}
+use Rattle.listing.proofs.print_job.Statement.{statement}
+use Rattle.listing.proofs.print_job.Tie as tie
 
 slice-aggregate-print-analysis : tie.Need-slice-aggregate-print-analysis
 slice-aggregate-print-analysis c = search needs

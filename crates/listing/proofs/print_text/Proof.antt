@@ -6,9 +6,9 @@ use lib.ListN.{length}
 use lib.Seq.{length-take-le}
 use borrow.Author.Needs.{needs}
 use Rattle.listing_plan.proofs.Parts.{written-as}
-use Rattle.listing_text.proofs.Told.{told-refusal, told-job, found-columns, found-rows, starts-long, rows-long, found-printed}
-use Rattle.listing_text.proofs.print_text.Statement.{statement}
-use Rattle.listing_text.proofs.print_text.Tie as tie
+use Rattle.listing.proofs.Told.{told-refusal, told-job, found-columns, found-rows, starts-long, rows-long, found-printed}
+use Rattle.listing.proofs.print_text.Statement.{statement}
+use Rattle.listing.proofs.print_text.Tie as tie
 
 slice-aggregate-read-job : tie.Need-slice-aggregate-read-job
 slice-aggregate-read-job c = search needs

@@ -3,8 +3,8 @@
 use mathlib.Core.Path.{refl}
 use native.Mathlib.Omega.{arith}
 use borrow.Author.Needs.{needs}
-use Rattle.plan_store.proofs.clear_late.Statement.{statement}
-use Rattle.plan_store.proofs.clear_late.Tie as tie
+use Rattle.stored_bytes.proofs.clear_late.Statement.{statement}
+use Rattle.stored_bytes.proofs.clear_late.Tie as tie
 
 returns : tie.Need-returns
 returns c = (λ h. refl, λ h. absurd (omega (arith, c .if1 .taken)))
