@@ -1,13 +1,17 @@
-// The check of a plan's bytes in buffers, for who has no slices to lend.
+// The check of a plan's bytes in buffers, for who has no slices to lend: for a job, and for the job of a key.
 ghost use mathlib.Core.Path.{_≡_};
+ghost use Prim.Native.Nat.{_≤_};
+ghost use Rattle.papers.specs.Bounds.{programColumns, programRows};
 ghost use Rattle.papers.specs.Job.{jobOf};
 ghost use Rattle.papers.specs.Check.{checked};
 ghost use Rattle.papers.specs.Text.{buffers};
+ghost use Rattle.papers.specs.Call.{solverAnswer};
+ghost use Rattle.key_reader.specs.Keys.{KeyParts};
 use papers::Answer;
 use papers::JobHead;
 
 // The check of a plan's bytes for a job, in zeroed buffers of the program's sizes.
-pub fn check_in_buffers(head: JobHead, starts: &[u64], rows: &[u32], plan: &[u8]) -> Answer
+fn check_in_buffers(head: JobHead, starts: &[u64], rows: &[u32], plan: &[u8]) -> Answer
     ensures { λ r. ⌜ r ≡ checked (jobOf head (now (starts .entry)) (now (rows .entry))) (now (plan .entry)) buffers .answer ⌝ }
 {
     let mut parents = [0u32; program_sizes::COLUMNS];
@@ -28,4 +32,19 @@ pub fn check_in_buffers(head: JobHead, starts: &[u64], rows: &[u32], plan: &[u8]
         &mut frows,
         &mut work,
     )
+}
+
+// The check of a plan's bytes for the job of a key that was read through and is within the sizes: its lists, which start at `at` and have `count` rows, are
+// read once more, into buffers of their own.
+pub fn check_for_key(key: &[u8], head: JobHead, count: u64, at: usize, plan: &[u8]) -> Answer
+    requires lists { ⌜ KeyParts (now key) head count at ⌝ }
+    requires columns { ⌜ head .n ≤ programColumns ⌝ }
+    requires rows { ⌜ count ≤ programRows ⌝ }
+    ensures { λ r. ⌜ r ≡ solverAnswer (record { key = now (key .entry); plan = now (plan .entry) }) ⌝ }
+{
+    let n = head.n as usize;
+    let mut starts = [0u64; program_sizes::STARTS];
+    let mut rows = [0u32; program_sizes::PATTERN_ROWS];
+    plan_reader::read_lists(key, at, head.n, &mut starts, &mut rows);
+    check_in_buffers(head, &starts[..n + 1], &rows[..count as usize], plan)
 }

@@ -1,36 +1,18 @@
--- The lists of a key are read twice: once through, which tells that they are there and how many rows they have, and once into the buffers, whose
--- first parts then are the job's two lists. So the check is that of the job whose key it is.
+-- The number that is answered for each way out: 27 for a key that does not read through, 26 for one over the sizes, else that of the check's answer, whose
+-- number and place together fit 64 bits.
 -- Assumes nothing.
-use Prim.Native.Nat.{ℕ, _+_, _*_, _^_, _<_, _≤_}
-use mathlib.Core.Path.{_≡_, sym, ap, subst, _∙_}
+use Prim.Native.Nat.{ℕ, _+_, _*_, _^_, _<_}
+use mathlib.Core.Path.{_≡_, sym, ap}
 use mathlib.Core.Logic.{_⊎_}
 use mathlib.Core.List.{List}
-use native.Mathlib.Omega.{arith}
-use lib.ListN.{length, take, replicate, length-replicate}
 use Rattle.papers.specs.Bounds.{programColumns, programRows}
-use Rattle.papers.specs.Lists.{flat, startsFrom}
-use Rattle.papers.specs.Job.{jobOf}
-use Rattle.papers.specs.Plan.{Read, got, bad, readLists}
-use Rattle.papers.specs.Check.{checked}
-use Rattle.papers.specs.Text.{buffers}
+use Rattle.papers.specs.Plan.{bad}
 use Rattle.papers.specs.Call.{readKey, solverAnswer, called}
 use Rattle.papers.specs.declared.Answer.{Answer}
 use Rattle.papers.specs.declared.JobHead.{JobHead}
-use Rattle.list_laws.proofs.Stores.{length-starts}
-use Rattle.bytes_laws.proofs.Fields.{got-inj, got-bad}
-use Rattle.bytes_laws.proofs.Reaches.{lists-reach}
-use Rattle.column_laws.proofs.Parts.{front-stored}
 use Rattle.refusal_laws.proofs.Bounded.{Within}
-use Rattle.refusal_laws.proofs.Called.{call-unreadable, call-over, call-fits, call-bounded}
-use Rattle.field_reader.specs.Reading.{Told, finds, refuses}
-use Rattle.field_reader.specs.declared.Reading.{Reading}
-use Rattle.plan_reader.specs.Plans.{ListsIn}
+use Rattle.refusal_laws.proofs.Called.{call-unreadable, call-over, call-bounded}
 use Rattle.key_reader.specs.Keys.{KeyParts}
-
--- a part that is there is kept
-kept-there : {A : Type 0} {f : A → ℕ} {Kept : A → Type 0} {found : Read A} {r : Reading} {a : A} {next : ℕ} → Told f Kept found r → found ≡ got a next → Kept a
-kept-there {Kept = Kept} (finds b m e g k) h = subst Kept (got-inj (sym e ∙ h) .0) k
-kept-there (refuses number place e g) h = absurd (got-bad h e)
 
 module _ (key plan : List ℕ) where
   -- the number that is answered, by the answer
@@ -41,32 +23,12 @@ module _ (key plan : List ℕ) where
   pub unreadable-is-27 : {number place : ℕ} → readKey key ≡ bad number place → 27 * 2 ^ 32 ≡ called key plan
   unreadable-is-27 e = called-by (call-unreadable _ e)
 
-  module _ {head : JobHead} {count at : ℕ} (parts : KeyParts key head count at) where
-    pub over-is-26 : (programColumns < head .n) ⊎ (programRows < count) → 26 * 2 ^ 32 ≡ called key plan
-    over-is-26 h = called-by (call-over _ (parts .whole) (rw (parts .counted) at h))
+  pub over-is-26 : {head : JobHead} {count at : ℕ} → KeyParts key head count at → (programColumns < head .n) ⊎ (programRows < count) → 26 * 2 ^ 32 ≡ called key plan
+  over-is-26 parts h = called-by (call-over _ (parts .whole) (rw (parts .counted) at h))
 
-    module _ (few : head .n ≤ programColumns) (short : count ≤ programRows) {starts rows : List ℕ} {r : Reading}
-        (told : Told (λ lists. length (flat lists)) (ListsIn (replicate (programColumns + 1) 0) starts (replicate programRows 0) rows) (readLists (head .n) 1 (head .n) key at) r) where
-      starts-stored : take (head .n + 1) starts ≡ startsFrom 0 (parts .lists)
-      starts-stored =
-          let c = lists-reach (head .n) key 1 (head .n) at (parts .lists) (parts .end) (parts .stand) .0 in
-          let l = length-starts 0 (parts .lists) in
-          let q : head .n + 1 ≡ length (startsFrom 0 (parts .lists)) = omega arith in
-          rw (kept-there told (parts .stand) .0, q) (front-stored (replicate (programColumns + 1) 0) (startsFrom 0 (parts .lists)) (rw length-replicate (omega arith)))
+  module _ {a : Answer} (e : a ≡ solverAnswer (record { key = key; plan = plan })) where
+    pub answer-bounded : Within 27 (2 ^ 20) a
+    answer-bounded = rw e (call-bounded (record { key = key; plan = plan }))
 
-      rows-stored : take count rows ≡ flat (parts .lists)
-      rows-stored =
-          let c = parts .counted in
-          rw (kept-there told (parts .stand) .1, c) (front-stored (replicate programRows 0) (flat (parts .lists)) (rw length-replicate (omega arith)))
-
-      module _ {a : Answer} (e : a ≡ checked (jobOf head (take (head .n + 1) starts) (take count rows)) plan buffers .answer) where
-        is-answer : solverAnswer (record { key = key; plan = plan }) ≡ a
-        is-answer =
-            let c = parts .counted in
-            call-fits _ (parts .whole) few (omega arith) ∙ sym (e ∙ rw (starts-stored, rows-stored))
-
-        pub answer-bounded : Within 27 (2 ^ 20) a
-        answer-bounded = rw (← is-answer) (call-bounded (record { key = key; plan = plan }))
-
-        pub answer-called : a .number * 2 ^ 32 + a .place ≡ called key plan
-        answer-called = called-by is-answer
+    pub answer-called : a .number * 2 ^ 32 + a .place ≡ called key plan
+    answer-called = called-by (sym e)

@@ -26,16 +26,7 @@ pub extern "C" fn check(key: &[u8], plan: &[u8]) -> u64
             {
                 return 26 * PLACES;
             }
-            let n = head.n as usize;
-            let mut starts = [0u64; program_sizes::STARTS];
-            let mut rows = [0u32; program_sizes::PATTERN_ROWS];
-            plan_reader::read_lists(key, lists, head.n, &mut starts, &mut rows);
-            let answer = buffered_check::check_in_buffers(
-                head,
-                &starts[..n + 1],
-                &rows[..count as usize],
-                plan,
-            );
+            let answer = buffered_check::check_for_key(key, head, count, lists, plan);
             return answer.number * PLACES + answer.place;
         }
     }
