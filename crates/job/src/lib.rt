@@ -5,7 +5,7 @@ ghost use mathlib.Core.Path.{_≡_};
 ghost use Rattle.papers.specs.Job.{jobOf};
 ghost use Rattle.papers.specs.Refusals.{answerOf, first, jobTests};
 
-// 1 to 6, the first that refuses. Nothing is computed from n before it is known to be at most 4,096.
+// 1 to 6, the first that refuses. Nothing is computed from n before it is known to be within its bound.
 pub fn first_fault(head: JobHead, starts: &[u64], rows: &[u32]) -> Answer
     ensures { λ r. ⌜ r ≡ answerOf (first jobTests (jobOf head (now (starts .entry)) (now (rows .entry)))) ⌝ }
 {

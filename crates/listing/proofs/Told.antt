@@ -10,10 +10,10 @@ use lib.Seq.{sets, length-sets}
 use Rattle.papers.specs.declared.JobHead.{JobHead}
 use Rattle.papers.specs.Bounds.{programColumns, programRows}
 use Rattle.papers.specs.Job.{Job, jobOf}
-use Rattle.papers.specs.Refusals.{answer, passed, first, Lent}
+use Rattle.papers.specs.Refusals.{answer, passed, first}
 use Rattle.papers.specs.Analysis.{analysed}
 use Rattle.papers.specs.Text.{Input, textJob, textTests, refusalLine, buffers, jobPrinted, programPrints}
-use Rattle.lent.specs.Six.{six}
+use Rattle.lent.specs.Six.{zeroes}
 use Rattle.column_laws.proofs.Parts.{front-stored}
 use Rattle.kept_rows.specs.Narrowed.{narrowed}
 use Rattle.text_reader.specs.declared.JobRead.{JobRead}
@@ -110,9 +110,6 @@ module _ {input : Input} {starts rows : List ℕ} {head : JobHead} {count : ℕ}
 -- ---- zeroed slices of the program's sizes are its buffers
 
 module _ (job : Job) (bytes₀ : List ℕ) where
-  abbrev pub zeroes : Lent
-  zeroes = six (replicate 256 0) (replicate 256 0) (replicate 256 0) (replicate 257 0) (replicate 4096 0) (replicate 2056 0)
-
   pub fits-in : length (jobPrinted job (analysed job buffers .answer)) ≤ length bytes₀ → length (jobPrinted job (analysed job zeroes .answer)) ≤ length bytes₀
   unfolding buffers
   fits-in h = h

@@ -1,4 +1,4 @@
--- How far a key goes, and how far the reading of a plan: each number has at most six groups. A key has four numbers, a count for each column and a gap for
+-- How far a key goes, and how far the reading of a plan: each number has at most as many groups as it may have. A key has four numbers, a count for each column and a gap for
 -- each row. Of a plan's numbers fewer are still to come with each that is read, and what can come is bounded by n.
 -- Assumes nothing.
 use Prim.Native.Nat.{ℕ, zero, suc, _+_, _-_, _*_, _<_, _≤_}

@@ -3,20 +3,19 @@
 use Prim.Native.Nat.{ℕ}
 use mathlib.Core.Path.{_≡_, ap}
 use mathlib.Core.List.{List}
-use lib.ListN.{replicate}
 use borrow.Author.Needs.{needs}
 use Rattle.papers.specs.declared.Answer.{Answer}
 use Rattle.papers.specs.Job.{Job}
 use Rattle.papers.specs.Refusals.{Outcome, Lent}
 use Rattle.papers.specs.Check.{checked}
 use Rattle.papers.specs.Text.{buffers}
-use Rattle.lent.specs.Six.{six}
+use Rattle.lent.specs.Six.{zeroes}
 use Rattle.buffered_check.proofs.check_in_buffers.Statement.{statement}
 use Rattle.buffered_check.proofs.check_in_buffers.Tie as tie
 
 -- the check in zeroed slices of the program's sizes is that in its buffers
 in-buffers : (job : Job) (plan : List ℕ) {a : Answer} {lent : Lent} → record { answer = a; lent = lent }
-    ≡ checked job plan (six (replicate 256 0) (replicate 256 0) (replicate 256 0) (replicate 257 0) (replicate 4096 0) (replicate 2056 0)) → a ≡ checked job plan buffers .answer
+    ≡ checked job plan zeroes → a ≡ checked job plan buffers .answer
 unfolding buffers
 in-buffers job plan e = ap (λ (o : Outcome Lent). o .answer) e
 
