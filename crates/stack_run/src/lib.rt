@@ -50,11 +50,21 @@ fn steps(
     };
     let mut done = 0;
     while done < n {
-        let fault = run_step::step_fault(n, starts, rows, columns, pops, room, stack, held, done);
+        let fault = step_faults::step_fault(
+            n,
+            starts,
+            rows,
+            columns,
+            pops,
+            room,
+            stack,
+            held,
+            done,
+        );
         if fault != 0 {
             return basics::answered(fault, done + 1, held.greatest);
         }
-        held = run_step::take_step(n, starts, rows, columns, pops, stack, held, done);
+        held = step_taken::take_step(n, starts, rows, columns, pops, stack, held, done);
         done += 1;
     }
     if held.count != 0 {
