@@ -19,8 +19,8 @@ use Rattle.held_updates.proofs.Stack.{held-none, held-length}
 use Rattle.held_updates.proofs.Entries.{total-none}
 use Rattle.step_faults.proofs.Faults.{fault-zero}
 use Rattle.step_taken.specs.Ready.{Ready}
-use Rattle.stack_run.specs.Steps.{stepsAnswer}
-use Rattle.stack_run.proofs.Answers.{answer-fault, answer-left, answer-done}
+use Rattle.run_steps.specs.Steps.{stepsAnswer}
+use Rattle.run_steps.proofs.Answers.{answer-fault, answer-left, answer-done}
 
 -- the state after so many steps, and the fault of the next
 module _ (call : RunCall) where
