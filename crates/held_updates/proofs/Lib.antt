@@ -2,3 +2,4 @@ pub mod Stack
 pub mod Entries
 pub mod Popped
 pub mod Uses
+pub mod Step

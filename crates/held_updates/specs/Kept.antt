@@ -5,7 +5,7 @@ use mathlib.Core.Path.{_≡_}
 use mathlib.Core.List.{List, [], _∷_}
 use lib.ListN.{length, getD}
 use Rattle.papers.specs.Lists.{sum}
-use Rattle.papers.specs.Run.{RunCall, entries}
+use Rattle.papers.specs.Run.{RunCall, State, entries}
 use Rattle.held.specs.declared.Held.{Held}
 use Rattle.front.specs.Factor.{Column}
 
@@ -13,6 +13,10 @@ use Rattle.front.specs.Factor.{Column}
 unfoldable pub heldIn : ℕ → List ℕ → List ℕ
 heldIn zero stack = []
 heldIn (suc k) stack = getD stack k 0 ∷ heldIn k stack
+
+-- the state of a run that the record and the stack list hold
+abbrev pub stateOf : Held → List ℕ → State
+stateOf held stack = record { held = heldIn (held .count) stack; greatest = held .greatest }
 
 -- a run's call
 abbrev pub callOf : ℕ → List ℕ → List ℕ → List ℕ → List ℕ → ℕ → List ℕ → RunCall

@@ -1,3 +1,1 @@
-pub mod Running
-pub mod Answers
 pub mod Outcomes

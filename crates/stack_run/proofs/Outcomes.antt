@@ -18,8 +18,8 @@ use Rattle.job_laws.proofs.Firsts.{first-passes, first-refuses, refused-if, pas
 use Rattle.job_laws.proofs.Untouched.{Early, starts-early, rows-early, early-zero}
 use Rattle.job_laws.proofs.Outcomes.{outcome-untouched}
 use Rattle.front.specs.Factor.{Factor}
-use Rattle.stack_run.specs.Steps.{stepsAnswer}
-use Rattle.stack_run.proofs.Answers.{from-steps}
+use Rattle.run_steps.specs.Steps.{stepsAnswer}
+use Rattle.run_steps.proofs.Answers.{from-steps}
 
 -- a test that leaves what stood there refuses with its answer, unless the number is 0
 early-refuses : (v : Verdict) → Early v → {r : Answer} → r ≡ answerOf v → r .number ≢ 0 → v ≡ refused r untouched

@@ -18,7 +18,7 @@ use Rattle.papers.specs.Run.{RunCall, State, stateAfter, faultAt, stepsTest, le
 use Rattle.job_laws.proofs.Firsts.{first-passes, first-refuses, first-each, first-last, refused-if, passed-if}
 use Rattle.job_laws.proofs.Faults.{faulty, faultTest, faults-pass, faults-refuse, faults-each}
 use Rattle.job_laws.proofs.Outcomes.{outcome-zeroed, outcome-done}
-use Rattle.stack_run.specs.Steps.{stepsAnswer}
+use Rattle.run_steps.specs.Steps.{stepsAnswer}
 
 -- an outcome is its answer and what it leaves
 with-lent : {o p : Outcome (List ℕ)} → o ≡ p → o ≡ record { answer = o .answer; lent = p .lent }

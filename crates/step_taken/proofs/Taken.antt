@@ -16,16 +16,16 @@ use Rattle.order_laws.proofs.Steps.{column-at}
 use Rattle.held.specs.declared.Held.{Held}
 use Rattle.held.specs.Record.{steppedOf, Takes}
 use Rattle.front.specs.Factor.{Column}
-use Rattle.held_updates.specs.Kept.{heldIn, callOf, Kept}
+use Rattle.held_updates.specs.Kept.{heldIn, stateOf, callOf, Kept}
 use Rattle.held_updates.proofs.Stack.{held-drop, held-push}
 use Rattle.held_updates.proofs.Entries.{total, total-cons, total-parts, total-small, update-small}
-use Rattle.run_step.specs.Ready.{stateOf, Ready}
-use Rattle.run_step.proofs.Pushed.{push-root, push-update}
-use Rattle.run_step.proofs.Faults.{pops-at, used, used-is}
+use Rattle.held_updates.proofs.Step.{pops-at, used, used-is}
+use Rattle.step_taken.specs.Ready.{Ready}
+use Rattle.step_taken.proofs.Pushed.{push-root, push-update}
 
 module _ {n : ℕ} {starts rows columns pops stack : List ℕ} {held : Held} {done : ℕ} (step : Ready n starts rows columns pops stack held done) {popped update room : ℕ}
     (p : popped ≡ total n starts rows (take (getD pops done 0) (heldIn (held .count) stack))) (u : update ≡ t (length (columnOf starts rows (getD columns done 0))))
-    (r : room ≡ used n starts rows columns pops 0 stack held done) where
+    (r : room ≡ used n starts rows columns pops stack held done) where
   abbrev c : ℕ
   c = getD columns done 0
 
@@ -77,7 +77,7 @@ module _ {n : ℕ} {starts rows columns pops stack : List ℕ} {held : Held} {do
     after-is : (held′ : List ℕ) → held′ ≡ pushed call c staying → record { held = held′; greatest = next .greatest } ≡ after
     unfolding stepped
     after-is held′ q =
-        rw (pops-at call done, column-at columns done, used-is n starts rows columns pops 0 stack held done, dropped, ← q, ← r)
+        rw (pops-at call done, column-at columns done, used-is n starts rows columns pops stack held done 0, dropped, ← q, ← r)
         (ap (λ (g : ℕ). record { held = held′; greatest = g }) (ap (λ (h : Held). h .greatest) e))
 
     -- a root leaves the list as it is

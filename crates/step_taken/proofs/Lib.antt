@@ -1,3 +1,2 @@
-pub mod Faults
 pub mod Pushed
 pub mod Taken

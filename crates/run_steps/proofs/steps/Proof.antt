@@ -4,9 +4,9 @@ use Prim.Native.Nat.{_-_}
 use mathlib.Core.Path.{_∙_}
 use native.Mathlib.Omega.{arith}
 use borrow.Author.Needs.{needs}
-use Rattle.stack_run.proofs.Running.{Running, running-start, ready, running-next, answers-fault, answers-left, answers-done}
-use Rattle.stack_run.proofs.steps.Statement.{statement}
-use Rattle.stack_run.proofs.steps.Tie as tie
+use Rattle.run_steps.proofs.Running.{Running, running-start, ready, running-next, answers-fault, answers-left, answers-done}
+use Rattle.run_steps.proofs.steps.Statement.{statement}
+use Rattle.run_steps.proofs.steps.Tie as tie
 
 abbrev Inv-loop : tie.InvT-loop
 Inv-loop n starts rows columns pops room stack₀ held₀ done₀ stack held done = Running n starts rows columns pops room stack₀ stack held done

@@ -1,16 +1,11 @@
--- The state of a run as the record and the stack list hold it, and what a step needs to be taken.
+-- What a run's step needs to be taken.
 -- Assumes nothing.
 use Prim.Native.Nat.{ℕ, _<_, _≤_}
 use mathlib.Core.List.{List}
 use lib.ListN.{length, getD}
-use Rattle.papers.specs.Run.{State}
 use Rattle.held.specs.declared.Held.{Held}
 use Rattle.front.specs.Factor.{Factor, Column}
-use Rattle.held_updates.specs.Kept.{heldIn, Kept}
-
--- the state that the record and the stack list hold
-abbrev pub stateOf : Held → List ℕ → State
-stateOf held stack = record { held = heldIn (held .count) stack; greatest = held .greatest }
+use Rattle.held_updates.specs.Kept.{Kept}
 
 -- the step behind `done` steps can be taken: it is listed, its column is one, it pops no more than is held, and there is a place for its update
 pub record Ready (n : ℕ) (starts rows columns pops stack : List ℕ) (held : Held) (done : ℕ) : Type 0 where

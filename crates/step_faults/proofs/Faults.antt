@@ -1,7 +1,7 @@
 -- The ways out of a step's four tests, by its column and its pops as the lists have them.
 -- Assumes nothing.
-use Prim.Native.Nat.{ℕ, suc, _-_, _<_, _≤_}
-use mathlib.Core.Path.{_≡_, ap, _∙_, sym}
+use Prim.Native.Nat.{ℕ, suc, _<_, _≤_}
+use mathlib.Core.Path.{_≡_, _∙_, sym}
 use mathlib.Core.Logic.{_⊎_, inl, inr}
 use mathlib.Core.Bool.{Bool, true, false, _&&_}
 use mathlib.Core.List.{List, []}
@@ -9,21 +9,15 @@ use native.Mathlib.Omega.{arith}
 use lib.Dec.{ltb, leb}
 use lib.ListN.{length, getD, take}
 use borrow.Author.Tests.{lt-ltb, le-ltb, le-leb, lt-leb}
-use Rattle.papers.specs.Job.{columnOf}
 use Rattle.papers.specs.Order.{columnAt}
-use Rattle.papers.specs.Room.{roomAt}
-use Rattle.papers.specs.Run.{RunCall, State, entries, rowsIn, popsAt, roomIn, fits, stepFault}
+use Rattle.papers.specs.Run.{RunCall, State, rowsIn, popsAt, fits, stepFault}
 use Rattle.list_laws.proofs.Tests.{below-or}
 use Rattle.order_laws.proofs.Steps.{column-at}
 use Rattle.held.specs.declared.Held.{Held}
 use Rattle.front.specs.Factor.{Column}
-use Rattle.held_updates.specs.Kept.{heldIn, callOf, factorOf}
+use Rattle.held_updates.specs.Kept.{heldIn, stateOf, callOf, factorOf}
 use Rattle.held_updates.proofs.Stack.{held-length}
-use Rattle.run_step.specs.Ready.{stateOf}
-
-pub pops-at : (call : RunCall) (s : ℕ) → popsAt call (suc s) ≡ getD (call .pops) s 0
-unfolding popsAt
-pops-at call s = ap (λ i. getD (call .pops) i 0) (omega arith)
+use Rattle.held_updates.proofs.Step.{pops-at, used, used-is}
 
 module _ (n : ℕ) (starts rows columns pops : List ℕ) (room : ℕ) (stack : List ℕ) (held : Held) (done : ℕ) where
   abbrev call : RunCall
@@ -41,14 +35,6 @@ module _ (n : ℕ) (starts rows columns pops : List ℕ) (room : ℕ) (stack : L
 
   abbrev off : ℕ
   off = getD pops done 0
-
-  -- room in use
-  abbrev pub used : ℕ
-  used = roomAt off (length (columnOf starts rows c)) (entries (factorOf n starts rows) (heldIn (held .count) stack))
-
-  pub used-is : roomIn call (suc done) state ≡ used
-  unfolding roomIn rowsIn entries
-  used-is = rw (pops-at call done, column-at columns done)
 
   -- whether the popped rows stand in the front
   abbrev inside : Bool
@@ -85,15 +71,15 @@ module _ (n : ℕ) (starts rows columns pops : List ℕ) (room : ℕ) (stack : L
       unfolding stepFault
       fault-outside e f = rw (known, plenty, fits-is, sym e ∙ f, stepFault)
 
-      module _ {r : Bool} (e : r ≡ inside) (f : r ≡ true) {u : ℕ} (g : u ≡ used) where
+      module _ {r : Bool} (e : r ≡ inside) (f : r ≡ true) {u : ℕ} (g : u ≡ used n starts rows columns pops stack held done) where
         -- too much room
         pub fault-over : room < u → 23 ≡ fault
         unfolding stepFault
-        fault-over h = rw (known, plenty, fits-is, sym e ∙ f, used-is, ← g, lt-ltb room u h, stepFault)
+        fault-over h = rw (known, plenty, fits-is, sym e ∙ f, used-is n starts rows columns pops stack held done room, ← g, lt-ltb room u h, stepFault)
 
         pub fault-none : u ≤ room → 0 ≡ fault
         unfolding stepFault
-        fault-none h = rw (known, plenty, fits-is, sym e ∙ f, used-is, ← g, le-ltb room u h, stepFault)
+        fault-none h = rw (known, plenty, fits-is, sym e ∙ f, used-is n starts rows columns pops stack held done room, ← g, le-ltb room u h, stepFault)
 
   -- a step without fault has a column of 1 to n and pops no more than is held
   pub fault-zero : fault ≡ 0 → Column n c × (off ≤ held .count)

@@ -14,13 +14,13 @@ use Rattle.papers.specs.Refusals.{answer}
 use Rattle.job_laws.proofs.Faults.{faulty, faults-next}
 use Rattle.held.specs.declared.Held.{Held}
 use Rattle.front.specs.Factor.{Factor}
-use Rattle.held_updates.specs.Kept.{callOf, Kept}
+use Rattle.held_updates.specs.Kept.{stateOf, callOf, Kept}
 use Rattle.held_updates.proofs.Stack.{held-none, held-length}
 use Rattle.held_updates.proofs.Entries.{total-none}
-use Rattle.run_step.specs.Ready.{stateOf, Ready}
-use Rattle.run_step.proofs.Faults.{fault-zero}
-use Rattle.stack_run.specs.Steps.{stepsAnswer}
-use Rattle.stack_run.proofs.Answers.{answer-fault, answer-left, answer-done}
+use Rattle.step_faults.proofs.Faults.{fault-zero}
+use Rattle.step_taken.specs.Ready.{Ready}
+use Rattle.run_steps.specs.Steps.{stepsAnswer}
+use Rattle.run_steps.proofs.Answers.{answer-fault, answer-left, answer-done}
 
 -- the state after so many steps, and the fault of the next
 module _ (call : RunCall) where

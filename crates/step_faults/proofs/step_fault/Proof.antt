@@ -3,9 +3,9 @@
 use native.Mathlib.Omega.{arith}
 use borrow.Author.Tests.{not-true, not-false}
 use borrow.Author.Needs.{needs}
-use Rattle.run_step.proofs.Faults.{fault-low, fault-high, fault-few, fault-outside, fault-over, fault-none}
-use Rattle.run_step.proofs.step_fault.Statement.{statement}
-use Rattle.run_step.proofs.step_fault.Tie as tie
+use Rattle.step_faults.proofs.Faults.{fault-low, fault-high, fault-few, fault-outside, fault-over, fault-none}
+use Rattle.step_faults.proofs.step_fault.Statement.{statement}
+use Rattle.step_faults.proofs.step_fault.Tie as tie
 
 mul-column : tie.Need-mul-column
 mul-column c = search needs

@@ -2,9 +2,9 @@
 -- Assumes nothing.
 use native.Mathlib.Omega.{arith}
 use borrow.Author.Needs.{needs}
-use Rattle.run_step.proofs.Taken.{takes, taken-root, store-within, taken-update}
-use Rattle.run_step.proofs.take_step.Statement.{statement}
-use Rattle.run_step.proofs.take_step.Tie as tie
+use Rattle.step_taken.proofs.Taken.{takes, taken-root, store-within, taken-update}
+use Rattle.step_taken.proofs.take_step.Statement.{statement}
+use Rattle.step_taken.proofs.take_step.Tie as tie
 
 mul-column : tie.Need-mul-column
 mul-column c = search needs
