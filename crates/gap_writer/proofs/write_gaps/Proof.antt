@@ -4,9 +4,9 @@ use Prim.Native.Nat.{_-_}
 use mathlib.Core.Path.{refl}
 use native.Mathlib.Omega.{arith}
 use borrow.Author.Needs.{needs}
-use Rattle.list_writer.proofs.Rows.{WritesRows, row-above, row-within, gaps-start, place-near, write-turn, gaps-stop}
-use Rattle.list_writer.proofs.write_gaps.Statement.{statement}
-use Rattle.list_writer.proofs.write_gaps.Tie as tie
+use Rattle.gap_writer.proofs.Rows.{WritesRows, row-above, row-within, gaps-start, place-near, write-turn, gaps-stop}
+use Rattle.gap_writer.proofs.write_gaps.Statement.{statement}
+use Rattle.gap_writer.proofs.write_gaps.Tie as tie
 
 abbrev Inv-loop : tie.InvT-loop
 Inv-loop rows from to b bytes₀ at next₀ before₀ i₀ bytes next before i = WritesRows b rows from to bytes₀ at bytes next before i

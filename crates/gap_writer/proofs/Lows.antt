@@ -15,9 +15,9 @@ use Rattle.list_laws.proofs.Stores.{sets-over}
 use Rattle.bytes_laws.proofs.Gaps.{length-gaps}
 use Rattle.bytes_laws.proofs.Numbers.{bytes-length}
 use Rattle.groups.proofs.Written.{bytes-small}
-use Rattle.list_writer.specs.ListAt.{ListAt}
-use Rattle.list_writer.specs.LowBytes.{lowBytes}
-use Rattle.list_writer.proofs.Rows.{RowsLeft, rows-all, rows-next, gaps-next, gaps-none}
+use Rattle.gap_writer.specs.ListAt.{ListAt}
+use Rattle.gap_writer.specs.LowBytes.{lowBytes}
+use Rattle.gap_writer.proofs.Rows.{RowsLeft, rows-all, rows-next, gaps-next, gaps-none}
 
 length-lows : (xs : List ℕ) → length (lowBytes xs) ≡ length xs
 unfolding lowBytes

@@ -2,9 +2,9 @@
 -- Assumes nothing.
 use native.Mathlib.Omega.{arith}
 use borrow.Author.Needs.{needs}
-use Rattle.list_writer.proofs.Lows.{run-short, run-over}
-use Rattle.list_writer.proofs.write_run.Statement.{statement}
-use Rattle.list_writer.proofs.write_run.Tie as tie
+use Rattle.gap_writer.proofs.Lows.{run-short, run-over}
+use Rattle.gap_writer.proofs.write_run.Statement.{statement}
+use Rattle.gap_writer.proofs.write_run.Tie as tie
 
 sub-end : tie.Need-sub-end
 sub-end c = search needs

@@ -4,10 +4,10 @@ use Prim.Native.Nat.{_-_}
 use mathlib.Core.Path.{refl}
 use native.Mathlib.Omega.{arith}
 use borrow.Author.Needs.{needs}
-use Rattle.list_writer.proofs.Rows.{row-above}
-use Rattle.list_writer.proofs.Lows.{Lows, lows-start, lows-turn, lows-stop}
-use Rattle.list_writer.proofs.low_bytes.Statement.{statement}
-use Rattle.list_writer.proofs.low_bytes.Tie as tie
+use Rattle.gap_writer.proofs.Rows.{row-above}
+use Rattle.gap_writer.proofs.Lows.{Lows, lows-start, lows-turn, lows-stop}
+use Rattle.gap_writer.proofs.low_bytes.Statement.{statement}
+use Rattle.gap_writer.proofs.low_bytes.Tie as tie
 
 abbrev Inv-loop : tie.InvT-loop
 Inv-loop rows from to b bytes₀ at widest₀ before₀ next₀ i₀ bytes widest before next i = Lows b rows from to bytes₀ at bytes widest before next i

@@ -1,4 +1,4 @@
--- What the writer of one list asks of it.
+-- What the writer of a list's gaps asks of its rows.
 -- Assumes nothing.
 use Prim.Native.Nat.{ℕ, _-_, _≤_}
 use mathlib.Core.List.{List}

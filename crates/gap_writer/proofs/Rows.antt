@@ -1,7 +1,7 @@
--- The numbers of one list, row by row: the rows from i on ascend above the one before them, so the next gap is the next row less that one.
+-- The gaps of one list, row by row: the rows from i on ascend above the one before them, so the next gap is the next row less that one.
 -- Assumes nothing.
 use Prim.Native.Nat.{ℕ, _+_, _-_, _*_, _<_, _≤_}
-use mathlib.Core.Path.{_≡_, refl, ap}
+use mathlib.Core.Path.{_≡_, refl}
 use mathlib.Core.List.{List, [], _∷_, List·Memᴰ·head, List·Memᴰ·tail}
 use native.Mathlib.Omega.{arith}
 use native.Mathlib.Numerals.{add-one}
@@ -10,10 +10,10 @@ use lib.Seq.{slice, slice-cons, length-slice, sets}
 use Rattle.papers.specs.Bounds.{maxColumns, maxGroups}
 use Rattle.papers.specs.Lists.{_∈_, Asc}
 use Rattle.papers.specs.Numbers.{bytesOf, encode}
-use Rattle.papers.specs.Key.{gapsOf, listNumbers}
+use Rattle.papers.specs.Key.{gapsOf}
 use Rattle.bytes_laws.proofs.Gaps.{length-gaps}
-use Rattle.bytes_laws.proofs.Writing.{writes-near, Writes, writes-all, writes-number, writes-none, writes-last}
-use Rattle.list_writer.specs.ListAt.{ListAt}
+use Rattle.bytes_laws.proofs.Writing.{writes-near, Writes, writes-all, writes-number, writes-none}
+use Rattle.gap_writer.specs.ListAt.{ListAt}
 
 -- the rows from i up to `to` are left, behind the row `before`
 pub record RowsLeft (rows : List ℕ) (to before i : ℕ) : Type 0 where
@@ -54,11 +54,6 @@ gaps-none {rows} {to} {i = i} l h =
     let d : length (take to rows) ≤ i = rw length-take (omega arith) in
     rw (drop-of-length-le (take to rows) d)
 
--- the numbers of a list: its count, and its gaps
-pub list-is : {j : ℕ} {rows : List ℕ} {from to : ℕ} → ListAt j rows from to → listNumbers j (slice from to rows) ≡ (to - from) ∷ gapsOf j (slice from to rows)
-unfolding listNumbers
-list-is {j} {rows} {from} {to} l = ap (λ (n : ℕ). n ∷ gapsOf j (slice from to rows)) (length-slice from to rows (l .inside))
-
 -- ---- written
 
 pub record WritesRows (j : ℕ) (rows : List ℕ) (from to : ℕ) (d₀ : List ℕ) (first : ℕ) (d : List ℕ) (next before i : ℕ) : Type 0 where
@@ -81,9 +76,3 @@ module _ {j : ℕ} {rows : List ℕ} {from to : ℕ} {d₀ : List ℕ} {first : 
 
   pub gaps-stop : to ≤ i → (next ≡ first + length (encode (gapsOf j (slice from to rows)))) × (d ≡ sets d₀ first (encode (gapsOf j (slice from to rows))))
   gaps-stop h = writes-none (w .written) (gaps-none (w .rows-left) h)
-
--- the count is written, then the gaps
-pub list-stop : (entry : List ℕ) (at : ℕ) {j : ℕ} {rows : List ℕ} {from to first : ℕ} {d₀ d : List ℕ} {next before i : ℕ} → ListAt j rows from to
-    → first ≡ at + length (bytesOf (to - from)) → d₀ ≡ sets entry at (bytesOf (to - from)) → WritesRows j rows from to d₀ first d next before i → to ≤ i
-    → (next ≡ at + length (encode (listNumbers j (slice from to rows)))) × (d ≡ sets entry at (encode (listNumbers j (slice from to rows))))
-list-stop entry at l e f w h = let (p, q) = gaps-stop w h in writes-last (writes-number (writes-all {d₀ = entry}) (list-is l) e f) p q
