@@ -11,7 +11,7 @@ use Rattle.papers.specs.Lists.{_∈_}
 use Rattle.papers.specs.Job.{Pattern, Below}
 use Rattle.papers.specs.Fill.{R}
 use Rattle.papers.specs.Tree.{parent}
-use Rattle.rows_needed.specs.Sums.{sumTo, under, hit}
+use Rattle.row_climb.specs.Sums.{sumTo, under, hit}
 
 -- the rows of column c below i, and one more where it is marked for row i
 abbrev pub tally : Pattern → List ℕ → ℕ → ℕ → ℕ
@@ -30,12 +30,6 @@ pub record Row (n i : ℕ) (A : Pattern) (parents work : List ℕ) (t d : ℕ) :
   pub closed : (c : ℕ) → 1 ≤ c → c ≤ n → getD work c 0 ≡ i → c ≢ i → (getD work (parent A c) 0 ≡ i) ⊎ (parent A c ≡ d)
   pub own : getD work i 0 ≡ i
   pub low : (c : ℕ) → 1 ≤ c → c ≤ n → getD work c 0 ≤ i
-
--- before row i: the rows below i are counted, and no column is marked for it
-pub record Between (n i : ℕ) (A : Pattern) (parents work : List ℕ) (t : ℕ) : Type 0 where
-  pub known : Known n i A parents
-  pub sum : sumTo n (λ c. under i (R A c)) ≡ t
-  pub low : (c : ℕ) → 1 ≤ c → c ≤ n → getD work c 0 < i
 
 -- a climb begins at column k, which has row i, of a pattern of n columns
 pub record Start (n i k : ℕ) (A : Pattern) (parents work : List ℕ) (t : ℕ) : Type 0 where

@@ -16,8 +16,8 @@ use Rattle.list_laws.proofs.Tests.{below-or}
 use Rattle.fill_laws.proofs.Fill.{R-range}
 use Rattle.fill_laws.proofs.Parents.{parent-least, parent-above, hands-on}
 use Rattle.column_laws.proofs.Places.{same-or}
-use Rattle.rows_needed.specs.Row.{Row, Start, Climbing, Climbed}
-use Rattle.rows_needed.proofs.Marking.{settle, step, parent-new, parent-old, count-few}
+use Rattle.row_climb.specs.Row.{Row, Start, Climbing, Climbed}
+use Rattle.row_climb.proofs.Marking.{settle, step, parent-new, parent-old, count-few}
 
 -- the climb from k stands at c
 pub record Climb (i k : ℕ) (p₀ w₀ : List ℕ) (t₀ : ℕ) (p w : List ℕ) (t c : ℕ) : Type 0 where

@@ -1,10 +1,10 @@
--- `rows_needed::climb` meets its contract: the columns on the way have row i, and it ends at one that is marked. The measure is i less the column.
+-- `row_climb::climb` meets its contract: the columns on the way have row i, and it ends at one that is marked. The measure is i less the column.
 -- Assumes nothing.
 use Prim.Native.Nat.{_-_}
 use native.Mathlib.Omega.{arith}
-use Rattle.rows_needed.proofs.Climbs.{Climb, begin, look, here, go-new, go-up, go-old, stop}
-use Rattle.rows_needed.proofs.climb.Statement.{statement}
-use Rattle.rows_needed.proofs.climb.Tie as tie
+use Rattle.row_climb.proofs.Climbs.{Climb, begin, look, here, go-new, go-up, go-old, stop}
+use Rattle.row_climb.proofs.climb.Statement.{statement}
+use Rattle.row_climb.proofs.climb.Tie as tie
 
 abbrev Inv-loop : tie.InvT-loop
 Inv-loop i k count parents₀ work₀ c₀ t₀ parents work c t = Climb i k parents₀ work₀ count parents work t c

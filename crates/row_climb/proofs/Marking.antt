@@ -17,9 +17,9 @@ use Rattle.list_laws.proofs.Ascending.{asc-length}
 use Rattle.fill_laws.proofs.Fill.{R-asc, R-range}
 use Rattle.fill_laws.proofs.Parents.{parent-least}
 use Rattle.column_laws.proofs.Places.{same-or}
-use Rattle.rows_needed.specs.Sums.{sumTo, under, hit}
-use Rattle.rows_needed.specs.Row.{tally, Row}
-use Rattle.rows_needed.proofs.Sums.{hit-yes, hit-no, sum-same, sum-bump, sum-few, under-few}
+use Rattle.row_climb.specs.Sums.{sumTo, under, hit}
+use Rattle.row_climb.specs.Row.{tally, Row}
+use Rattle.row_climb.proofs.Sums.{hit-yes, hit-no, sum-same, sum-bump, sum-few, under-few}
 
 -- a climb that meets a mark leaves nothing open
 pub settle : {n i d t : ℕ} {A : Pattern} {p w : List ℕ} (e : ℕ) → Row n i A p w t d → getD w d 0 ≡ i → Row n i A p w t e
