@@ -1,9 +1,9 @@
--- `child_lists::handed_on` meets its contract: the part begins one behind the column's start.
+-- `linked_children::handed_on` meets its contract: the part begins one behind the column's start.
 -- Assumes nothing.
 use mathlib.Core.Path.{refl}
 use native.Mathlib.Omega.{arith}
-use Rattle.child_lists.proofs.handed_on.Statement.{statement}
-use Rattle.child_lists.proofs.handed_on.Tie as tie
+use Rattle.linked_children.proofs.handed_on.Statement.{statement}
+use Rattle.linked_children.proofs.handed_on.Tie as tie
 
 sub-s : tie.Need-sub-s
 sub-s c = omega arith

@@ -1,9 +1,9 @@
--- `child_lists::longest` meets its contract: of the children before d none has more rows than best. The measure is d, since the chain descends.
+-- `linked_children::longest` meets its contract: of the children before d none has more rows than best. The measure is d, since the chain descends.
 -- Assumes nothing.
 use native.Mathlib.Omega.{arith}
-use Rattle.child_lists.proofs.Picking.{Picking, begin, child-at, link, goes-down, takes, keeps, picked}
-use Rattle.child_lists.proofs.longest.Statement.{statement}
-use Rattle.child_lists.proofs.longest.Tie as tie
+use Rattle.linked_children.proofs.Picking.{Picking, begin, child-at, link, goes-down, takes, keeps, picked}
+use Rattle.linked_children.proofs.longest.Statement.{statement}
+use Rattle.linked_children.proofs.longest.Tie as tie
 
 abbrev Inv-loop : tie.InvT-loop
 Inv-loop n c fstarts work best₀ most₀ d₀ best most d = Picking n c fstarts work best most d

@@ -9,8 +9,7 @@ use lib.ListN.{length, getD}
 use Rattle.papers.specs.Lists.{_∈_}
 use Rattle.column_laws.specs.Chains.{Chain, Desc}
 use Rattle.column_laws.proofs.Chains.{chain-on, chain-end, chain-only, chain-ext, desc-first}
-use Rattle.child_lists.specs.Marks.{Changed}
-use Rattle.child_lists.specs.Children.{rowsOf, Child, Siblings, Linked, Longest}
+use Rattle.linked_children.specs.Children.{rowsOf, Child, Siblings, Linked, Longest}
 
 -- the next of linked children
 pub record Further (n c : ℕ) (fs w children : List ℕ) : Type 0 where
@@ -35,11 +34,12 @@ further {n} {c} {fs} {w} {children} s h =
       falls = f .0;
     }
 
--- marks do not change the links
-pub siblings-ext : {n j c : ℕ} {fs w children : List ℕ} (w′ : List ℕ) → Siblings n c fs w children → Changed n j w w′ → length w′ ≡ length w → Siblings n c fs w′ children
-siblings-ext {n} {j} {c} {fs} {w} {children} w′ s g l =
+-- another work with the same links
+pub siblings-ext : {n c : ℕ} {fs w children : List ℕ} (w′ : List ℕ) → Siblings n c fs w children → ((p : ℕ) → p ≤ n + n → getD w′ p 0 ≡ getD w p 0) → length w′ ≡ length w
+    → Siblings n c fs w′ children
+siblings-ext {n} {c} {fs} {w} {children} w′ s same l =
     record {
-      chain = chain-ext w w′ n c children (λ d m. g .links (n + d) (omega (arith, s .most d m))) (s .chain);
+      chain = chain-ext w w′ n c children (λ d m. same (n + d) (omega (arith, s .most d m))) (s .chain);
       desc = s .desc;
       each = s .each;
       most = s .most;
