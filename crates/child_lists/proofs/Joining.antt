@@ -9,9 +9,10 @@ use lib.ListN.{length, take}
 use lib.Seq.{length-take-le}
 use Rattle.papers.specs.Lists.{_∈_}
 use Rattle.column_laws.proofs.Chains.{chain-end, chain-only}
-use Rattle.child_lists.specs.Marks.{marked, Sound, Changed}
+use Rattle.linked_children.specs.Children.{handedOn, Siblings}
+use Rattle.child_lists.specs.Marks.{Sound, Changed}
 use Rattle.child_lists.specs.Buffers.{held}
-use Rattle.child_lists.specs.Children.{handedOn, Siblings, Makes, Begun, Joining, Joined}
+use Rattle.child_lists.specs.Joining.{Makes, Begun, Joining, Joined}
 use Rattle.child_lists.proofs.Marks.{changed-none}
 use Rattle.child_lists.proofs.Buffers.{first-buffer}
 use Rattle.child_lists.proofs.Making.{makes-end, makes-only}

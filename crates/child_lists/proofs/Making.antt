@@ -10,7 +10,7 @@ use lib.ListN.{length}
 use Rattle.papers.specs.Lists.{_∈_, merge}
 use Rattle.list_laws.proofs.Ascending.{asc-ext, asc-length}
 use Rattle.list_laws.proofs.Merges.{merge-asc, merge-left, merge-right, merge-from}
-use Rattle.child_lists.specs.Children.{Makes}
+use Rattle.child_lists.specs.Joining.{Makes}
 
 module _ {j : ℕ} {f : ℕ → List ℕ} where
   module _ {c : ℕ} {cs acc whole : List ℕ} (m : Makes j f (c ∷ cs) acc whole) where

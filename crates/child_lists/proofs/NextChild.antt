@@ -10,11 +10,12 @@ use lib.ListN.{length, getD}
 use Rattle.papers.specs.Lists.{_∈_, merge, every}
 use Rattle.list_laws.proofs.Ascending.{asc-above}
 use Rattle.list_laws.proofs.Merges.{merge-left, merge-right}
+use Rattle.linked_children.specs.Children.{handedOn, Child}
+use Rattle.linked_children.proofs.Picking.{Further, further, siblings-ext}
 use Rattle.child_lists.specs.Marks.{marked, isMarked, Markable, Changed}
 use Rattle.child_lists.specs.Buffers.{held, Roomy}
-use Rattle.child_lists.specs.Children.{handedOn, Child, Makes}
+use Rattle.child_lists.specs.Joining.{Makes}
 use Rattle.child_lists.proofs.Marks.{marks-sound, changed-more, changed-marked, covered-in}
-use Rattle.child_lists.proofs.Picking.{Further, further, siblings-ext}
 use Rattle.child_lists.proofs.Making.{makes-join, makes-skip, makes-few}
 use Rattle.child_lists.proofs.Joining.{State}
 
@@ -106,7 +107,7 @@ module _ {n j c len : ℕ} {fs fr w₀ x₀ y₀ w x y : List ℕ} {d turn count
           begun = s .begun;
           left = next .rest;
           left-in = λ k m. s .left-in k (rw (next .is) (List·Memᴰ·tail m));
-          siblings = rw (next-link w′ f) (siblings-ext w′ (next .siblings) (change w′ f) lw);
+          siblings = rw (next-link w′ f) (siblings-ext w′ (next .siblings) (change w′ f .links) lw);
           makes = rw (q .1, e) (makes-join makes);
           size = ap length (q .1) ∙ sym (q .0);
           sound = rw (q .1, f) (marks-sound n j more w (held turn count x y) (merge (held turn count x y) more) (s .sound)

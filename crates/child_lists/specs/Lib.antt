@@ -1,3 +1,3 @@
 pub mod Marks
 pub mod Buffers
-pub mod Children
+pub mod Joining

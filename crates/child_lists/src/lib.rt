@@ -1,49 +1,17 @@
 // The rows of a column's children joined to its own: children are linked in work, and a child that brings no new row is passed over.
 // In work the first child of column j stands at j, the sibling behind column c at n + c, and the mark of row i at n + n + i.
 ghost use mathlib.Core.Path.{_≡_};
-ghost use Prim.Native.Nat.{_-_, _≤_};
-ghost use lib.ListN.{length, getD};
+ghost use Prim.Native.Nat.{_-_};
+ghost use lib.ListN.{length};
 ghost use Rattle.papers.specs.Lists.{merge, every};
 ghost use Rattle.child_lists.specs.Marks.{marked, isMarked, Markable};
 ghost use Rattle.child_lists.specs.Buffers.{held, Roomy};
-ghost use Rattle.child_lists.specs.Children.{Child, handedOn, Linked, Longest, Joining, Joined};
+ghost use Rattle.child_lists.specs.Joining.{Joining, Joined};
 
 // Where a gathered list stands: its first len rows in the first buffer where turn is 0, else in the second.
 pub struct Gathered {
     pub turn: usize,
     pub len: usize,
-}
-
-// The rows that column c hands on to its parent: its list but the least row, which is the parent.
-pub fn handed_on<'a>(c: usize, fstarts: &[u64], frows: &'a [u32]) -> &'a [u32]
-    requires child { ⌜ Child (now fstarts) c ⌝ }
-    requires stored { ⌜ getD (now fstarts) c 0 ≤ length (now frows) ⌝ }
-    ensures { λ r. ⌜ now r ≡ handedOn (now (fstarts .entry)) (now (frows .entry)) c ⌝ }
-{
-    let s = fstarts[c - 1] as usize;
-    let e = fstarts[c] as usize;
-    &frows[s + 1..e]
-}
-
-// The child with the most rows of those linked from c on. Of those before d none has more than best.
-pub fn longest(n: usize, c: usize, fstarts: &[u64], work: &[u64]) -> usize
-    requires { ⌜ Linked n c (now fstarts) (now work) ⌝ }
-    ensures { λ r. ⌜ Longest n c (now (fstarts .entry)) (now (work .entry)) r ⌝ }
-{
-    let mut best = c;
-    let mut most = 0;
-    let mut d = c;
-    while d != 0 {
-        let rows = fstarts[d] - fstarts[d - 1];
-        if most < rows {
-            best = d;
-            most = rows;
-            d = work[n + d] as usize;
-        } else {
-            d = work[n + d] as usize;
-        }
-    }
-    best
 }
 
 // Marks the rows of a list for column j.
@@ -106,7 +74,7 @@ pub fn join_children(
     let mut turn = 0;
     let mut count = len;
     while d != 0 {
-        let more = handed_on(d, fstarts, frows);
+        let more = linked_children::handed_on(d, fstarts, frows);
         if covered(n, j, more, work) {
             d = work[n + d] as usize;
         } else {

@@ -3,7 +3,7 @@
 use Prim.Native.Nat.{ℕ, _+_, _<_, _≤_}
 use mathlib.Core.Path.{_≡_, refl, ap, _∙_}
 use mathlib.Core.Logic.{⊎-elim, _≢_}
-use mathlib.Core.List.{List, [], _∷_, List·Memᴰ·head, List·Memᴰ·tail, List·Memᴰ·not-nil}
+use mathlib.Core.List.{List, [], _∷_, List·Memᴰ·head, List·Memᴰ·not-nil, List·Memᴰ·cases-cons}
 use native.Mathlib.Omega.{arith}
 use lib.ListN.{length, getD, take}
 use lib.Seq.{sets, length-sets}
@@ -17,10 +17,11 @@ use Rattle.column_laws.specs.Tested.{Tested}
 use Rattle.column_laws.proofs.Columns.{starts-long, starts-rise, starts-fit}
 use Rattle.column_laws.proofs.Parts.{front-stored}
 use Rattle.column_laws.proofs.Chains.{chain-end, chain-on}
+use Rattle.linked_children.specs.Children.{handedOn, Linked, Longest}
+use Rattle.linked_children.proofs.Picking.{siblings-ext}
 use Rattle.child_lists.specs.Marks.{marked, Markable, Sound, Changed}
-use Rattle.child_lists.specs.Children.{handedOn, Linked, Longest, Makes, Begun, Joining, Joined}
+use Rattle.child_lists.specs.Joining.{Makes, Begun, Joining, Joined}
 use Rattle.child_lists.proofs.Marks.{marks-sound, changed-none, changed-more, changed-marked}
-use Rattle.child_lists.proofs.Picking.{siblings-ext}
 use Rattle.child_lists.proofs.Buffers.{first-buffer}
 use Rattle.child_lists.proofs.Making.{makes-skip, makes-end}
 use Rattle.column_list.specs.Hung.{hung}
@@ -113,8 +114,7 @@ module _ {n m : ℕ} {A : Pattern} {fs fr w x y : List ℕ} (good : Below n A) (
                 makes-end (makes-skip (rw is at begun) (λ i t. merge-right own more (rw (h, same) t)))
               where
                 only : {a b : ℕ} → a ∈ (b ∷ []) → a ≡ b
-                only (List·Memᴰ·head e) = e
-                only (List·Memᴰ·tail t) = absurd (List·Memᴰ·not-nil t)
+                only {a} {b} t = ⊎-elim (λ (e : a ≡ b). e) (λ (u : a ∈ []). absurd (List·Memᴰ·not-nil u)) (List·Memᴰ·cases-cons t)
 
         -- several: the rows of x are marked, the other children follow
         pub first-markable : Markable n (take len x₁) w
@@ -127,7 +127,7 @@ module _ {n m : ℕ} {A : Pattern} {fs fr w x y : List ℕ} (good : Below n A) (
           ready : Begun n (m + 1) (getD w (m + 1) 0) len fs fr w₁ x₁ y (hung A m (m + 1)) (R A (m + 1))
           ready =
               record {
-                siblings = siblings-ext w₁ (siblings good g) change lw;
+                siblings = siblings-ext w₁ (siblings good g) (change .links) lw;
                 ends = λ c t. found-child good g c t .ends;
                 makes = rw front begun;
                 most = λ i t. R-range good (m + 1) i t .1;

@@ -19,7 +19,8 @@ use Rattle.column_laws.specs.Chains.{Chain}
 use Rattle.column_laws.proofs.Parts.{part-rest}
 use Rattle.column_laws.proofs.Chains.{desc-first}
 use Rattle.column_laws.proofs.Families.{length-more, length-grows, list-at}
-use Rattle.child_lists.specs.Children.{handedOn, Child, Siblings, Makes}
+use Rattle.linked_children.specs.Children.{handedOn, Child, Siblings}
+use Rattle.child_lists.specs.Joining.{Makes}
 use Rattle.column_list.specs.Hung.{hung}
 use Rattle.column_list.specs.Stored.{rowsTo, Stored, Next}
 use Rattle.column_list.proofs.Hung.{hung-from, hung-into, hung-desc}

@@ -45,8 +45,8 @@ pub fn gather<'a>(
             len: own.len(),
         };
     }
-    let d = child_lists::longest(n, c, fstarts, work);
-    let more = child_lists::handed_on(d, fstarts, frows);
+    let d = linked_children::longest(n, c, fstarts, work);
+    let more = linked_children::handed_on(d, fstarts, frows);
     let len = joiner::unite(own, more, x);
     if work[n + c] == 0 {
         return Gathered { turn: 0, len };

@@ -10,7 +10,7 @@ ghost use Rattle.papers.specs.Job.{jobOf, columnOf};
 ghost use Rattle.papers.specs.Key.{gapsOf, listNumbers, listsNumbers, listsOf, keyOf};
 ghost use Rattle.papers.specs.Refusals.{passed, first, startsTest, rowsTest, jobTests};
 ghost use Rattle.groups.specs.Fits.{Fits};
-ghost use Rattle.list_writer.specs.ListAt.{ListAt};
+ghost use Rattle.gap_writer.specs.ListAt.{ListAt};
 ghost use Rattle.key_match.specs.Matches.{matchFrom, keyMatch};
 use papers::JobHead;
 

@@ -15,8 +15,9 @@ use Rattle.list_laws.proofs.Merges.{nil-merge}
 use Rattle.fill_laws.proofs.Fill.{R-pattern}
 use Rattle.bytes_laws.proofs.Gaps.{RowsFit}
 use Rattle.column_laws.proofs.Chains.{chain-end, chain-on}
+use Rattle.linked_children.specs.Children.{Child, handedOn}
 use Rattle.child_lists.specs.Marks.{marked, Markable, Changed}
-use Rattle.child_lists.specs.Children.{Child, handedOn, Makes}
+use Rattle.child_lists.specs.Joining.{Makes}
 use Rattle.child_lists.proofs.Marks.{changed-marked}
 use Rattle.child_lists.proofs.Making.{makes-join, makes-end}
 use Rattle.column_list.specs.Hung.{hung}

@@ -41,7 +41,7 @@ fn is_right(
         return row_tests::same_rows(list, own);
     }
     if work[n + c] == 0 {
-        let more = child_lists::handed_on(c, fstarts, frows);
+        let more = linked_children::handed_on(c, fstarts, frows);
         if row_tests::begins_with(list, more) {
             return row_tests::adds_own(n, m + 1, list, more.len(), own, work);
         }

@@ -19,7 +19,7 @@ use Rattle.job_laws.proofs.Starts.{start-at, start-within, column-at}
 use Rattle.job_laws.proofs.Passed.{PassedLists, lists-below}
 use Rattle.job_laws.proofs.Laid.{length-lists, lists-at, column-length}
 use Rattle.job_laws.proofs.Keys.{lists-fit}
-use Rattle.list_writer.specs.ListAt.{ListAt}
+use Rattle.gap_writer.specs.ListAt.{ListAt}
 
 -- the numbers of the columns behind the first k
 abbrev pub numbersFrom : ℕ → List ℕ → List ℕ → ℕ → List ℕ

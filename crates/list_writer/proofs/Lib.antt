@@ -1,4 +1,3 @@
-pub mod Rows
+pub mod Counted
 pub mod Runs
-pub mod Lows
 pub mod Columns

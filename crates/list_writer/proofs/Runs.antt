@@ -11,8 +11,8 @@ use Rattle.papers.specs.Lists.{Asc}
 use Rattle.papers.specs.Numbers.{encode}
 use Rattle.papers.specs.Key.{gapsOf}
 use Rattle.bytes_laws.proofs.Writing.{writes-numbers}
-use Rattle.list_writer.specs.ListAt.{ListAt}
-use Rattle.list_writer.proofs.Rows.{RowsLeft, WritesRows}
+use Rattle.gap_writer.specs.ListAt.{ListAt}
+use Rattle.gap_writer.proofs.Rows.{RowsLeft, WritesRows}
 
 -- the last row of a list, or the one before it
 abbrev lastOf : ℕ → List ℕ → ℕ

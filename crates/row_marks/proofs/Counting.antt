@@ -13,10 +13,11 @@ use Rattle.list_laws.proofs.Ascending.{asc-above, asc-distinct}
 use Rattle.list_laws.proofs.Merges.{nil-merge}
 use Rattle.fill_laws.proofs.Fill.{R-range, R-pattern}
 use Rattle.column_laws.proofs.Chains.{chain-end}
+use Rattle.linked_children.specs.Children.{Child, handedOn, Siblings}
+use Rattle.linked_children.proofs.Picking.{Further, further, siblings-ext}
 use Rattle.child_lists.specs.Marks.{marked, Markable, Changed}
-use Rattle.child_lists.specs.Children.{Child, handedOn, Siblings, Makes}
+use Rattle.child_lists.specs.Joining.{Makes}
 use Rattle.child_lists.proofs.Marks.{changed-none, changed-more, changed-marked}
-use Rattle.child_lists.proofs.Picking.{Further, further, siblings-ext}
 use Rattle.child_lists.proofs.Making.{makes-join, makes-end, makes-few}
 use Rattle.column_list.specs.Hung.{hung}
 use Rattle.column_list.specs.Stored.{Stored, Next}
@@ -68,7 +69,7 @@ module _ {n m : ℕ} {A : Pattern} {fs fr w : List ℕ} (good : Below n A) (l : 
       let many : length own ≡ 0 + length (newRows n (m + 1) w own) = rw (nil-merge own) at (marked-count none own tt own-asc) in
       record {
         left = hung A m (m + 1);
-        siblings = rw (change .links (m + 1) (omega arith)) (siblings-ext w₁ (siblings good next) change lw);
+        siblings = rw (change .links (m + 1) (omega arith)) (siblings-ext w₁ (siblings good next) (change .links) lw);
         ends = λ d t. found-child good next d t .ends;
         acc = own;
         makes = makes good next own own-asc (λ i t. rw o t) (λ i t. R-pattern good (m + 1) i (rw o at t));
@@ -125,7 +126,7 @@ module _ {n m : ℕ} {A : Pattern} {fs fr w₀ w : List ℕ} {c count : ℕ} (go
         count-turn =
             record {
               left = on .rest;
-              siblings = rw same-link (siblings-ext w₁ (on .siblings) change lw);
+              siblings = rw same-link (siblings-ext w₁ (on .siblings) (change .links) lw);
               ends = λ d t. s .ends d (rw (on .is) (List·Memᴰ·tail t));
               acc = merge (s .acc) more;
               makes = joined;

@@ -56,7 +56,12 @@ pub fn mark_column(
     let mut count = mark_new(n, m + 1, column_list::pattern_rows(m, starts, rows), work);
     let mut c = work[m + 1] as usize;
     while c != 0 {
-        count += mark_new(n, m + 1, child_lists::handed_on(c, fstarts, frows), work);
+        count += mark_new(
+            n,
+            m + 1,
+            linked_children::handed_on(c, fstarts, frows),
+            work,
+        );
         c = work[n + c] as usize;
     }
     count

@@ -1,6 +1,4 @@
-pub mod Sums
-pub mod Marking
-pub mod Climbs
+pub mod Counts
 pub mod RowEnds
 pub mod Buckets
 pub mod Filing

@@ -18,9 +18,11 @@ use Rattle.fill_laws.proofs.Fill.{R-asc, R-range}
 use Rattle.fill_laws.proofs.Parents.{parent-mem, parent-above}
 use Rattle.fill_laws.proofs.Subtrees.{under-le, row-subtree}
 use Rattle.column_laws.proofs.Places.{same-or}
-use Rattle.rows_needed.specs.Sums.{sumTo, under}
-use Rattle.rows_needed.specs.Row.{tally, Row, Between}
-use Rattle.rows_needed.proofs.Sums.{hit-yes, hit-no, sum-same, sum-bump, sum-none, sum-lengths, under-none, under-all, under-miss, under-hit}
+use Rattle.row_climb.specs.Sums.{sumTo, under}
+use Rattle.row_climb.specs.Row.{tally, Row}
+use Rattle.row_climb.proofs.Sums.{hit-yes, hit-no, sum-same, sum-bump}
+use Rattle.rows_needed.specs.Walk.{Between}
+use Rattle.rows_needed.proofs.Counts.{sum-none, sum-lengths, under-none, under-all, under-miss, under-hit}
 
 -- row i is begun: its own column is marked
 pub opened : {n i t : ℕ} {A : Pattern} {p w : List ℕ} → Between n i A p w t → 1 ≤ i → i ≤ n → n < length w → Row n i A p (set w i i) t i

@@ -15,9 +15,8 @@ use Rattle.papers.specs.Fill.{R}
 use Rattle.column_laws.specs.Tested.{Tested}
 use Rattle.column_laws.proofs.Places.{zero-at, same-or}
 use Rattle.column_laws.proofs.Columns.{tested-below, starts-long, starts-rise, row-range}
-use Rattle.rows_needed.specs.Row.{Between}
 use Rattle.rows_needed.specs.Buckets.{Points, UpTo, Bucket, Buckets, filed}
-use Rattle.rows_needed.specs.Walk.{Filing, Walk, Begun}
+use Rattle.rows_needed.specs.Walk.{Filing, Between, Walk, Begun}
 use Rattle.rows_needed.proofs.RowEnds.{opened, row-done, first-row, last-row}
 use Rattle.rows_needed.proofs.Buckets.{points-ext, buckets-ext, none-left, next-row, leaf-points}
 use Rattle.rows_needed.proofs.Filing.{New}

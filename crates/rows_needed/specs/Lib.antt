@@ -1,4 +1,2 @@
-pub mod Sums
-pub mod Row
 pub mod Buckets
 pub mod Walk

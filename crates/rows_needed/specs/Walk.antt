@@ -6,9 +6,11 @@ use mathlib.Core.Logic.{_⊎_}
 use mathlib.Core.List.{List}
 use lib.ListN.{length, getD}
 use Rattle.papers.specs.Lists.{_∈_}
-use Rattle.papers.specs.Job.{columnOf}
+use Rattle.papers.specs.Job.{Pattern, columnOf}
+use Rattle.papers.specs.Fill.{R}
 use Rattle.column_laws.specs.Tested.{Tested}
-use Rattle.rows_needed.specs.Row.{Row}
+use Rattle.row_climb.specs.Sums.{sumTo, under}
+use Rattle.row_climb.specs.Row.{Known, Row}
 use Rattle.rows_needed.specs.Buckets.{Points, UpTo, Buckets}
 
 -- column c can be filed with q as the place of its next row
@@ -17,6 +19,12 @@ pub record Filing (n c q : ℕ) (starts rows work : List ℕ) : Type 0 where
   pub started : c < length starts
   pub row : q < getD starts c 0 → (q < length rows) × (getD rows q 0 ≤ n)
   pub long : n + n + n + n < length work
+
+-- before row i: the rows below i are counted, and no column is marked for it
+pub record Between (n i : ℕ) (A : Pattern) (parents work : List ℕ) (t : ℕ) : Type 0 where
+  pub known : Known n i A parents
+  pub sum : sumTo n (λ c. under i (R A c)) ≡ t
+  pub low : (c : ℕ) → 1 ≤ c → c ≤ n → getD work c 0 < i
 
 -- the columns at row i, from c on, are still to do; each other column that has the row in its pattern is marked
 pub record Walk (n i : ℕ) (starts rows parents work : List ℕ) (t c : ℕ) : Type 0 where

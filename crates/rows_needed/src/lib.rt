@@ -9,31 +9,8 @@ ghost use Rattle.papers.specs.Job.{columnOf};
 ghost use Rattle.papers.specs.Key.{listsOf};
 ghost use Rattle.papers.specs.Fill.{R};
 ghost use Rattle.column_laws.specs.Tested.{Tested};
-ghost use Rattle.rows_needed.specs.Row.{Climbing, Climbed};
 ghost use Rattle.rows_needed.specs.Buckets.{filed};
 ghost use Rattle.rows_needed.specs.Walk.{Filing, Walk, Begun, Lengths};
-
-// Climbs from column k, which has row i, from parent to parent up to a column that is marked for row i. Marks and counts each column on the
-// way: all of them have row i. A column without a parent so far has row i as its parent.
-pub fn climb(i: usize, k: usize, count: u64, parents: &mut [u32], work: &mut [u64]) -> u64
-    requires { ⌜ Climbing i k (now parents) (now work) count ⌝ }
-    ensures { λ r. ⌜ Climbed i k (now (parents .entry)) (now (work .entry)) count (now (parents .exit)) (now (work .exit)) r ⌝ }
-{
-    let mut c = k;
-    let mut t = count;
-    while work[c] != i as u64 {
-        work[c] = i as u64;
-        t += 1;
-        let p = parents[c - 1];
-        if p == 0 {
-            parents[c - 1] = i as u32;
-            c = i;
-        } else {
-            c = p as usize;
-        }
-    }
-    t
-}
 
 // Files column c, with q as the place of its next pattern row, in the bucket of that row, if it has one.
 pub fn file(n: usize, c: usize, q: u64, starts: &[u64], rows: &[u32], work: &mut [u64])
@@ -65,7 +42,7 @@ pub fn walk(
     let mut t = count;
     while c != 0 {
         let next = work[n + n + c] as usize;
-        t = climb(i, c, t, parents, work);
+        t = row_climb::climb(i, c, t, parents, work);
         let q = work[n + n + n + c] + 1;
         file(n, c, q, starts, rows, work);
         c = next;

@@ -5,7 +5,7 @@ use native.Mathlib.Omega.{arith}
 use lib.Seq.{slice}
 use borrow.Author.Needs.{needs}
 use Rattle.papers.specs.Key.{gapsOf}
-use Rattle.list_writer.proofs.Rows.{RowsLeft, rows-all, gaps-next, row-above, rows-next, gaps-none}
+use Rattle.gap_writer.proofs.Rows.{RowsLeft, rows-all, gaps-next, row-above, rows-next, gaps-none}
 use Rattle.key_match.proofs.Numbers.{Left, left-all, left-number, differs-number, left-none}
 use Rattle.key_match.proofs.match_gaps.Statement.{statement}
 use Rattle.key_match.proofs.match_gaps.Tie as tie

@@ -1,7 +1,7 @@
 -- A list's numbers are its count and, behind it, its gaps.
 -- Assumes nothing.
 use borrow.Author.Needs.{needs}
-use Rattle.list_writer.proofs.Rows.{list-is}
+use Rattle.list_writer.proofs.Counted.{list-is}
 use Rattle.key_match.proofs.Numbers.{left-all, left-number, differs-number, left-last}
 use Rattle.key_match.proofs.match_list.Statement.{statement}
 use Rattle.key_match.proofs.match_list.Tie as tie

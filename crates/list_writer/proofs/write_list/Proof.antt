@@ -6,7 +6,8 @@ use mathlib.Core.Path.{refl}
 use native.Mathlib.Omega.{arith}
 use borrow.Author.Needs.{needs}
 use Rattle.bytes_laws.proofs.Numbers.{bytes-length}
-use Rattle.list_writer.proofs.Rows.{WritesRows, gaps-start, place-near, list-stop}
+use Rattle.gap_writer.proofs.Rows.{WritesRows, gaps-start, place-near}
+use Rattle.list_writer.proofs.Counted.{list-stop}
 use Rattle.list_writer.proofs.Runs.{run-list, run-turn}
 use Rattle.list_writer.proofs.write_list.Statement.{statement}
 use Rattle.list_writer.proofs.write_list.Tie as tie

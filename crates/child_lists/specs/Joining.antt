@@ -1,0 +1,42 @@
+-- The list that a column's rows and those its children hand on make, and the state before and after the children are joined.
+-- Assumes nothing.
+use Prim.Native.Nat.{ℕ, _+_, _<_, _≤_}
+use mathlib.Core.Path.{_≡_}
+use mathlib.Core.Logic.{_⊎_}
+use mathlib.Core.List.{List}
+use lib.ListN.{length, getD, take}
+use Rattle.papers.specs.Lists.{_∈_, Asc}
+use Rattle.linked_children.specs.Children.{handedOn, Siblings}
+use Rattle.child_lists.specs.Marks.{Sound, Changed}
+use Rattle.child_lists.specs.Buffers.{held}
+
+-- acc and what the children hand on make the ascending list whole
+pub record Makes (j : ℕ) (hands : ℕ → List ℕ) (children acc whole : List ℕ) : Type 0 where
+  pub asc : Asc j acc
+  pub asc-whole : Asc j whole
+  pub asc-hands : (d : ℕ) → d ∈ children → Asc j (hands d)
+  pub acc-in : (i : ℕ) → i ∈ acc → i ∈ whole
+  pub hands-in : (d i : ℕ) → d ∈ children → i ∈ hands d → i ∈ whole
+  pub made : (i : ℕ) → i ∈ whole → (i ∈ acc) ⊎ ((d : ℕ) × ((d ∈ children) × (i ∈ hands d)))
+
+-- the list of column j is begun in x, its rows are marked, and the children from c on are to be joined to it
+pub record Begun (n j c len : ℕ) (fstarts frows work x y children whole : List ℕ) : Type 0 where
+  pub siblings : Siblings n c fstarts work children
+  pub ends : (d : ℕ) → d ∈ children → getD fstarts d 0 ≤ length frows
+  pub makes : Makes j (handedOn fstarts frows) children (take len x) whole
+  pub most : (i : ℕ) → i ∈ whole → i ≤ n
+  pub few : len ≤ length x
+  pub sound : Sound n j work (take len x)
+  pub room-x : n ≤ length x
+  pub room-y : n ≤ length y
+  pub room-work : n + n + n < length work
+
+pub record Joining (n j c len : ℕ) (fstarts frows work x y : List ℕ) : Type 0 where
+  pub children : List ℕ
+  pub whole : List ℕ
+  pub begun : Begun n j c len fstarts frows work x y children whole
+
+-- the list of column j is held in the buffers; of work only marks have changed, to j
+pub record Joined (n j c len₀ : ℕ) (fstarts frows work₀ x₀ y₀ : List ℕ) (turn len : ℕ) (work x y : List ℕ) : Type 0 where
+  pub list : (children whole : List ℕ) → Begun n j c len₀ fstarts frows work₀ x₀ y₀ children whole → (len ≡ length whole) × (held turn len x y ≡ whole)
+  pub changed : Changed n j work₀ work

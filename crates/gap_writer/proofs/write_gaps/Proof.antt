@@ -1,0 +1,71 @@
+-- The invariant: storing the gaps of the rows from i on at next leaves what storing all of them leaves. The measure is the rows left.
+-- Assumes nothing.
+use Prim.Native.Nat.{_-_}
+use mathlib.Core.Path.{refl}
+use native.Mathlib.Omega.{arith}
+use borrow.Author.Needs.{needs}
+use Rattle.gap_writer.proofs.Rows.{WritesRows, row-above, row-within, gaps-start, place-near, write-turn, gaps-stop}
+use Rattle.gap_writer.proofs.write_gaps.Statement.{statement}
+use Rattle.gap_writer.proofs.write_gaps.Tie as tie
+
+abbrev Inv-loop : tie.InvT-loop
+Inv-loop rows from to b bytes₀ at next₀ before₀ i₀ bytes next before i = WritesRows b rows from to bytes₀ at bytes next before i
+
+abbrev μ-loop : tie.MeasureT-loop
+μ-loop rows from to b bytes₀ at next₀ before₀ i₀ bytes next before i = to - i
+
+loop-holds : tie.Need-loop-holds Inv-loop μ-loop
+loop-holds c = gaps-start (c .before .before .pre .0)
+
+mul-row : tie.Need-mul-row Inv-loop μ-loop
+mul-row c = search needs
+
+shared-slice-read-row : tie.Need-shared-slice-read-row Inv-loop μ-loop
+shared-slice-read-row c = search needs
+
+sub-put : tie.Need-sub-put Inv-loop μ-loop
+sub-put c = omega (arith, row-above (c .before .before .before .loop .inv .rows-left) (c .before .before .loop-test .taken) refl)
+
+cast-put : tie.Need-cast-put Inv-loop μ-loop
+cast-put c = omega (arith, row-within (c .before .before .before .loop .inv .rows-left) (c .before .before .loop-test .taken) refl)
+
+put-requires : tie.Need-put-requires Inv-loop μ-loop
+put-requires c κs =
+    let loop = c .before .before .before .loop in
+    let entry = c .before .before .before .before .before .before .pre in
+    (omega (arith, row-within (loop .inv .rows-left) (c .before .before .loop-test .taken) refl), omega (arith, place-near (loop .inv) (entry .0), entry .1))
+
+add-i : tie.Need-add-i Inv-loop μ-loop
+add-i c = search needs
+
+loop-less : tie.Need-loop-less Inv-loop μ-loop
+loop-less c = search needs
+
+loop-again : tie.Need-loop-again Inv-loop μ-loop
+loop-again c =
+    let put = c .before .before .put in
+    write-turn (c .before .before .before .before .before .before .loop .inv) (c .before .before .before .before .before .loop-test .taken) refl (put .ensures .0) (put .ensures .1)
+
+same-length : tie.Need-same-length Inv-loop μ-loop
+same-length c = search needs
+
+returns : tie.Need-returns Inv-loop μ-loop
+returns c = gaps-stop (c .before .loop .inv) (c .loop-test .left)
+
+pub write-gaps-spec : {M : Type 1} → statement M
+write-gaps-spec =
+    tie.close
+    (tie.spec
+    Inv-loop
+    μ-loop
+    loop-holds
+    mul-row
+    shared-slice-read-row
+    sub-put
+    cast-put
+    put-requires
+    add-i
+    loop-less
+    loop-again
+    same-length
+    returns)

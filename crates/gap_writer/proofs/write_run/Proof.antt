@@ -1,0 +1,61 @@
+-- Below 128 the low bytes are the bytes of the gaps; else the gaps are written over them.
+-- Assumes nothing.
+use native.Mathlib.Omega.{arith}
+use borrow.Author.Needs.{needs}
+use Rattle.gap_writer.proofs.Lows.{run-short, run-over}
+use Rattle.gap_writer.proofs.write_run.Statement.{statement}
+use Rattle.gap_writer.proofs.write_run.Tie as tie
+
+sub-end : tie.Need-sub-end
+sub-end c = search needs
+
+add-end : tie.Need-add-end
+add-end c = search needs
+
+write-gaps-requires : tie.Need-write-gaps-requires
+write-gaps-requires c κs = c .before .before .before .before .pre
+
+same-length : tie.Need-same-length
+same-length c = search needs
+
+returns : tie.Need-returns
+returns c = c .before .before .write-gaps .ensures
+
+low-bytes-requires : tie.Need-low-bytes-requires
+low-bytes-requires c κs = (c .before .before .before .before .pre .0, omega (arith, c .before .if1 .left))
+
+same-length-2 : tie.Need-same-length-2
+same-length-2 c = search needs
+
+returns-2 : tie.Need-returns-2
+returns-2 c =
+    let entry = c .before .before .before .before .before .before .before .before in
+    run-short (entry .pre .0) _ (entry .args .at) (c .before .before .before .low-bytes .ensures) (c .if2 .taken)
+
+write-gaps-requires-2 : tie.Need-write-gaps-requires-2
+write-gaps-requires-2 c κs = c .before .before .before .before .before .before .before .before .before .pre
+
+same-length-3 : tie.Need-same-length-3
+same-length-3 c = search needs
+
+returns-3 : tie.Need-returns-3
+returns-3 c =
+    let entry = c .before .before .before .before .before .before .before .before .before .before .before .before in
+    let gaps = c .before .before .write-gaps2 .ensures in
+    (gaps .0, run-over (entry .pre .0) _ (entry .args .at) (c .before .before .before .before .before .before .before .low-bytes .ensures) (gaps .1))
+
+pub write-run-spec : {M : Type 1} → statement M
+write-run-spec =
+    tie.close
+    (tie.spec
+    sub-end
+    add-end
+    write-gaps-requires
+    same-length
+    returns
+    low-bytes-requires
+    same-length-2
+    returns-2
+    write-gaps-requires-2
+    same-length-3
+    returns-3)

@@ -1,0 +1,40 @@
+-- Children listed by links in work, and the rows that each hands on.
+-- Assumes nothing.
+use Prim.Native.Nat.{ℕ, suc, _+_, _-_, _<_, _≤_}
+use mathlib.Core.Logic.{_≢_}
+use mathlib.Core.List.{List}
+use lib.ListN.{length, getD}
+use Rattle.papers.specs.Lists.{_∈_}
+use Rattle.column_laws.specs.Chains.{Chain, Desc, part}
+
+-- the rows of column c in the lists stored
+abbrev pub rowsOf : List ℕ → ℕ → ℕ
+rowsOf fstarts c = getD fstarts c 0 - getD fstarts (c - 1) 0
+
+-- the rows that column c hands on: its list but the least
+abbrev pub handedOn : List ℕ → List ℕ → ℕ → List ℕ
+handedOn fstarts frows c = part (getD fstarts (c - 1) 0 + 1) (getD fstarts c 0) frows
+
+-- a column with a list of at least one row
+pub record Child (fstarts : List ℕ) (c : ℕ) : Type 0 where
+  pub first : 1 ≤ c
+  pub started : c < length fstarts
+  pub begins : getD fstarts (c - 1) 0 < getD fstarts c 0
+
+-- children, linked from c on at n in work, the later ones first
+pub record Siblings (n c : ℕ) (fstarts work children : List ℕ) : Type 0 where
+  pub chain : Chain work n c children
+  pub desc : Desc (suc c) children
+  pub each : (d : ℕ) → d ∈ children → Child fstarts d
+  pub most : (d : ℕ) → d ∈ children → d ≤ n
+  pub links : n + n < length work
+
+-- some list of children is linked from c on
+pub record Linked (n c : ℕ) (fstarts work : List ℕ) : Type 0 where
+  pub children : List ℕ
+  pub siblings : Siblings n c fstarts work children
+
+-- b is one of the children linked from c on, and none of them has more rows
+abbrev pub Longest : ℕ → ℕ → List ℕ → List ℕ → ℕ → Type 0
+Longest n c fstarts work b =
+    (children : List ℕ) → Chain work n c children → c ≢ 0 → (b ∈ children) × ((d : ℕ) → d ∈ children → rowsOf fstarts d ≤ rowsOf fstarts b)

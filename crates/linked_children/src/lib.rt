@@ -1,0 +1,38 @@
+// A column's children, linked in work: the rows that each hands on, and the child with the most rows.
+// In work the first child of column j stands at j, and the sibling behind column c at n + c.
+ghost use mathlib.Core.Path.{_≡_};
+ghost use Prim.Native.Nat.{_≤_};
+ghost use lib.ListN.{length, getD};
+ghost use Rattle.linked_children.specs.Children.{Child, handedOn, Linked, Longest};
+
+// The rows that column c hands on to its parent: its list but the least row, which is the parent.
+pub fn handed_on<'a>(c: usize, fstarts: &[u64], frows: &'a [u32]) -> &'a [u32]
+    requires child { ⌜ Child (now fstarts) c ⌝ }
+    requires stored { ⌜ getD (now fstarts) c 0 ≤ length (now frows) ⌝ }
+    ensures { λ r. ⌜ now r ≡ handedOn (now (fstarts .entry)) (now (frows .entry)) c ⌝ }
+{
+    let s = fstarts[c - 1] as usize;
+    let e = fstarts[c] as usize;
+    &frows[s + 1..e]
+}
+
+// The child with the most rows of those linked from c on. Of those before d none has more than best.
+pub fn longest(n: usize, c: usize, fstarts: &[u64], work: &[u64]) -> usize
+    requires { ⌜ Linked n c (now fstarts) (now work) ⌝ }
+    ensures { λ r. ⌜ Longest n c (now (fstarts .entry)) (now (work .entry)) r ⌝ }
+{
+    let mut best = c;
+    let mut most = 0;
+    let mut d = c;
+    while d != 0 {
+        let rows = fstarts[d] - fstarts[d - 1];
+        if most < rows {
+            best = d;
+            most = rows;
+            d = work[n + d] as usize;
+        } else {
+            d = work[n + d] as usize;
+        }
+    }
+    best
+}

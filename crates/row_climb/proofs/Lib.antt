@@ -1,0 +1,3 @@
+pub mod Sums
+pub mod Marking
+pub mod Climbs
