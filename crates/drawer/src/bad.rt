@@ -1,6 +1,6 @@
 // Bad jobs, with their refusals worked out by hand. Each leaves all lent slices untouched.
-use analysis_call::Lengths;
-use analysis_call::wrong_in_call;
+use super::call::Lengths;
+use super::call::wrong_in_call;
 use elimination::grid::less;
 use elimination::sheet;
 use elimination::sheet::Sheet;

@@ -1,6 +1,7 @@
 // Holds the analysis against an elimination apart from it: patterns of up to 24 columns in many shapes, every mark, limits about the peak, factor
 // slices about the rows needed, slices lent too short, the paper's bench pieces, and bad jobs. Number, place, count and every place of the six slices
 // are compared. Prints a tally by right answers; a case with anything wrong is named in it by its seed and its choice of limit and lengths.
+mod call; // call.rt: one call, compared
 mod cases; // cases.rt: a pattern under a mark
 mod bench; // bench.rt: bench pieces
 mod bad; // bad.rt: bad jobs
