@@ -6,9 +6,14 @@ mod cases; // cases.rt: a pattern under a mark
 mod bench; // bench.rt: bench pieces
 mod bad; // bad.rt: bad jobs
 
+use case_lines::line;
+use case_lines::line::Numbers;
 use drawn_lists::shapes;
 use elimination::grid::Grid;
 use tallies::Tally;
+
+// How many lines of the input are bad jobs. Those after them are bench pieces.
+const JOBS: usize = 32;
 
 // Once in how many a random row is put into a pattern: two kinds are random only, the others get a few in later rounds.
 fn odds(kind: usize, round: usize) -> usize {
@@ -50,10 +55,28 @@ fn hold_drawn(tally: &mut Tally, seeds: usize) {
     }
 }
 
+fn hold_line(tally: &mut Tally, numbers: &Numbers, line: usize) {
+    if line < JOBS {
+        bad::hold(tally, numbers, line);
+        return;
+    }
+    bench::hold(tally, numbers);
+}
+
+// The jobs and pieces of all lines, but not of more than `most`.
+fn hold_lines(tally: &mut Tally, most: usize) {
+    let mut numbers = [0u64; 4096];
+    for k in 0..most {
+        if !line::next(&mut numbers) {
+            return;
+        }
+        hold_line(tally, &numbers, k);
+    }
+}
+
 fn main() {
     let mut tally = [0u64; 32];
-    bad::all(&mut tally);
-    bench::all(&mut tally);
+    hold_lines(&mut tally, 1000);
     hold_drawn(&mut tally, 800);
     tallies::print(
         &tally,
