@@ -1,9 +1,11 @@
 // A case as numbers, and where its parts stand among them. Places wrap, so every number is a place.
 ghost use Prim.Native.Nat.{_≤_};
+use papers::Answer;
+use papers::JobHead;
 
 pub type Numbers = [u64; 4096];
 
-// The answer that is right.
+// The number, the place and the count of the answer that is right.
 pub const RIGHT: usize = 3;
 
 // The counts of the nine lists: given starts, rows and plan bytes, then the result in each of the six lent slices.
@@ -26,6 +28,22 @@ const SLICES: usize = 3;
 
 pub fn at(numbers: &Numbers, place: usize) -> u64 {
     numbers[place % 4096]
+}
+
+pub fn head(numbers: &Numbers) -> JobHead {
+    JobHead {
+        n: at(numbers, 0),
+        mark: at(numbers, 1),
+        limit: at(numbers, 2),
+    }
+}
+
+pub fn right(numbers: &Numbers) -> Answer {
+    Answer {
+        number: at(numbers, RIGHT),
+        place: at(numbers, RIGHT + 1),
+        count: at(numbers, RIGHT + 2),
+    }
 }
 
 // The sum of two numbers below a million.
@@ -71,7 +89,7 @@ fn followed(number: u64, digit: u8) -> u64 {
 }
 
 // How many bytes come after the five digits and the space that a line begins with.
-pub fn length(head: &[u8; 6]) -> usize
+fn length(head: &[u8; 6]) -> usize
     ensures { λ r. ⌜ r ≤ 8192 ⌝ }
 {
     let mut number = 0;
@@ -82,7 +100,7 @@ pub fn length(head: &[u8; 6]) -> usize
 }
 
 // The numbers of a text in which each number ends with a space or a newline.
-pub fn decode(text: &[u8; 8192], length: usize, numbers: &mut Numbers) {
+fn decode(text: &[u8; 8192], length: usize, numbers: &mut Numbers) {
     let mut place = 0;
     let mut number = 0;
     for i in 0..length {
@@ -95,4 +113,17 @@ pub fn decode(text: &[u8; 8192], length: usize, numbers: &mut Numbers) {
             number = followed(number, byte);
         }
     }
+}
+
+// Reads the next line of the input, into numbers. Answers whether there was one.
+pub fn next(numbers: &mut Numbers) -> bool {
+    let mut head = [0u8; 6];
+    if io::read_full(0, &mut head) < 6 {
+        return false;
+    }
+    let length = length(&head);
+    let mut text = [0u8; 8192];
+    io::read_full(0, &mut text[..length]);
+    decode(&text, length, numbers);
+    true
 }

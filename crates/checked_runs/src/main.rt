@@ -2,12 +2,14 @@
 // each of these plans under the key of every mark, so that the check also passes orders that its mark would not give. In the peak a run answers what the
 // check did; in one less it is refused 23, where and with what count a simulation says. Prints a tally; a plan with anything wrong is named in it by the
 // seed of its pattern and the key that it was checked under.
-use checked_plans::Plan;
+mod plans; // plans.rt: plans written and checked
+
 use elimination::fill;
 use elimination::sheet;
 use elimination::sheet::Sheet;
 use elimination::sheet::set;
 use papers::Answer;
+use plans::Plan;
 use tallies::Tally;
 
 // Places of the tally: plans that passed the check, runs in the peak that were done, runs in one less that were refused 23, and all peaks together.
@@ -44,7 +46,7 @@ fn hold_runs(tally: &mut Tally, case: &mut Sheet, checked: Answer, seed: u64, ke
 // A plan of so many bytes under the key of a mark has to pass the check.
 fn hold_plan(tally: &mut Tally, job: &Sheet, plan: &Plan, count: u64, key: u8, seed: u64) {
     let mut case = [0usize; 10200];
-    let checked = checked_plans::check(&mut case, job, plan, count, key);
+    let checked = plans::check(&mut case, job, plan, count, key);
     tallies::tell(tally, CHECKED, checked.number as usize, seed, key as u64);
     if checked.number == 0 {
         tallies::count(tally, PEAKS, checked.count);
@@ -55,7 +57,7 @@ fn hold_plan(tally: &mut Tally, job: &Sheet, plan: &Plan, count: u64, key: u8, s
 // The plan of a mark, under the key of each.
 fn hold_mark(tally: &mut Tally, job: &Sheet, mark: u8, seed: u64) {
     let mut plan = [0u8; 1024];
-    let count = checked_plans::write(job, mark, &mut plan);
+    let count = plans::write(job, mark, &mut plan);
     for key in 0..3 {
         hold_plan(tally, job, &plan, count, key, seed);
     }

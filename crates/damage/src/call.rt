@@ -1,7 +1,6 @@
 // One call of the check, compared with what it has to do.
 use case_lines::line;
 use case_lines::line::Numbers;
-use case_lines::line::at;
 use case_lines::sheet;
 use case_lines::sheet::BEFORE;
 use case_lines::sheet::Longs;
@@ -10,7 +9,6 @@ use case_lines::sheet::plus;
 use case_lines::sheet::wrong32;
 use case_lines::sheet::wrong64;
 use papers::Answer;
-use papers::JobHead;
 use tallies::Tally;
 
 // What a call answered, and in how many places the answer and the slices are wrong.
@@ -19,24 +17,16 @@ struct Found {
     wrong: u64,
 }
 
-fn head(numbers: &Numbers) -> JobHead {
-    JobHead {
-        n: at(numbers, 0),
-        mark: at(numbers, 1),
-        limit: at(numbers, 2),
-    }
-}
-
-// How many of number, place and count differ from the right ones.
-fn wrong_answer(numbers: &Numbers, found: Answer) -> u64 {
+// How many of number, place and count differ.
+fn wrong_answer(found: Answer, right: Answer) -> u64 {
     let mut wrong = 0;
-    if found.number != at(numbers, line::RIGHT) {
+    if found.number != right.number {
         wrong = plus(wrong, 1);
     }
-    if found.place != at(numbers, line::RIGHT + 1) {
+    if found.place != right.place {
         wrong = plus(wrong, 1);
     }
-    if found.count != at(numbers, line::RIGHT + 2) {
+    if found.count != right.count {
         wrong = plus(wrong, 1);
     }
     wrong
@@ -79,7 +69,7 @@ fn call(numbers: &Numbers, starts: &[u64], rows: &[u32], plan: &[u8]) -> Found {
     let e = line::lent(numbers, 4) % 513;
     let f = line::lent(numbers, 5) % 1153;
     let answer = checker::check_plan(
-        head(numbers),
+        line::head(numbers),
         starts,
         rows,
         plan,
@@ -90,7 +80,7 @@ fn call(numbers: &Numbers, starts: &[u64], rows: &[u32], plan: &[u8]) -> Found {
         &mut frows[..e],
         &mut work[..f],
     );
-    let x = wrong_answer(numbers, answer);
+    let x = wrong_answer(answer, line::right(numbers));
     let y = wrong_words(numbers, &parents, &order, &pops, &frows);
     let z = wrong_longs(numbers, &fstarts, &work);
     Found {

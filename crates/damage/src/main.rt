@@ -5,30 +5,16 @@
 mod call; // call.rt: one call, compared
 
 use case_lines::line;
-use case_lines::line::Numbers;
 use tallies::Tally;
-
-// Holds the case of the next line, by way of a buffer for its numbers. Answers whether there was one.
-fn hold_next(tally: &mut Tally, numbers: &mut Numbers) -> bool {
-    let mut head = [0u8; 6];
-    if io::read_full(0, &mut head) < 6 {
-        return false;
-    }
-    let length = line::length(&head);
-    let mut text = [0u8; 8192];
-    io::read_full(0, &mut text[..length]);
-    line::decode(&text, length, numbers);
-    call::hold(tally, numbers);
-    true
-}
 
 // Holds the cases of all lines, but not of more than `most`.
 fn hold_all(tally: &mut Tally, most: usize) {
     let mut numbers = [0u64; 4096];
     for _ in 0..most {
-        if !hold_next(tally, &mut numbers) {
+        if !line::next(&mut numbers) {
             return;
         }
+        call::hold(tally, &numbers);
     }
 }
 

@@ -1,7 +1,7 @@
 // A pattern under a mark: what the elimination says of it, and the calls that are held against that. All of it is in a sheet: the lists of the fill, the
 // plan, as its room the peak, and in its head the mark and the seed by which the pattern is named.
-use analysis_call::Lengths;
-use analysis_call::wrong_in_call;
+use super::call::Lengths;
+use super::call::wrong_in_call;
 use drawn_lists::shapes;
 use elimination::fill;
 use elimination::grid::Grid;

@@ -1,13 +1,19 @@
 // Holds the analysis against an elimination apart from it: patterns of up to 24 columns in many shapes, every mark, limits about the peak, factor
 // slices about the rows needed, slices lent too short, the paper's bench pieces, and bad jobs. Number, place, count and every place of the six slices
 // are compared. Prints a tally by right answers; a case with anything wrong is named in it by its seed and its choice of limit and lengths.
+mod call; // call.rt: one call, compared
 mod cases; // cases.rt: a pattern under a mark
 mod bench; // bench.rt: bench pieces
 mod bad; // bad.rt: bad jobs
 
+use case_lines::line;
+use case_lines::line::Numbers;
 use drawn_lists::shapes;
 use elimination::grid::Grid;
 use tallies::Tally;
+
+// How many lines of the input are bad jobs. Those after them are bench pieces.
+const JOBS: usize = 32;
 
 // Once in how many a random row is put into a pattern: two kinds are random only, the others get a few in later rounds.
 fn odds(kind: usize, round: usize) -> usize {
@@ -49,10 +55,28 @@ fn hold_drawn(tally: &mut Tally, seeds: usize) {
     }
 }
 
+fn hold_line(tally: &mut Tally, numbers: &Numbers, line: usize) {
+    if line < JOBS {
+        bad::hold(tally, numbers, line);
+        return;
+    }
+    bench::hold(tally, numbers);
+}
+
+// The jobs and pieces of all lines, but not of more than `most`.
+fn hold_lines(tally: &mut Tally, most: usize) {
+    let mut numbers = [0u64; 4096];
+    for k in 0..most {
+        if !line::next(&mut numbers) {
+            return;
+        }
+        hold_line(tally, &numbers, k);
+    }
+}
+
 fn main() {
     let mut tally = [0u64; 32];
-    bad::all(&mut tally);
-    bench::all(&mut tally);
+    hold_lines(&mut tally, 1000);
     hold_drawn(&mut tally, 800);
     tallies::print(
         &tally,

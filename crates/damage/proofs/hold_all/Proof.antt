@@ -14,11 +14,14 @@ abbrev μ-loop : tie.MeasureT-loop
 loop-holds : tie.Need-loop-holds Inv-loop μ-loop
 loop-holds c = tt
 
-hold-next-requires : tie.Need-hold-next-requires Inv-loop μ-loop
-hold-next-requires c κs = tt
+next-requires : tie.Need-next-requires Inv-loop μ-loop
+next-requires c κs = tt
 
 returns : tie.Need-returns Inv-loop μ-loop
 returns c = tt
+
+hold-requires : tie.Need-hold-requires Inv-loop μ-loop
+hold-requires c κs = tt
 
 add-counter : tie.Need-add-counter Inv-loop μ-loop
 add-counter c = omega arith
@@ -39,8 +42,9 @@ hold-all-spec =
     Inv-loop
     μ-loop
     loop-holds
-    hold-next-requires
+    next-requires
     returns
+    hold-requires
     add-counter
     loop-less
     loop-again

@@ -13,25 +13,25 @@ cast-work : tie.Need-cast-work
 cast-work c = search needs
 
 lent-requires : tie.Need-lent-requires
-lent-requires c κs = search needs
+lent-requires c κs = tt
 
 lent-requires-2 : tie.Need-lent-requires-2
-lent-requires-2 c κs = search needs
+lent-requires-2 c κs = tt
 
 lent-requires-3 : tie.Need-lent-requires-3
-lent-requires-3 c κs = search needs
+lent-requires-3 c κs = tt
 
 lent-requires-4 : tie.Need-lent-requires-4
-lent-requires-4 c κs = search needs
+lent-requires-4 c κs = tt
 
 lent-requires-5 : tie.Need-lent-requires-5
-lent-requires-5 c κs = search needs
+lent-requires-5 c κs = tt
 
 lent-requires-6 : tie.Need-lent-requires-6
-lent-requires-6 c κs = search needs
+lent-requires-6 c κs = tt
 
 head-requires : tie.Need-head-requires
-head-requires c κs = search needs
+head-requires c κs = tt
 
 array-borrow-prefix-parents : tie.Need-array-borrow-prefix-parents
 array-borrow-prefix-parents c = search needs
@@ -70,25 +70,28 @@ slice-aggregate-check-plan-6 : tie.Need-slice-aggregate-check-plan-6
 slice-aggregate-check-plan-6 c = simp length-take (omega arith)
 
 check-plan-requires : tie.Need-check-plan-requires
-check-plan-requires c κs = search needs
+check-plan-requires c κs = tt
+
+right-requires : tie.Need-right-requires
+right-requires c κs = tt
 
 wrong-answer-requires : tie.Need-wrong-answer-requires
-wrong-answer-requires c κs = search needs
+wrong-answer-requires c κs = tt
 
 wrong-words-requires : tie.Need-wrong-words-requires
-wrong-words-requires c κs = search needs
+wrong-words-requires c κs = tt
 
 wrong-longs-requires : tie.Need-wrong-longs-requires
-wrong-longs-requires c κs = search needs
+wrong-longs-requires c κs = tt
 
 plus-requires : tie.Need-plus-requires
-plus-requires c κs = search needs
+plus-requires c κs = tt
 
 plus-requires-2 : tie.Need-plus-requires-2
-plus-requires-2 c κs = search needs
+plus-requires-2 c κs = tt
 
 returns : tie.Need-returns
-returns c = search needs
+returns c = tt
 
 pub call-spec : {M : Type 1} → statement M
 call-spec =
@@ -116,6 +119,7 @@ call-spec =
     array-borrow-prefix-work
     slice-aggregate-check-plan-6
     check-plan-requires
+    right-requires
     wrong-answer-requires
     wrong-words-requires
     wrong-longs-requires

@@ -6,47 +6,35 @@ use borrow.Author.Needs.{needs}
 use Rattle.drawer.proofs.bad.hold.Statement.{statement}
 use Rattle.drawer.proofs.bad.hold.Tie as tie
 
-write-job-requires : tie.Need-write-job-requires
-write-job-requires c κs = tt
-
 longs-requires : tie.Need-longs-requires
 longs-requires c κs = tt
 
 words-requires : tie.Need-words-requires
 words-requires c κs = tt
 
-part-requires : tie.Need-part-requires
-part-requires c κs = tt
+count-requires : tie.Need-count-requires
+count-requires c κs = tt
 
-part-requires-2 : tie.Need-part-requires-2
-part-requires-2 c κs = tt
-
-part-requires-3 : tie.Need-part-requires-3
-part-requires-3 c κs = tt
-
-lengths-requires : tie.Need-lengths-requires
-lengths-requires c κs = tt
-
-refusal-requires : tie.Need-refusal-requires
-refusal-requires c κs = tt
-
-head-requires : tie.Need-head-requires
-head-requires c κs = tt
+count-requires-2 : tie.Need-count-requires-2
+count-requires-2 c κs = tt
 
 array-share-prefix-starts : tie.Need-array-share-prefix-starts
 array-share-prefix-starts c = search needs
 
-slice-aggregate-wrong-in-call : tie.Need-slice-aggregate-wrong-in-call
-slice-aggregate-wrong-in-call c = simp length-take (omega arith)
+slice-aggregate-wrong : tie.Need-slice-aggregate-wrong
+slice-aggregate-wrong c = simp length-take (omega arith)
 
 array-share-prefix-rows : tie.Need-array-share-prefix-rows
 array-share-prefix-rows c = search needs
 
-slice-aggregate-wrong-in-call-2 : tie.Need-slice-aggregate-wrong-in-call-2
-slice-aggregate-wrong-in-call-2 c = simp length-take (omega arith)
+slice-aggregate-wrong-2 : tie.Need-slice-aggregate-wrong-2
+slice-aggregate-wrong-2 c = simp length-take (omega arith)
 
-wrong-in-call-requires : tie.Need-wrong-in-call-requires
-wrong-in-call-requires c κs = tt
+wrong-requires : tie.Need-wrong-requires
+wrong-requires c κs = tt
+
+right-requires : tie.Need-right-requires
+right-requires c κs = tt
 
 tell-requires : tie.Need-tell-requires
 tell-requires c κs = tt
@@ -58,19 +46,15 @@ pub hold-spec : {M : Type 1} → statement M
 hold-spec =
     tie.close
     (tie.spec
-    write-job-requires
     longs-requires
     words-requires
-    part-requires
-    part-requires-2
-    part-requires-3
-    lengths-requires
-    refusal-requires
-    head-requires
+    count-requires
+    count-requires-2
     array-share-prefix-starts
-    slice-aggregate-wrong-in-call
+    slice-aggregate-wrong
     array-share-prefix-rows
-    slice-aggregate-wrong-in-call-2
-    wrong-in-call-requires
+    slice-aggregate-wrong-2
+    wrong-requires
+    right-requires
     tell-requires
     returns)

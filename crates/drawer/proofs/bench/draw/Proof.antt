@@ -6,19 +6,22 @@ use Rattle.drawer.proofs.bench.draw.Statement.{statement}
 use Rattle.drawer.proofs.bench.draw.Tie as tie
 
 abbrev Inv-loop : tie.InvT-loop
-Inv-loop grid₀ from to k₀ grid k = Unit {0}
+Inv-loop grid₀ piece k₀ k-end grid k = Unit {0}
 
 abbrev μ-loop : tie.MeasureT-loop
-μ-loop grid₀ from to k₀ grid k = to - k
+μ-loop grid₀ piece k₀ k-end grid k = k-end - k
+
+part-requires : tie.Need-part-requires Inv-loop μ-loop
+part-requires c κs = tt
 
 loop-holds : tie.Need-loop-holds Inv-loop μ-loop
 loop-holds c = tt
 
-pair-requires : tie.Need-pair-requires Inv-loop μ-loop
-pair-requires c κs = tt
+add-requires : tie.Need-add-requires Inv-loop μ-loop
+add-requires c κs = tt
 
-pair-requires-2 : tie.Need-pair-requires-2 Inv-loop μ-loop
-pair-requires-2 c κs = tt
+part-requires-2 : tie.Need-part-requires-2 Inv-loop μ-loop
+part-requires-2 c κs = tt
 
 put-requires : tie.Need-put-requires Inv-loop μ-loop
 put-requires c κs = tt
@@ -41,9 +44,10 @@ draw-spec =
     (tie.spec
     Inv-loop
     μ-loop
+    part-requires
     loop-holds
-    pair-requires
-    pair-requires-2
+    add-requires
+    part-requires-2
     put-requires
     add-k
     loop-less

@@ -1,4 +1,4 @@
-// One call of the analysis, compared with what it has to do, for a test program. Nothing is promised but that every function is safe and ends.
+// One call of the analysis, compared with what it has to do.
 use comparison::filled32;
 use comparison::filled64;
 use comparison::wrong32;

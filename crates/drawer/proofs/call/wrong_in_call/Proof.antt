@@ -3,8 +3,8 @@
 use native.Mathlib.Omega.{arith}
 use lib.ListN.{length-take}
 use borrow.Author.Needs.{needs}
-use Rattle.analysis_call.proofs.wrong_in_call.Statement.{statement}
-use Rattle.analysis_call.proofs.wrong_in_call.Tie as tie
+use Rattle.drawer.proofs.call.wrong_in_call.Statement.{statement}
+use Rattle.drawer.proofs.call.wrong_in_call.Tie as tie
 
 filled32-requires : tie.Need-filled32-requires
 filled32-requires c κs = tt

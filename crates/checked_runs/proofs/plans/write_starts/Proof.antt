@@ -3,8 +3,8 @@
 use Prim.Native.Nat.{_-_}
 use native.Mathlib.Omega.{arith}
 use borrow.Author.Needs.{needs}
-use Rattle.checked_plans.proofs.write_starts.Statement.{statement}
-use Rattle.checked_plans.proofs.write_starts.Tie as tie
+use Rattle.checked_runs.proofs.plans.write_starts.Statement.{statement}
+use Rattle.checked_runs.proofs.plans.write_starts.Tie as tie
 
 abbrev Inv-loop : tie.InvT-loop
 Inv-loop case₀ list n i₀ case i = Unit {0}

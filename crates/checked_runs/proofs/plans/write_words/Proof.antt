@@ -3,8 +3,8 @@
 use Prim.Native.Nat.{_-_}
 use native.Mathlib.Omega.{arith}
 use borrow.Author.Needs.{needs}
-use Rattle.checked_plans.proofs.write_words.Statement.{statement}
-use Rattle.checked_plans.proofs.write_words.Tie as tie
+use Rattle.checked_runs.proofs.plans.write_words.Statement.{statement}
+use Rattle.checked_runs.proofs.plans.write_words.Tie as tie
 
 abbrev Inv-loop : tie.InvT-loop
 Inv-loop case₀ part list count i₀ case i = Unit {0}

@@ -3,8 +3,8 @@
 use native.Mathlib.Omega.{arith}
 use lib.ListN.{length-take}
 use borrow.Author.Needs.{needs}
-use Rattle.checked_plans.proofs.check.Statement.{statement}
-use Rattle.checked_plans.proofs.check.Tie as tie
+use Rattle.checked_runs.proofs.plans.check.Statement.{statement}
+use Rattle.checked_runs.proofs.plans.check.Tie as tie
 
 longs-requires : tie.Need-longs-requires
 longs-requires c κs = tt

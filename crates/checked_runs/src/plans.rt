@@ -1,5 +1,4 @@
-// Plans written, and checked under the key of any mark, for a test program; the lists of a check go into a case, as a run takes them. Nothing is promised
-// but that every function is safe and ends.
+// Plans written, and checked under the key of any mark; the lists of a check go into a case, as a run takes them.
 use elimination::grid::add;
 use elimination::sheet;
 use elimination::sheet::Sheet;
