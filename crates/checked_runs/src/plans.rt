@@ -62,18 +62,19 @@ pub fn write(job: &Sheet, mark: u8, plan: &mut Plan) -> u64 {
 
 // Columns, pops or rows, as a part of a case with so many places.
 fn write_words(case: &mut Sheet, part: usize, list: &[u32; 300], count: usize) {
-    for i in 0..300 {
-        set(case, part, i, index32(list[i]));
+    for i in 0..count % 301 {
+        set(case, part, i, index32(list[i % 300]));
     }
     set_length(case, part, count);
 }
 
 // The starts of n columns.
 fn write_starts(case: &mut Sheet, list: &[u64; 300], n: usize) {
-    for i in 0..300 {
-        set(case, sheet::STARTS, i, index64(list[i]));
+    let count = add(n, 1);
+    for i in 0..count {
+        set(case, sheet::STARTS, i, index64(list[i % 300]));
     }
-    set_length(case, sheet::STARTS, add(n, 1));
+    set_length(case, sheet::STARTS, count);
 }
 
 // What a check found, as a case with a stack list of n places. There are as many rows as the last start says.

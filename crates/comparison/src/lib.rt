@@ -3,22 +3,23 @@
 use elimination::grid::add;
 use elimination::sheet::Sheet;
 use elimination::sheet::get;
+use elimination::sheet::length;
 use papers::Answer;
 
-// A part of a sheet as rows, columns or pops.
+// A part of a sheet as rows, columns or pops, as many as it has.
 pub fn words(sheet: &Sheet, part: usize) -> [u32; 300] {
     let mut list = [0u32; 300];
-    for i in 0..300 {
-        list[i] = (get(sheet, part, i) % 4294967296) as u32;
+    for i in 0..length(sheet, part) % 301 {
+        list[i % 300] = (get(sheet, part, i) % 4294967296) as u32;
     }
     list
 }
 
-// A part of a sheet as starts.
+// A part of a sheet as starts, as many as it has.
 pub fn longs(sheet: &Sheet, part: usize) -> [u64; 300] {
     let mut list = [0u64; 300];
-    for i in 0..300 {
-        list[i] = get(sheet, part, i) as u64;
+    for i in 0..length(sheet, part) % 301 {
+        list[i % 300] = get(sheet, part, i) as u64;
     }
     list
 }

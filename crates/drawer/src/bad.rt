@@ -12,14 +12,14 @@ use case_lines::sheet;
 use tallies::Tally;
 
 fn lengths(numbers: &Numbers) -> Lengths {
-    Lengths {
-        parents: line::lent(numbers, 0),
-        order: line::lent(numbers, 1),
-        pops: line::lent(numbers, 2),
-        starts: line::lent(numbers, 3),
-        rows: line::lent(numbers, 4),
-        work: line::lent(numbers, 5),
-    }
+    [
+        line::lent(numbers, 0),
+        line::lent(numbers, 1),
+        line::lent(numbers, 2),
+        line::lent(numbers, 3),
+        line::lent(numbers, 4),
+        line::lent(numbers, 5),
+    ]
 }
 
 // How much of the call of a bad job is wrong. There is no result.
@@ -29,7 +29,7 @@ fn wrong(numbers: &Numbers, starts: &[u64], rows: &[u32]) -> usize {
         line::head(numbers),
         starts,
         rows,
-        lengths(numbers),
+        &lengths(numbers),
         &nothing,
         line::right(numbers),
     )

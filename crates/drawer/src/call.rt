@@ -1,4 +1,5 @@
 // One call of the analysis, compared with what it has to do.
+ghost use Prim.Native.Nat.{_≤_};
 use comparison::filled32;
 use comparison::filled64;
 use comparison::wrong32;
@@ -9,14 +10,13 @@ use elimination::sheet::Sheet;
 use papers::Answer;
 use papers::JobHead;
 
-// The lengths of the six lent slices.
-pub struct Lengths {
-    pub parents: usize,
-    pub order: usize,
-    pub pops: usize,
-    pub starts: usize,
-    pub rows: usize,
-    pub work: usize,
+// The lengths of the six lent slices: parents, order, pops, factor starts, factor rows and work.
+pub type Lengths = [usize; 6];
+
+fn length(lent: &Lengths, slice: usize) -> usize
+    ensures { λ r. ⌜ r ≤ 300 ⌝ }
+{
+    lent[slice % 6] % 301
 }
 
 // How many places of parents, order and pops are wrong after an answer.
@@ -24,13 +24,13 @@ fn wrong_steps(
     parents: &[u32; 300],
     order: &[u32; 300],
     pops: &[u32; 300],
-    lent: Lengths,
+    lent: &Lengths,
     number: u64,
     result: &Sheet,
 ) -> usize {
-    let a = wrong32(parents, lent.parents, number, result, sheet::PARENTS);
-    let b = wrong32(order, lent.order, number, result, sheet::COLUMNS);
-    let c = wrong32(pops, lent.pops, number, result, sheet::POPS);
+    let a = wrong32(parents, length(lent, 0), number, result, sheet::PARENTS);
+    let b = wrong32(order, length(lent, 1), number, result, sheet::COLUMNS);
+    let c = wrong32(pops, length(lent, 2), number, result, sheet::POPS);
     add(a, add(b, c))
 }
 
@@ -39,13 +39,13 @@ fn wrong_lists(
     starts: &[u64; 300],
     rows: &[u32; 300],
     work: &[u64; 300],
-    lent: Lengths,
+    lent: &Lengths,
     number: u64,
     result: &Sheet,
 ) -> usize {
-    let a = wrong64(starts, lent.starts, number, result, sheet::STARTS);
-    let b = wrong32(rows, lent.rows, number, result, sheet::ROWS);
-    let c = wrong64(work, lent.work, number, result, sheet::STACK);
+    let a = wrong64(starts, length(lent, 3), number, result, sheet::STARTS);
+    let b = wrong32(rows, length(lent, 4), number, result, sheet::ROWS);
+    let c = wrong64(work, length(lent, 5), number, result, sheet::STACK);
     add(a, add(b, c))
 }
 
@@ -54,7 +54,7 @@ pub fn wrong_in_call(
     head: JobHead,
     starts: &[u64],
     rows: &[u32],
-    lent: Lengths,
+    lent: &Lengths,
     result: &Sheet,
     right: Answer,
 ) -> usize {
@@ -64,12 +64,12 @@ pub fn wrong_in_call(
     let mut factor_rows = parents;
     let mut factor_starts = filled64();
     let mut work = factor_starts;
-    let a = lent.parents % 301;
-    let b = lent.order % 301;
-    let c = lent.pops % 301;
-    let d = lent.starts % 301;
-    let e = lent.rows % 301;
-    let f = lent.work % 301;
+    let a = length(lent, 0);
+    let b = length(lent, 1);
+    let c = length(lent, 2);
+    let d = length(lent, 3);
+    let e = length(lent, 4);
+    let f = length(lent, 5);
     let found = analysis::analyse(
         head,
         starts,

@@ -72,14 +72,14 @@ fn lent(fixed: usize, seed: usize, choice: usize, short: usize) -> usize {
 fn lengths(sheet: &Sheet, choice: usize) -> Lengths {
     let n = sheet::n(sheet);
     let seed = shapes::next(get(sheet, sheet::HEAD, SEED));
-    Lengths {
-        parents: lent(n, seed, choice, 20),
-        order: lent(n, seed, choice, 21),
-        pops: lent(n, seed, choice, 22),
-        starts: lent(add(n, 1), seed, choice, 23),
-        rows: rows_length(length(sheet, sheet::ROWS), choice),
-        work: lent(n % 25 * 8 + 8, seed, choice, 24),
-    }
+    [
+        lent(n, seed, choice, 20),
+        lent(n, seed, choice, 21),
+        lent(n, seed, choice, 22),
+        lent(add(n, 1), seed, choice, 23),
+        rows_length(length(sheet, sheet::ROWS), choice),
+        lent(n % 25 * 8 + 8, seed, choice, 24),
+    ]
 }
 
 // Whether a choice lends a slice below its fixed length: no slice is below 0.
@@ -129,7 +129,7 @@ fn hold_choices(tally: &mut Tally, starts: &[u64], rows: &[u32], sheet: &Sheet) 
     for choice in 0..25 {
         let right = right_answer(sheet, choice);
         let lent = lengths(sheet, choice);
-        let wrong = wrong_in_call(head(sheet, choice), starts, rows, lent, sheet, right);
+        let wrong = wrong_in_call(head(sheet, choice), starts, rows, &lent, sheet, right);
         let seed = get(sheet, sheet::HEAD, SEED);
         tallies::tell(tally, right.number, wrong, seed as u64, choice as u64);
     }

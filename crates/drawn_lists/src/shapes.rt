@@ -62,9 +62,14 @@ fn couple(grid: &mut Grid, i: usize, j: usize, n: usize) {
     }
 }
 
-// A named shape over n columns. The cells go column by column.
+// How many cells the columns up to n have. The cells go column by column.
+fn cells(n: usize) -> usize {
+    n % 25 * 25 + 25
+}
+
+// A named shape over n columns.
 pub fn shape(grid: &mut Grid, shape: usize, n: usize) {
-    for place in 0..625 {
+    for place in 0..cells(n) {
         if in_shape(shape, place % 25, place / 25, n) {
             couple(grid, place % 25, place / 25, n);
         }
@@ -83,7 +88,7 @@ pub fn tree(grid: &mut Grid, n: usize, seed: usize) {
 // A row below the diagonal once in `odds`, at random; none if `odds` is 0.
 pub fn sprinkle(grid: &mut Grid, odds: usize, n: usize, seed: usize) {
     let mut state = seed;
-    for place in 0..625 {
+    for place in 0..cells(n) {
         state = next(state);
         if add(choice(state, odds), 1) == odds {
             couple(grid, place % 25, place / 25, n);

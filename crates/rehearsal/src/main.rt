@@ -1,5 +1,8 @@
 // Holds the run against a simulation apart from it, over drawn cases that meet every refusal of a run. Number, place, count and every place of the stack
 // list are compared. Prints a tally by right answers; a case with anything wrong is named by the seed that it is drawn from, and its right place.
+mod cases; // cases.rt: drawn cases
+mod lot; // lot.rt: steps by lot
+mod damage; // damage.rt: an argument changed
 mod notes; // notes.rt: what else is told of a case
 
 use elimination::sheet::Sheet;
@@ -12,11 +15,11 @@ fn hold(tally: &mut Tally, case: &Sheet, seed: usize) {
     notes::note(tally, case, right);
 }
 
-fn hold_all(tally: &mut Tally, cases: usize) {
+fn hold_all(tally: &mut Tally, count: usize) {
     let mut seed = 1;
-    for _ in 0..cases {
+    for _ in 0..count {
         let mut case = [0usize; 10200];
-        let after = run_cases::draw_case(&mut case, seed);
+        let after = cases::draw_case(&mut case, seed);
         hold(tally, &case, seed);
         seed = after;
     }

@@ -17,35 +17,39 @@ const PLACES: usize = 27;
 
 const COUNTS: usize = 29;
 
-// Whether a column stands at two of the first n steps.
-fn repeats(case: &Sheet, n: usize) -> bool {
-    for place in 0..256 {
-        let i = place % 16;
-        let j = place / 16;
-        if j < i && i < n {
-            if get(case, sheet::COLUMNS, i) == get(case, sheet::COLUMNS, j) {
-                return true;
-            }
-        }
-    }
-    false
+// Whether the columns of the steps i and j are the same; they are two of the first n.
+fn same(case: &Sheet, i: usize, j: usize, n: usize) -> bool {
+    j < i && i < n && get(case, sheet::COLUMNS, i) == get(case, sheet::COLUMNS, j)
 }
 
-// Whether a step that is refused 22 would not be, if it took off the top update only.
-fn deep(case: &Sheet, place: u64) -> bool {
+// 1 if a column stands at two of the first n steps.
+fn repeats(case: &Sheet, n: usize) -> u64 {
+    for place in 0..256 {
+        if same(case, place % 16, place / 16, n) {
+            return 1;
+        }
+    }
+    0
+}
+
+// 1 if a step that is refused 22 would not be, if it took off the top update only.
+fn deep(case: &Sheet, place: u64) -> u64 {
     let mut other = *case;
     set(&mut other, sheet::POPS, less(place as usize, 1), 1);
     let answer = simulation::simulate(&other);
-    answer.number != 22 || answer.place != place
+    if answer.number == 22 && answer.place == place {
+        return 0;
+    }
+    1
 }
 
 pub fn note(tally: &mut Tally, case: &Sheet, right: Answer) {
     count(tally, PLACES, right.place);
     count(tally, COUNTS, right.count);
-    if right.number == 0 && repeats(case, sheet::n(case)) {
-        count(tally, REPEATED, 1);
+    if right.number == 0 {
+        count(tally, REPEATED, repeats(case, sheet::n(case)));
     }
-    if right.number == 22 && deep(case, right.place) {
-        count(tally, DEEP, 1);
+    if right.number == 22 {
+        count(tally, DEEP, deep(case, right.place));
     }
 }

@@ -3,44 +3,41 @@
 use native.Mathlib.Omega.{arith}
 use lib.ListN.{length-take}
 use borrow.Author.Needs.{needs}
-use native.Mathlib.Omega.{arith}
-use lib.ListN.{length-take}
-use borrow.Author.Needs.{needs}
 use Rattle.run_call.proofs.wrong_in_call.Statement.{statement}
 use Rattle.run_call.proofs.wrong_in_call.Tie as tie
 
 longs-requires : tie.Need-longs-requires
-longs-requires c κs = search needs
+longs-requires c κs = tt
 
 words-requires : tie.Need-words-requires
-words-requires c κs = search needs
+words-requires c κs = tt
 
 words-requires-2 : tie.Need-words-requires-2
-words-requires-2 c κs = search needs
+words-requires-2 c κs = tt
 
 words-requires-3 : tie.Need-words-requires-3
-words-requires-3 c κs = search needs
+words-requires-3 c κs = tt
 
 filled32-requires : tie.Need-filled32-requires
-filled32-requires c κs = search needs
+filled32-requires c κs = tt
 
 length-requires : tie.Need-length-requires
-length-requires c κs = search needs
+length-requires c κs = tt
 
 length-requires-2 : tie.Need-length-requires-2
-length-requires-2 c κs = search needs
+length-requires-2 c κs = tt
 
 length-requires-3 : tie.Need-length-requires-3
-length-requires-3 c κs = search needs
+length-requires-3 c κs = tt
 
 length-requires-4 : tie.Need-length-requires-4
-length-requires-4 c κs = search needs
+length-requires-4 c κs = tt
 
 length-requires-5 : tie.Need-length-requires-5
-length-requires-5 c κs = search needs
+length-requires-5 c κs = tt
 
 n-requires : tie.Need-n-requires
-n-requires c κs = search needs
+n-requires c κs = tt
 
 array-share-prefix-starts : tie.Need-array-share-prefix-starts
 array-share-prefix-starts c = search needs
@@ -67,7 +64,7 @@ slice-aggregate-run-4 : tie.Need-slice-aggregate-run-4
 slice-aggregate-run-4 c = simp length-take (omega arith)
 
 get-requires : tie.Need-get-requires
-get-requires c κs = search needs
+get-requires c κs = tt
 
 array-borrow-prefix-stack : tie.Need-array-borrow-prefix-stack
 array-borrow-prefix-stack c = search needs
@@ -76,19 +73,19 @@ slice-aggregate-run-5 : tie.Need-slice-aggregate-run-5
 slice-aggregate-run-5 c = simp length-take (omega arith)
 
 run-requires : tie.Need-run-requires
-run-requires c κs = search needs
+run-requires c κs = tt
 
 differences-requires : tie.Need-differences-requires
-differences-requires c κs = search needs
+differences-requires c κs = tt
 
 wrong32-requires : tie.Need-wrong32-requires
-wrong32-requires c κs = search needs
+wrong32-requires c κs = tt
 
 add-requires : tie.Need-add-requires
-add-requires c κs = search needs
+add-requires c κs = tt
 
 returns : tie.Need-returns
-returns c = search needs
+returns c = tt
 
 pub wrong-in-call-spec : {M : Type 1} → statement M
 wrong-in-call-spec =

@@ -7,10 +7,13 @@ use Rattle.checked_runs.proofs.plans.write_starts.Statement.{statement}
 use Rattle.checked_runs.proofs.plans.write_starts.Tie as tie
 
 abbrev Inv-loop : tie.InvT-loop
-Inv-loop case₀ list n i₀ case i = Unit {0}
+Inv-loop case₀ list n count i₀ case i = Unit {0}
 
 abbrev μ-loop : tie.MeasureT-loop
-μ-loop case₀ list n i₀ case i = 300 - i
+μ-loop case₀ list n count i₀ case i = count - i
+
+add-requires : tie.Need-add-requires Inv-loop μ-loop
+add-requires c κs = tt
 
 loop-holds : tie.Need-loop-holds Inv-loop μ-loop
 loop-holds c = tt
@@ -36,9 +39,6 @@ loop-less c = omega arith
 loop-again : tie.Need-loop-again Inv-loop μ-loop
 loop-again c = tt
 
-add-requires : tie.Need-add-requires Inv-loop μ-loop
-add-requires c κs = tt
-
 set-length-requires : tie.Need-set-length-requires Inv-loop μ-loop
 set-length-requires c κs = tt
 
@@ -51,6 +51,7 @@ write-starts-spec =
     (tie.spec
     Inv-loop
     μ-loop
+    add-requires
     loop-holds
     mul-index64
     element-copy-out-index64
@@ -59,6 +60,5 @@ write-starts-spec =
     add-i
     loop-less
     loop-again
-    add-requires
     set-length-requires
     returns)

@@ -7,10 +7,10 @@ use Rattle.checked_runs.proofs.plans.write_words.Statement.{statement}
 use Rattle.checked_runs.proofs.plans.write_words.Tie as tie
 
 abbrev Inv-loop : tie.InvT-loop
-Inv-loop case₀ part list count i₀ case i = Unit {0}
+Inv-loop case₀ part list count i₀ i-end case i = Unit {0}
 
 abbrev μ-loop : tie.MeasureT-loop
-μ-loop case₀ part list count i₀ case i = 300 - i
+μ-loop case₀ part list count i₀ i-end case i = i-end - i
 
 loop-holds : tie.Need-loop-holds Inv-loop μ-loop
 loop-holds c = tt

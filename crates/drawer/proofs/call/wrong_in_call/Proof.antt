@@ -12,6 +12,24 @@ filled32-requires c κs = tt
 filled64-requires : tie.Need-filled64-requires
 filled64-requires c κs = tt
 
+length-requires : tie.Need-length-requires
+length-requires c κs = tt
+
+length-requires-2 : tie.Need-length-requires-2
+length-requires-2 c κs = tt
+
+length-requires-3 : tie.Need-length-requires-3
+length-requires-3 c κs = tt
+
+length-requires-4 : tie.Need-length-requires-4
+length-requires-4 c κs = tt
+
+length-requires-5 : tie.Need-length-requires-5
+length-requires-5 c κs = tt
+
+length-requires-6 : tie.Need-length-requires-6
+length-requires-6 c κs = tt
+
 array-borrow-prefix-parents : tie.Need-array-borrow-prefix-parents
 array-borrow-prefix-parents c = search needs
 
@@ -75,6 +93,12 @@ wrong-in-call-spec =
     (tie.spec
     filled32-requires
     filled64-requires
+    length-requires
+    length-requires-2
+    length-requires-3
+    length-requires-4
+    length-requires-5
+    length-requires-6
     array-borrow-prefix-parents
     slice-aggregate-analyse
     array-borrow-prefix-order

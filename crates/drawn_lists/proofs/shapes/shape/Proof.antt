@@ -6,10 +6,13 @@ use Rattle.drawn_lists.proofs.shapes.shape.Statement.{statement}
 use Rattle.drawn_lists.proofs.shapes.shape.Tie as tie
 
 abbrev Inv-loop : tie.InvT-loop
-Inv-loop grid₀ shape n place₀ grid place = Unit {0}
+Inv-loop grid₀ shape n place₀ place-end grid place = Unit {0}
 
 abbrev μ-loop : tie.MeasureT-loop
-μ-loop grid₀ shape n place₀ grid place = 625 - place
+μ-loop grid₀ shape n place₀ place-end grid place = place-end - place
+
+cells-requires : tie.Need-cells-requires Inv-loop μ-loop
+cells-requires c κs = tt
 
 loop-holds : tie.Need-loop-holds Inv-loop μ-loop
 loop-holds c = tt
@@ -38,6 +41,7 @@ shape-spec =
     (tie.spec
     Inv-loop
     μ-loop
+    cells-requires
     loop-holds
     in-shape-requires
     couple-requires

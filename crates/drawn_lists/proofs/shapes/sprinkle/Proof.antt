@@ -6,10 +6,13 @@ use Rattle.drawn_lists.proofs.shapes.sprinkle.Statement.{statement}
 use Rattle.drawn_lists.proofs.shapes.sprinkle.Tie as tie
 
 abbrev Inv-loop : tie.InvT-loop
-Inv-loop grid₀ odds n seed state₀ place₀ grid state place = Unit {0}
+Inv-loop grid₀ odds n seed state₀ place₀ place-end grid state place = Unit {0}
 
 abbrev μ-loop : tie.MeasureT-loop
-μ-loop grid₀ odds n seed state₀ place₀ grid state place = 625 - place
+μ-loop grid₀ odds n seed state₀ place₀ place-end grid state place = place-end - place
+
+cells-requires : tie.Need-cells-requires Inv-loop μ-loop
+cells-requires c κs = tt
 
 loop-holds : tie.Need-loop-holds Inv-loop μ-loop
 loop-holds c = tt
@@ -44,6 +47,7 @@ sprinkle-spec =
     (tie.spec
     Inv-loop
     μ-loop
+    cells-requires
     loop-holds
     next-requires
     choice-requires

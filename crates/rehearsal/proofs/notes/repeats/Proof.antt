@@ -14,11 +14,8 @@ abbrev μ-loop : tie.MeasureT-loop
 loop-holds : tie.Need-loop-holds Inv-loop μ-loop
 loop-holds c = tt
 
-get-requires : tie.Need-get-requires Inv-loop μ-loop
-get-requires c κs = tt
-
-get-requires-2 : tie.Need-get-requires-2 Inv-loop μ-loop
-get-requires-2 c κs = tt
+same-requires : tie.Need-same-requires Inv-loop μ-loop
+same-requires c κs = tt
 
 returns : tie.Need-returns Inv-loop μ-loop
 returns c = tt
@@ -42,8 +39,7 @@ repeats-spec =
     Inv-loop
     μ-loop
     loop-holds
-    get-requires
-    get-requires-2
+    same-requires
     returns
     add-place
     loop-less

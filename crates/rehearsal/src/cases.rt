@@ -1,9 +1,7 @@
 // Runs to try, of up to 12 columns, drawn from a seed: lists with and without fill, steps of a plan and steps by lot, columns repeated, damage to every
-// argument, and rooms about the one needed. What draws from a seed answers the seed to go on with. Nothing is promised but that every function is safe
-// and ends.
-mod lot; // lot.rt: steps by lot
-mod damage; // damage.rt: an argument changed
-
+// argument, and rooms about the one needed. What draws from a seed answers the seed to go on with.
+use super::damage::damage;
+use super::lot::draw_lot;
 use drawn_lists::shapes::choice;
 use drawn_lists::shapes::next;
 use elimination::fill;
@@ -54,7 +52,7 @@ fn draw_steps(case: &mut Sheet, seed: usize) -> usize {
         orders::write_plan(case, choice(d, 3));
         return d;
     }
-    lot::draw_lot(case, d)
+    draw_lot(case, d)
 }
 
 // Half of the cases stay as they are; one argument is changed, or two.
@@ -64,11 +62,11 @@ fn draw_damage(case: &mut Sheet, seed: usize) -> usize {
     if harm < 3 {
         return a;
     }
-    let b = damage::damage(case, a);
+    let b = damage(case, a);
     if harm < 5 {
         return b;
     }
-    damage::damage(case, b)
+    damage(case, b)
 }
 
 // A room where so much is needed: that, one less, one more, something below, and the least and the greatest of all.

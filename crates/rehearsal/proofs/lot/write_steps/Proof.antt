@@ -2,8 +2,8 @@
 -- Assumes nothing.
 use Prim.Native.Nat.{_-_}
 use native.Mathlib.Omega.{arith}
-use Rattle.run_cases.proofs.lot.write_steps.Statement.{statement}
-use Rattle.run_cases.proofs.lot.write_steps.Tie as tie
+use Rattle.rehearsal.proofs.lot.write_steps.Statement.{statement}
+use Rattle.rehearsal.proofs.lot.write_steps.Tie as tie
 
 abbrev Inv-loop : tie.InvT-loop
 Inv-loop case₀ n kind pops seed state₀ c₀ k₀ case state c k = Unit {0}

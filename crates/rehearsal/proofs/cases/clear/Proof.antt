@@ -3,8 +3,8 @@
 use Prim.Native.Nat.{_-_}
 use native.Mathlib.Omega.{arith}
 use borrow.Author.Needs.{needs}
-use Rattle.run_cases.proofs.clear.Statement.{statement}
-use Rattle.run_cases.proofs.clear.Tie as tie
+use Rattle.rehearsal.proofs.cases.clear.Statement.{statement}
+use Rattle.rehearsal.proofs.cases.clear.Tie as tie
 
 abbrev Inv-loop : tie.InvT-loop
 Inv-loop case₀ place₀ case place = Unit {0}

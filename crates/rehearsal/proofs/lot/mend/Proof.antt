@@ -2,8 +2,8 @@
 -- Assumes nothing.
 use Prim.Native.Nat.{_-_}
 use native.Mathlib.Omega.{arith}
-use Rattle.run_cases.proofs.lot.mend.Statement.{statement}
-use Rattle.run_cases.proofs.lot.mend.Tie as tie
+use Rattle.rehearsal.proofs.lot.mend.Statement.{statement}
+use Rattle.rehearsal.proofs.lot.mend.Tie as tie
 
 abbrev Inv-loop : tie.InvT-loop
 Inv-loop case₀ upto times counter₀ case counter = Unit {0}

@@ -2,8 +2,8 @@
 -- Assumes nothing.
 use Prim.Native.Nat.{_-_}
 use native.Mathlib.Omega.{arith}
-use Rattle.run_cases.proofs.draw_lengths.Statement.{statement}
-use Rattle.run_cases.proofs.draw_lengths.Tie as tie
+use Rattle.rehearsal.proofs.cases.draw_lengths.Statement.{statement}
+use Rattle.rehearsal.proofs.cases.draw_lengths.Tie as tie
 
 abbrev Inv-loop : tie.InvT-loop
 Inv-loop case₀ seed state₀ part₀ case state part = Unit {0}
