@@ -42,7 +42,7 @@ pub fn filled32() -> [u32; 300] {
 }
 
 pub fn filled64() -> [u64; 300] {
-    let mut slice = [0u64; 300];
+    let mut slice = [9000u64; 300];
     for i in 0..300 {
         slice[i] = wide(before(i));
     }
