@@ -43,41 +43,49 @@ fn hold_runs(tally: &mut Tally, case: &mut Sheet, checked: Answer, seed: u64, ke
     }
 }
 
-// A plan of so many bytes under the key of a mark has to pass the check.
-fn hold_plan(tally: &mut Tally, job: &Sheet, plan: &Plan, count: u64, key: u8, seed: u64) {
-    let mut case = [0usize; 10200];
-    let checked = plans::check(&mut case, job, plan, count, key);
+// A plan of so many bytes under the key of a mark has to pass the check. Its lists go into a case.
+fn hold_plan(
+    tally: &mut Tally,
+    case: &mut Sheet,
+    job: &Sheet,
+    plan: &Plan,
+    count: u64,
+    key: u8,
+    seed: u64,
+) {
+    let checked = plans::check(case, job, plan, count, key);
     tallies::tell(tally, CHECKED, checked.number as usize, seed, key as u64);
     if checked.number == 0 {
         tallies::count(tally, PEAKS, checked.count);
-        hold_runs(tally, &mut case, checked, seed, key as u64);
+        hold_runs(tally, case, checked, seed, key as u64);
     }
 }
 
 // The plan of a mark, under the key of each.
-fn hold_mark(tally: &mut Tally, job: &Sheet, mark: u8, seed: u64) {
+fn hold_mark(tally: &mut Tally, case: &mut Sheet, job: &Sheet, mark: u8, seed: u64) {
     let mut plan = [0u8; 1024];
     let count = plans::write(job, mark, &mut plan);
     for key in 0..3 {
-        hold_plan(tally, job, &plan, count, key, seed);
+        hold_plan(tally, case, job, &plan, count, key, seed);
     }
 }
 
 // The pattern of a seed, under every mark.
-fn hold_seed(tally: &mut Tally, seed: usize) {
+fn hold_seed(tally: &mut Tally, case: &mut Sheet, seed: usize) {
     let n = seed % 25;
     let mut grid = [0usize; 625];
     let mut job = [0usize; 10200];
     drawn_lists::draw_pattern(&mut grid, n, seed);
     fill::write_lists(&mut job, &grid, n);
     for mark in 0..3 {
-        hold_mark(tally, &job, mark, seed as u64);
+        hold_mark(tally, case, &job, mark, seed as u64);
     }
 }
 
 fn hold_all(tally: &mut Tally, seeds: usize) {
+    let mut case = [0usize; 10200];
     for seed in 0..seeds {
-        hold_seed(tally, seed);
+        hold_seed(tally, &mut case, seed);
     }
 }
 

@@ -1,5 +1,7 @@
 // Lists as a call takes them, what lent slices hold before a call and have to hold after it, and how much of that is wrong, for the test programs.
-// Nothing is promised but that every function is safe and ends.
+// Nothing is promised but that every function is safe and ends, and of one that a length stays.
+ghost use lib.ListN.{length};
+ghost use mathlib.Core.Path.{_≡_};
 use elimination::grid::add;
 use elimination::sheet::Sheet;
 use elimination::sheet::get;
@@ -41,12 +43,13 @@ pub fn filled32() -> [u32; 300] {
     slice
 }
 
-pub fn filled64() -> [u64; 300] {
-    let mut slice = [0u64; 300];
+// In place, since a copy of so many bytes is dear. That the length stays is what lending a part needs.
+pub fn fill64(slice: &mut [u64; 300])
+    ensures { λ _. ⌜ length (now (slice .exit)) ≡ length (now (slice .entry)) ⌝ }
+{
     for i in 0..300 {
         slice[i] = wide(before(i));
     }
-    slice
 }
 
 // What has to stand at a place after an answer: behind the lent length what stood there, and the same if the answer is 1 to 7; the result if it is

@@ -49,24 +49,31 @@ fn digits(sheet: &Sheet, n: usize) -> usize {
 }
 
 // Whether the elimination gives a pattern the order and the peak of a piece.
-fn same(pattern: &Grid, piece: &Numbers) -> bool {
-    let mut sheet = [0usize; 10200];
+fn same(sheet: &mut Sheet, pattern: &Grid, piece: &Numbers) -> bool {
     let n = part(piece, N);
-    let peak = work_out(&mut sheet, pattern, n, part(piece, MARK));
-    digits(&sheet, n) == part(piece, ORDER) && peak == part(piece, PEAK)
+    let peak = work_out(sheet, pattern, n, part(piece, MARK));
+    digits(sheet, n) == part(piece, ORDER) && peak == part(piece, PEAK)
 }
 
 // Holds the analysis of a pattern. It is named by the order and the peak of its piece.
-fn hold_piece(tally: &mut Tally, pattern: &Grid, piece: &Numbers) {
+fn hold_piece(tally: &mut Tally, sheet: &mut Sheet, pattern: &Grid, piece: &Numbers) {
     let seed = add(1000, add(part(piece, ORDER), part(piece, PEAK)));
-    hold_pattern(tally, pattern, part(piece, N), part(piece, MARK), seed);
+    hold_pattern(
+        tally,
+        sheet,
+        pattern,
+        part(piece, N),
+        part(piece, MARK),
+        seed,
+    );
 }
 
 pub fn hold(tally: &mut Tally, piece: &Numbers) {
     let mut pattern = [0usize; 625];
+    let mut sheet = [0usize; 10200];
     draw(&mut pattern, piece);
-    if !same(&pattern, piece) {
+    if !same(&mut sheet, &pattern, piece) {
         tallies::count(tally, tallies::WRONG, 1);
     }
-    hold_piece(tally, &pattern, piece);
+    hold_piece(tally, &mut sheet, &pattern, piece);
 }

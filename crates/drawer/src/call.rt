@@ -1,7 +1,7 @@
 // One call of the analysis, compared with what it has to do.
 ghost use Prim.Native.Nat.{_≤_};
+use comparison::fill64;
 use comparison::filled32;
-use comparison::filled64;
 use comparison::wrong32;
 use comparison::wrong64;
 use elimination::grid::add;
@@ -62,8 +62,10 @@ pub fn wrong_in_call(
     let mut order = parents;
     let mut pops = parents;
     let mut factor_rows = parents;
-    let mut factor_starts = filled64();
-    let mut work = factor_starts;
+    let mut factor_starts = [1u64; 300];
+    let mut work = [1u64; 300];
+    fill64(&mut factor_starts);
+    fill64(&mut work);
     let a = length(lent, 0);
     let b = length(lent, 1);
     let c = length(lent, 2);

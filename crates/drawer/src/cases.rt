@@ -29,7 +29,7 @@ const ROWS: usize = 10;
 
 const PEAKS: usize = 11;
 
-// What the elimination says of a pattern under a mark, into a sheet, which has to be zero. Answers the peak.
+// What the elimination says of a pattern under a mark, into a sheet, which has nothing of another pattern. Answers the peak.
 pub fn work_out(sheet: &mut Sheet, pattern: &Grid, n: usize, mark: usize) -> usize {
     let mut grid = *pattern;
     fill::eliminate(&mut grid);
@@ -135,25 +135,36 @@ fn hold_choices(tally: &mut Tally, starts: &[u64], rows: &[u32], sheet: &Sheet) 
     }
 }
 
-// The calls of the job whose lists are in another sheet.
-fn hold_job(tally: &mut Tally, job: &Sheet, sheet: &Sheet) {
-    let starts = comparison::longs(job, sheet::STARTS);
-    let rows = comparison::words(job, sheet::ROWS);
-    let a = length(job, sheet::STARTS) % 301;
-    let b = length(job, sheet::ROWS) % 301;
-    hold_choices(tally, &starts[..a], &rows[..b], sheet);
+// What the elimination says, the peak as the room, mark and seed, into the sheet of a pattern.
+fn write_result(sheet: &mut Sheet, pattern: &Grid, n: usize, mark: usize, seed: usize) {
+    let peak = work_out(sheet, pattern, n, mark);
+    set(sheet, sheet::HEAD, sheet::ROOM, peak);
+    set(sheet, sheet::HEAD, MARK, mark);
+    set(sheet, sheet::HEAD, SEED, seed);
 }
 
-// Works a pattern out under a mark and holds the analysis of it to that.
-pub fn hold_pattern(tally: &mut Tally, pattern: &Grid, n: usize, mark: usize, seed: usize) {
-    let mut sheet = [0usize; 10200];
-    let peak = work_out(&mut sheet, pattern, n, mark);
-    set(&mut sheet, sheet::HEAD, sheet::ROOM, peak);
-    set(&mut sheet, sheet::HEAD, MARK, mark);
-    set(&mut sheet, sheet::HEAD, SEED, seed);
-    let mut job = [0usize; 10200];
-    fill::write_lists(&mut job, pattern, n);
-    hold_job(tally, &job, &sheet);
-    count(tally, ROWS, length(&sheet, sheet::ROWS) as u64);
+// Counts the factor rows and the peak.
+fn note(tally: &mut Tally, sheet: &Sheet, mark: usize) {
+    count(tally, ROWS, length(sheet, sheet::ROWS) as u64);
+    let peak = get(sheet, sheet::HEAD, sheet::ROOM);
     count(tally, add(PEAKS, mark % 3), peak as u64);
+}
+
+// Holds the analysis of a pattern under a mark to what the elimination says. The job's lists stand in the sheet first; those of the fill cover them.
+pub fn hold_pattern(
+    tally: &mut Tally,
+    sheet: &mut Sheet,
+    pattern: &Grid,
+    n: usize,
+    mark: usize,
+    seed: usize,
+) {
+    fill::write_lists(sheet, pattern, n);
+    let starts = comparison::longs(sheet, sheet::STARTS);
+    let rows = comparison::words(sheet, sheet::ROWS);
+    let a = length(sheet, sheet::STARTS) % 301;
+    let b = length(sheet, sheet::ROWS) % 301;
+    write_result(sheet, pattern, n, mark, seed);
+    hold_choices(tally, &starts[..a], &rows[..b], sheet);
+    note(tally, sheet, mark);
 }

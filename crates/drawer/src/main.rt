@@ -42,9 +42,10 @@ fn draw(grid: &mut Grid, n: usize, kind: usize, round: usize, seed: usize) {
 fn hold(tally: &mut Tally, seed: usize) {
     let n = seed % 25;
     let mut grid = [0usize; 625];
+    let mut sheet = [0usize; 10200];
     draw(&mut grid, n, seed / 25 % 16, seed / 400, seed);
     for mark in 0..3 {
-        cases::hold_pattern(tally, &grid, n, mark, seed);
+        cases::hold_pattern(tally, &mut sheet, &grid, n, mark, seed);
     }
 }
 

@@ -92,7 +92,7 @@ fn draw_room(case: &mut Sheet, seed: usize) -> usize {
     b
 }
 
-// The case of a seed, into a sheet that is zero.
+// The case of a seed, into a sheet that has nothing in its stack list.
 pub fn draw_case(case: &mut Sheet, seed: usize) -> usize {
     clear(case);
     let a = draw_steps(case, seed);

@@ -8,7 +8,8 @@ mod notes; // notes.rt: what else is told of a case
 use elimination::sheet::Sheet;
 use tallies::Tally;
 
-fn hold(tally: &mut Tally, case: &Sheet, seed: usize) {
+// One case; what else is told of it may change it.
+fn hold(tally: &mut Tally, case: &mut Sheet, seed: usize) {
     let right = simulation::simulate(case);
     let wrong = run_call::wrong_in_call(case, right);
     tallies::tell(tally, right.number, wrong, seed as u64, right.place);
@@ -16,11 +17,11 @@ fn hold(tally: &mut Tally, case: &Sheet, seed: usize) {
 }
 
 fn hold_all(tally: &mut Tally, count: usize) {
+    let mut case = [0usize; 10200];
     let mut seed = 1;
     for _ in 0..count {
-        let mut case = [0usize; 10200];
         let after = cases::draw_case(&mut case, seed);
-        hold(tally, &case, seed);
+        hold(tally, &mut case, seed);
         seed = after;
     }
 }

@@ -32,18 +32,17 @@ fn repeats(case: &Sheet, n: usize) -> u64 {
     0
 }
 
-// 1 if a step that is refused 22 would not be, if it took off the top update only.
-fn deep(case: &Sheet, place: u64) -> u64 {
-    let mut other = *case;
-    set(&mut other, sheet::POPS, less(place as usize, 1), 1);
-    let answer = simulation::simulate(&other);
+// 1 if a step that is refused 22 is not any more, when it takes off the top update only.
+fn deep(case: &mut Sheet, place: u64) -> u64 {
+    set(case, sheet::POPS, less(place as usize, 1), 1);
+    let answer = simulation::simulate(case);
     if answer.number == 22 && answer.place == place {
         return 0;
     }
     1
 }
 
-pub fn note(tally: &mut Tally, case: &Sheet, right: Answer) {
+pub fn note(tally: &mut Tally, case: &mut Sheet, right: Answer) {
     count(tally, PLACES, right.place);
     count(tally, COUNTS, right.count);
     if right.number == 0 {

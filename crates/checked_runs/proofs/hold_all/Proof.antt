@@ -6,10 +6,10 @@ use Rattle.checked_runs.proofs.hold_all.Statement.{statement}
 use Rattle.checked_runs.proofs.hold_all.Tie as tie
 
 abbrev Inv-loop : tie.InvT-loop
-Inv-loop tally₀ seeds seed₀ tally seed = Unit {0}
+Inv-loop tally₀ seeds case₀ seed₀ tally case seed = Unit {0}
 
 abbrev μ-loop : tie.MeasureT-loop
-μ-loop tally₀ seeds seed₀ tally seed = seeds - seed
+μ-loop tally₀ seeds case₀ seed₀ tally case seed = seeds - seed
 
 loop-holds : tie.Need-loop-holds Inv-loop μ-loop
 loop-holds c = tt

@@ -6,10 +6,10 @@ use Rattle.checked_runs.proofs.hold_mark.Statement.{statement}
 use Rattle.checked_runs.proofs.hold_mark.Tie as tie
 
 abbrev Inv-loop : tie.InvT-loop
-Inv-loop tally₀ job mark seed plan count key₀ tally key = Unit {0}
+Inv-loop tally₀ case₀ job mark seed plan count key₀ tally case key = Unit {0}
 
 abbrev μ-loop : tie.MeasureT-loop
-μ-loop tally₀ job mark seed plan count key₀ tally key = 3 - key
+μ-loop tally₀ case₀ job mark seed plan count key₀ tally case key = 3 - key
 
 write-requires : tie.Need-write-requires Inv-loop μ-loop
 write-requires c κs = tt

@@ -6,10 +6,10 @@ use Rattle.checked_runs.proofs.hold_seed.Statement.{statement}
 use Rattle.checked_runs.proofs.hold_seed.Tie as tie
 
 abbrev Inv-loop : tie.InvT-loop
-Inv-loop tally₀ seed n job mark₀ tally mark = Unit {0}
+Inv-loop tally₀ case₀ seed n job mark₀ tally case mark = Unit {0}
 
 abbrev μ-loop : tie.MeasureT-loop
-μ-loop tally₀ seed n job mark₀ tally mark = 3 - mark
+μ-loop tally₀ case₀ seed n job mark₀ tally case mark = 3 - mark
 
 draw-pattern-requires : tie.Need-draw-pattern-requires Inv-loop μ-loop
 draw-pattern-requires c κs = tt

@@ -6,10 +6,10 @@ use Rattle.drawer.proofs.hold.Statement.{statement}
 use Rattle.drawer.proofs.hold.Tie as tie
 
 abbrev Inv-loop : tie.InvT-loop
-Inv-loop tally₀ seed n grid mark₀ tally mark = Unit {0}
+Inv-loop tally₀ seed n grid sheet₀ mark₀ tally sheet mark = Unit {0}
 
 abbrev μ-loop : tie.MeasureT-loop
-μ-loop tally₀ seed n grid mark₀ tally mark = 3 - mark
+μ-loop tally₀ seed n grid sheet₀ mark₀ tally sheet mark = 3 - mark
 
 draw-requires : tie.Need-draw-requires Inv-loop μ-loop
 draw-requires c κs = tt

@@ -6,10 +6,10 @@ use Rattle.rehearsal.proofs.hold_all.Statement.{statement}
 use Rattle.rehearsal.proofs.hold_all.Tie as tie
 
 abbrev Inv-loop : tie.InvT-loop
-Inv-loop tally₀ count seed₀ counter₀ tally seed counter = Unit {0}
+Inv-loop tally₀ count case₀ seed₀ counter₀ tally case seed counter = Unit {0}
 
 abbrev μ-loop : tie.MeasureT-loop
-μ-loop tally₀ count seed₀ counter₀ tally seed counter = count - counter
+μ-loop tally₀ count case₀ seed₀ counter₀ tally case seed counter = count - counter
 
 loop-holds : tie.Need-loop-holds Inv-loop μ-loop
 loop-holds c = tt

@@ -9,8 +9,11 @@ use Rattle.drawer.proofs.call.wrong_in_call.Tie as tie
 filled32-requires : tie.Need-filled32-requires
 filled32-requires c κs = tt
 
-filled64-requires : tie.Need-filled64-requires
-filled64-requires c κs = tt
+fill64-requires : tie.Need-fill64-requires
+fill64-requires c κs = tt
+
+fill64-requires-2 : tie.Need-fill64-requires-2
+fill64-requires-2 c κs = tt
 
 length-requires : tie.Need-length-requires
 length-requires c κs = tt
@@ -92,7 +95,8 @@ wrong-in-call-spec =
     tie.close
     (tie.spec
     filled32-requires
-    filled64-requires
+    fill64-requires
+    fill64-requires-2
     length-requires
     length-requires-2
     length-requires-3

@@ -3,8 +3,11 @@
 use native.Mathlib.Omega.{arith}
 use lib.ListN.{length-take}
 use borrow.Author.Needs.{needs}
-use Rattle.drawer.proofs.cases.hold_job.Statement.{statement}
-use Rattle.drawer.proofs.cases.hold_job.Tie as tie
+use Rattle.drawer.proofs.cases.hold_pattern.Statement.{statement}
+use Rattle.drawer.proofs.cases.hold_pattern.Tie as tie
+
+write-lists-requires : tie.Need-write-lists-requires
+write-lists-requires c κs = tt
 
 longs-requires : tie.Need-longs-requires
 longs-requires c κs = tt
@@ -17,6 +20,9 @@ length-requires c κs = tt
 
 length-requires-2 : tie.Need-length-requires-2
 length-requires-2 c κs = tt
+
+write-result-requires : tie.Need-write-result-requires
+write-result-requires c κs = tt
 
 array-share-prefix-starts : tie.Need-array-share-prefix-starts
 array-share-prefix-starts c = search needs
@@ -33,20 +39,26 @@ slice-aggregate-hold-choices-2 c = simp length-take (omega arith)
 hold-choices-requires : tie.Need-hold-choices-requires
 hold-choices-requires c κs = tt
 
+note-requires : tie.Need-note-requires
+note-requires c κs = tt
+
 returns : tie.Need-returns
 returns c = tt
 
-pub hold-job-spec : {M : Type 1} → statement M
-hold-job-spec =
+pub hold-pattern-spec : {M : Type 1} → statement M
+hold-pattern-spec =
     tie.close
     (tie.spec
+    write-lists-requires
     longs-requires
     words-requires
     length-requires
     length-requires-2
+    write-result-requires
     array-share-prefix-starts
     slice-aggregate-hold-choices
     array-share-prefix-rows
     slice-aggregate-hold-choices-2
     hold-choices-requires
+    note-requires
     returns)
