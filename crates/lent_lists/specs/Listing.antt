@@ -1,16 +1,26 @@
 -- What the lent slices hold when the column lists are made.
 -- Assumes nothing.
-use Prim.Native.Nat.{ℕ}
+use Prim.Native.Nat.{ℕ, suc, _<_, _≤_}
 use mathlib.Core.Path.{_≡_}
-use lib.ListN.{drop}
-use Rattle.papers.specs.Lists.{zeros}
+use mathlib.Core.List.{map}
+use lib.ListN.{length, drop}
+use Rattle.papers.specs.Lists.{upTo, flat, startsFrom, zeros, thenZeros}
 use Rattle.papers.specs.Job.{Pattern}
+use Rattle.papers.specs.Fill.{R}
+use Rattle.papers.specs.Tree.{parent}
+use Rattle.papers.specs.Key.{listsOf}
 use Rattle.papers.specs.Refusals.{Lent}
-use Rattle.structure.specs.Listed.{Listed}
 
--- the lists of the first `done` columns, as many as there is room for, with their starts and parents; behind them, and behind the first n places of order
--- and pops, zeros
+-- the lists of all n columns, their starts and the parents, then zeros; and zeros behind the first n places of order and pops
+pub record AllListed (n : ℕ) (A : Pattern) (before lent : Lent) : Type 0 where
+  pub fits : length (flat (listsOf n (R A))) ≤ length (before .factorRows)
+  pub parents : lent .parents ≡ thenZeros (map (parent A) (upTo n)) (before .parents)
+  pub starts : lent .factorStarts ≡ thenZeros (startsFrom 0 (listsOf n (R A))) (before .factorStarts)
+  pub rows : lent .factorRows ≡ thenZeros (flat (listsOf n (R A))) (before .factorRows)
+  pub order : drop n (lent .order) ≡ zeros (drop n (before .order))
+  pub pops : drop n (lent .pops) ≡ zeros (drop n (before .pops))
+
+-- `done` columns are done: as many as there is room for, or all
 pub record Listing (n done : ℕ) (A : Pattern) (before lent : Lent) : Type 0 where
-  pub listed : Listed n done A (zeros (before .parents)) (zeros (before .factorStarts)) (zeros (before .factorRows)) (lent .parents) (lent .factorStarts) (lent .factorRows)
-  pub order : drop n (lent .order) ≡ drop n (zeros (before .order))
-  pub pops : drop n (lent .pops) ≡ drop n (zeros (before .pops))
+  pub lacks : done < n → length (before .factorRows) < length (flat (listsOf (suc done) (R A)))
+  pub all : n ≤ done → AllListed n A before lent

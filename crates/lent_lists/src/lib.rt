@@ -4,7 +4,8 @@ ghost use Rattle.column_laws.specs.Tested.{Tested};
 ghost use Rattle.lent.specs.Six.{six, LongEnough};
 ghost use Rattle.lent_lists.specs.Listing.{Listing};
 
-// The lists of the columns in cleared slices, as far as they fit; answers how many columns are done. Order and pops are the joiner's buffers here.
+// The lists of the columns in the front of the slices, as far as they fit; answers how many columns are done. Order and pops are the joiner's buffers here.
+// Where all are done zeros stand behind the lists, and behind the first n places of order and pops.
 pub fn list_columns(
     n: usize,
     starts: &[u64],
@@ -20,8 +21,7 @@ pub fn list_columns(
     requires long { ⌜ LongEnough n (six (now parents) (now order) (now pops) (now fstarts) (now frows) (now work)) ⌝ }
     ensures { λ r. ⌜ Listing n r (columnOf (now (starts .entry)) (now (rows .entry))) (six (now (parents .entry)) (now (order .entry)) (now (pops .entry)) (now (fstarts .entry)) (now (frows .entry)) (now (work .entry))) (six (now (parents .exit)) (now (order .exit)) (now (pops .exit)) (now (fstarts .exit)) (now (frows .exit)) (now (work .exit))) ⌝ }
 {
-    lent::clear_all(parents, order, pops, fstarts, frows, work);
-    structure::column_lists(
+    let done = structure::column_lists(
         n,
         starts,
         rows,
@@ -31,5 +31,15 @@ pub fn list_columns(
         &mut order[..n],
         &mut pops[..n],
         work,
-    )
+    );
+    if done < n {
+        return done;
+    }
+    let last = fstarts[n] as usize;
+    slices::clear32_from(parents, n);
+    slices::clear32_from(order, n);
+    slices::clear32_from(pops, n);
+    slices::clear64_from(fstarts, n + 1);
+    slices::clear32_from(frows, last);
+    done
 }

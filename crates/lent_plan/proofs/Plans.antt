@@ -1,13 +1,12 @@
--- The lists and the order that were made in the lent slices are those of the job's plan. A list stored at the front of a cleared slice is the result, then
+-- The lists and the order that were made in the lent slices are those of the job's plan. A list in front of what is cleared behind it is the result, then
 -- zeros; the tree and the rows that the order was made from are the pattern's (Ties).
 -- Assumes nothing.
 use Prim.Native.Nat.{ℕ, suc, _+_, _<_, _≤_}
 use mathlib.Core.Path.{_≡_, refl, sym, ap, _∙_}
 use mathlib.Core.List.{List, _++_, map, map-map, map-id}
 use native.Mathlib.Omega.{arith}
-use lib.ListN.{length, take, drop, length-map}
-use lib.Seq.{sets-eq}
-use Rattle.papers.specs.Lists.{flat, zeros, thenZeros}
+use lib.ListN.{length, take, drop, length-map, length-drop}
+use Rattle.papers.specs.Lists.{zeros, thenZeros}
 use Rattle.papers.specs.Job.{Job, pattern, Below}
 use Rattle.papers.specs.Fill.{R}
 use Rattle.papers.specs.Order.{popsOf, orderOf}
@@ -15,29 +14,25 @@ use Rattle.papers.specs.Key.{listsOf}
 use Rattle.papers.specs.Plan.{planOf}
 use Rattle.papers.specs.Refusals.{answer, passed, first, jobTests, Lent, holding}
 use Rattle.papers.specs.Analysis.{holdingPlan}
-use Rattle.list_laws.proofs.Stores.{sets-zeros, take-then-zeros, length-starts}
+use Rattle.list_laws.proofs.Stores.{take-then-zeros, length-starts}
 use Rattle.job_laws.proofs.Passed.{Passed, passes-iff, passed-below}
 use Rattle.job_laws.proofs.Laid.{length-lists}
 use Rattle.column_laws.proofs.Families.{length-grows}
 use Rattle.order_laws.proofs.Patterns.{order-length}
-use Rattle.structure.specs.Listed.{Listed}
 use Rattle.lent.specs.Six.{six, LongEnough}
 use Rattle.lent.proofs.Sixes.{sixes}
-use Rattle.lent_lists.specs.Listing.{Listing}
-use Rattle.lent.proofs.Alike.{zero-long, Alike}
+use Rattle.lent_lists.specs.Listing.{AllListed, Listing}
+use Rattle.lent.proofs.Alike.{Alike}
 use Rattle.lent_order.specs.Ordering.{Orderable, Ordering}
 use Rattle.stored_tree.proofs.Ties.{parentsOf, startsOf, length-parents, same-order, same-pops, same-peak, rowed}
 use Rattle.lent_plan.specs.Made.{Made}
 use Rattle.lent_plan.proofs.Made.{made-refused}
 use Rattle.lent_plan.proofs.Ways.{needed, peakIn, way-rows, way-peak, way-done}
 
--- in front of what lies behind it in a cleared slice, a result is followed by zeros
-zeros-behind : (n : ℕ) (xs l : List ℕ) → length xs ≡ n → n ≤ length l → xs ++ drop n (zeros l) ≡ thenZeros xs l
-zeros-behind n xs l e h =
-    let f : length xs ≤ length l = omega arith in
-    let g : 0 + length xs ≤ length (zeros l) = omega (arith, zero-long l refl) in
-    let z : 0 + length xs ≡ n = omega arith in
-    sym (rw z at (sets-eq xs (zeros l) 0 g)) ∙ sets-zeros xs l f
+-- in front of what is cleared behind it, a result is followed by zeros
+zeros-behind : (n : ℕ) (xs l : List ℕ) → length xs ≡ n → xs ++ zeros (drop n l) ≡ thenZeros xs l
+unfolding thenZeros
+zeros-behind n xs l e = rw (length-drop, e)
 
 module _ (job : Job) (p : first jobTests job ≡ passed) where
   abbrev passes : Passed job
@@ -52,7 +47,7 @@ module _ (job : Job) (p : first jobTests job ≡ passed) where
     made-rows h e = made-refused (λ z. omega arith) (way-rows job before p long exceeds (ap (answer 8 0) e) refl)
       where
         exceeds : length (before .factorRows) < needed job
-        exceeds = omega (arith, listing .listed .lacks h, zero-long (before .factorRows) refl, length-grows (R (pattern job)) (suc done) (job .n) (omega arith))
+        exceeds = omega (arith, listing .lacks h, length-grows (R (pattern job)) (suc done) (job .n) (omega arith))
 
     -- ---- all columns are done
 
@@ -69,33 +64,19 @@ module _ (job : Job) (p : first jobTests job ≡ passed) where
       abbrev order : List ℕ
       order = orderOf (job .mark) n (pattern job)
 
-      listed : Listed n n (pattern job) (zeros (before .parents)) (zeros (before .factorStarts)) (zeros (before .factorRows)) (mid .parents) (mid .factorStarts) (mid .factorRows)
-      listed = let e : done ≡ n = omega (arith, listing .listed .most) in rw e at (listing .listed)
-
-      fits : needed job ≤ length (before .factorRows)
-      fits = omega (arith, listed .fits, zero-long (before .factorRows) refl)
+      listed : AllListed n (pattern job) before mid
+      listed = listing .all all
 
       length-starts-of : length starts ≡ n + 1
       length-starts-of = length-starts 0 (listsOf n (R (pattern job))) ∙ ap (λ k. k + 1) (length-lists (R (pattern job)) n)
 
-      -- the slices of the lists
-
-      parents-hold : mid .parents ≡ thenZeros parents (before .parents)
-      parents-hold = listed .parents-are ∙ sets-zeros parents (before .parents) (omega (arith, length-parents below, long .parents))
-
-      starts-hold : mid .factorStarts ≡ thenZeros starts (before .factorStarts)
-      starts-hold = listed .starts-are ∙ sets-zeros starts (before .factorStarts) (omega (arith, length-starts-of, long .starts))
-
-      rows-hold : mid .factorRows ≡ thenZeros (flat (listsOf n (R (pattern job)))) (before .factorRows)
-      rows-hold = listed .rows-are ∙ sets-zeros (flat (listsOf n (R (pattern job)))) (before .factorRows) fits
-
       -- their fronts
 
       parents-front : take n (mid .parents) ≡ parents
-      parents-front = rw parents-hold (take-then-zeros parents (before .parents) (length-parents below))
+      parents-front = rw (listed .parents) (take-then-zeros parents (before .parents) (length-parents below))
 
       starts-front : take (n + 1) (mid .factorStarts) ≡ starts
-      starts-front = rw starts-hold (take-then-zeros starts (before .factorStarts) length-starts-of)
+      starts-front = rw (listed .starts) (take-then-zeros starts (before .factorStarts) length-starts-of)
 
       pub orderable : Orderable (job .mark) n (mid .parents) (mid .order) (mid .pops) (mid .factorStarts) (mid .work)
       orderable =
@@ -122,24 +103,24 @@ module _ (job : Job) (p : first jobTests job ≡ passed) where
 
         order-holds : steps ≡ thenZeros order (before .order)
         order-holds =
-            (rw (parents-front, starts-front, listing .order, same-order below (job .mark)) at (ordering .steps))
-            ∙ zeros-behind n order (before .order) (order-length below (job .mark)) (long .order)
+            (rw (parents-front, starts-front, listed .order, same-order below (job .mark)) at (ordering .steps))
+            ∙ zeros-behind n order (before .order) (order-length below (job .mark))
 
         pops-hold : counts ≡ thenZeros (map (popsOf n (pattern job)) order) (before .pops)
         pops-hold =
-            (rw (parents-front, starts-front, listing .pops, same-pops below, same-order below (job .mark)) at (ordering .counts))
-            ∙ zeros-behind n (map (popsOf n (pattern job)) order) (before .pops) (length-map order (popsOf n (pattern job)) ∙ order-length below (job .mark)) (long .pops)
+            (rw (parents-front, starts-front, listed .pops, same-pops below, same-order below (job .mark)) at (ordering .counts))
+            ∙ zeros-behind n (map (popsOf n (pattern job)) order) (before .pops) (length-map order (popsOf n (pattern job)) ∙ order-length below (job .mark))
 
         holds : six (mid .parents) steps counts (mid .factorStarts) (mid .factorRows) work ≡ holdingPlan job (planOf job) before
         unfolding holdingPlan holding planOf
         holds =
-            sixes parents-hold (order-holds ∙ ap (λ l. thenZeros l (before .order)) (sym (map-map _ _ order ∙ map-id order)))
-            (pops-hold ∙ ap (λ l. thenZeros l (before .pops)) (sym (map-map _ _ order))) starts-hold rows-hold (ordering .cleared ∙ rw (alike .work))
+            sixes (listed .parents) (order-holds ∙ ap (λ l. thenZeros l (before .order)) (sym (map-map _ _ order ∙ map-id order)))
+            (pops-hold ∙ ap (λ l. thenZeros l (before .pops)) (sym (map-map _ _ order))) (listed .starts) (listed .rows) (ordering .cleared ∙ rw (alike .work))
 
         -- 9
         pub made-peak : job .limit < most → Made job before (six (mid .parents) steps counts (mid .factorStarts) (mid .factorRows) work) (answer 9 0 most)
-        made-peak h = made-refused (λ z. omega arith) (way-peak job before p long fits (omega (arith, peak-is)) (ap (answer 9 0) peak-is) refl)
+        made-peak h = made-refused (λ z. omega arith) (way-peak job before p long (listed .fits) (omega (arith, peak-is)) (ap (answer 9 0) peak-is) refl)
 
         -- done
         pub made-done : most ≤ job .limit → Made job before (six (mid .parents) steps counts (mid .factorStarts) (mid .factorRows) work) (answer 0 0 most)
-        made-done h = record { done = λ z. way-done job before p long fits (omega (arith, peak-is)) (ap (answer 0 0) peak-is) holds; refused = λ z. absurd (z refl) }
+        made-done h = record { done = λ z. way-done job before p long (listed .fits) (omega (arith, peak-is)) (ap (answer 0 0) peak-is) holds; refused = λ z. absurd (z refl) }

@@ -1,7 +1,9 @@
-// Lent slices: cleared, and handed on in part.
+// Lent slices: cleared, whole or from a place on, and handed on in part.
 ghost use mathlib.Core.Path.{_≡_};
-ghost use lib.ListN.{take};
+ghost use Prim.Native.Nat.{_≤_};
+ghost use lib.ListN.{length, take};
 ghost use Rattle.papers.specs.Lists.{zeros};
+ghost use Rattle.slices.specs.From.{zerosFrom};
 
 // Sets every byte of a lent slice to zero. The bytes before i are zero, the others as they were.
 pub fn clear8(bytes: &mut [u8])
@@ -34,6 +36,22 @@ pub fn clear64(numbers: &mut [u64])
         numbers[i] = 0;
         i += 1;
     }
+}
+
+// Sets the places from `from` on to zero: those behind a result in a slice of rows or columns.
+pub fn clear32_from(rows: &mut [u32], from: usize)
+    requires { ⌜ from ≤ length (now rows) ⌝ }
+    ensures { λ _. ⌜ now (rows .exit) ≡ zerosFrom from (now (rows .entry)) ⌝ }
+{
+    clear32(&mut rows[from..]);
+}
+
+// The same for a slice of starts.
+pub fn clear64_from(numbers: &mut [u64], from: usize)
+    requires { ⌜ from ≤ length (now numbers) ⌝ }
+    ensures { λ _. ⌜ now (numbers .exit) ≡ zerosFrom from (now (numbers .entry)) ⌝ }
+{
+    clear64(&mut numbers[from..]);
 }
 
 // The first count bytes of a slice: how a written key or plan is handed on. A count past the end gives the whole slice.

@@ -1,0 +1,33 @@
+-- Clearing the part from a place on leaves what stands before it; so a result stored at the front of a slice is then followed by zeros.
+-- Assumes nothing.
+use Prim.Native.Nat.{ℕ, _+_, _-_, _≤_}
+use mathlib.Core.Path.{_≡_}
+use mathlib.Core.List.{List, [], _++_, append-nil}
+use native.Mathlib.Omega.{arith}
+use lib.ListN.{length, take, drop, length-append, length-take, length-drop, length-replicate, drop-of-length-le}
+use lib.Seq.{sets, sets-eq, take-at, length-take-le, drop-at}
+use Rattle.papers.specs.Lists.{zeros, thenZeros}
+use Rattle.slices.specs.From.{zerosFrom}
+
+-- the part of so many places from k on, cleared, with nothing behind it
+pub cleared-from : (k : ℕ) (l : List ℕ) {rest : List ℕ} → k ≤ length l → rest ≡ zeros (take (length l - k) (drop k l))
+    → take k l ++ (rest ++ drop (length l - k) (drop k l)) ≡ zerosFrom k l
+unfolding zerosFrom
+cleared-from k l {rest} h z =
+    let last : drop (length l - k) (drop k l) ≡ [] = drop-of-length-le (drop k l) {i = length l - k} (rw length-drop (omega arith)) in
+    let many : length (take (length l - k) (drop k l)) ≡ length (drop k l) = omega (arith, length-take (length l - k) (drop k l), length-drop k l) in
+    rw (last, append-nil rest, z, many)
+
+-- it keeps its length
+pub length-from : (k : ℕ) (l : List ℕ) → k ≤ length l → length (zerosFrom k l) ≡ length l
+unfolding zerosFrom
+length-from k l h = omega (arith, length-append (take k l) (zeros (drop k l)), length-take-le k l h, length-replicate {A = ℕ} (length (drop k l)) 0, length-drop k l)
+
+-- a result of k numbers at the front
+pub stored-from : {k : ℕ} (xs l : List ℕ) → length xs ≡ k → k ≤ length l → zerosFrom k (sets l 0 xs) ≡ thenZeros xs l
+unfolding zerosFrom thenZeros
+stored-from {k} xs l e h =
+    let fits : 0 + length xs ≤ length l = omega arith in
+    let z : 0 + length xs ≡ k = omega arith in
+    let m : length (drop k l) ≡ length l - length xs = omega (arith, length-drop k l) in
+    rw (sets-eq xs l 0 fits, z, take-at xs (drop k l) k e, drop-at xs (drop k l) k e, m)
