@@ -3,3 +3,4 @@ pub mod Runs
 pub mod Down
 pub mod Held
 pub mod Depth
+pub mod Only

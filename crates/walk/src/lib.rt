@@ -47,7 +47,14 @@ pub fn column(
         if b.size == 1 {
             return;
         }
-        b = siblings(starts, list, counts, b.column, b.size - 1, order, b.at);
+        // many have one child: there is nothing to choose, and it is gone on with at once
+        let c = b.column;
+        let child = child_block(list, counts, starts[c] as usize, b.at);
+        if child.size == b.size - 1 {
+            b = child;
+        } else {
+            b = siblings(starts, list, counts, b.column, b.size - 1, order, b.at);
+        }
     }
 }
 
