@@ -4,7 +4,7 @@ use Prim.Native.Nat.{ℕ, _≤_}
 use mathlib.Core.Path.{_≡_, ap, _∙_}
 use mathlib.Core.Logic.{_≢_}
 use mathlib.Core.List.{List, []}
-use lib.ListN.{length, getD, length-map}
+use lib.ListN.{length, getD}
 use Rattle.papers.specs.declared.Answer.{Answer}
 use Rattle.papers.specs.Lists.{_∈_, least}
 use Rattle.papers.specs.Job.{Job}
@@ -12,6 +12,7 @@ use Rattle.papers.specs.Plan.{Plan, columnsIn}
 use Rattle.papers.specs.Refusals.{answer, passed, first}
 use Rattle.papers.specs.Check.{repeated, repeatTest}
 use Rattle.list_laws.proofs.Members.{at-place}
+use Rattle.job_laws.proofs.Parts.{length-columns, length-pops}
 use Rattle.refusal_laws.proofs.PlanSteps.{Steps}
 use Rattle.plan_laws.proofs.Steps.{columns-within}
 use Rattle.step_tests.specs.Steps.{Within}
@@ -20,13 +21,13 @@ use Rattle.plan_judge.proofs.Rulings.{ruling-refused, decides, at-refus
 
 module _ {n peak : ℕ} {plan : Plan} {order pops fstarts : List ℕ} (held : PlanHeld n plan peak order pops fstarts) where
   pub read : Steps n n (columnsIn (plan .steps))
-  read = (length-map (plan .steps) (λ x. x .0) ∙ held .fit .all-steps, columns-within n (plan .steps) (held .fit .steps))
+  read = (length-columns (held .fit), columns-within n (plan .steps) (held .fit .steps))
 
   pub order-length : length order ≡ n
   order-length = ap length (held .columns) ∙ read .0
 
   pub pops-length : length pops ≡ n
-  pops-length = ap length (held .popped) ∙ (length-map (plan .steps) (λ x. x .1) ∙ held .fit .all-steps)
+  pops-length = ap length (held .popped) ∙ length-pops (held .fit)
 
   pub in-range : (j : ℕ) → j ∈ order → (1 ≤ j) × (j ≤ n)
   in-range j m = read .1 j (rw (held .columns) at m)

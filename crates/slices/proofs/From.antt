@@ -4,8 +4,8 @@ use Prim.Native.Nat.{ℕ, _+_, _-_, _≤_}
 use mathlib.Core.Path.{_≡_}
 use mathlib.Core.List.{List, [], _++_, append-nil}
 use native.Mathlib.Omega.{arith}
-use lib.ListN.{length, take, drop, length-append, length-take, length-drop, length-replicate, drop-of-length-le}
-use lib.Seq.{sets, sets-eq, take-at, length-take-le, drop-at}
+use lib.ListN.{length, take, drop, length-take, length-drop, drop-of-length-le}
+use lib.Seq.{sets, sets-eq, take-at, drop-at}
 use Rattle.papers.specs.Lists.{zeros, thenZeros}
 use Rattle.slices.specs.From.{zerosFrom}
 
@@ -17,11 +17,6 @@ cleared-from k l {rest} h z =
     let last : drop (length l - k) (drop k l) ≡ [] = drop-of-length-le (drop k l) {i = length l - k} (rw length-drop (omega arith)) in
     let many : length (take (length l - k) (drop k l)) ≡ length (drop k l) = omega (arith, length-take (length l - k) (drop k l), length-drop k l) in
     rw (last, append-nil rest, z, many)
-
--- it keeps its length
-pub length-from : (k : ℕ) (l : List ℕ) → k ≤ length l → length (zerosFrom k l) ≡ length l
-unfolding zerosFrom
-length-from k l h = omega (arith, length-append (take k l) (zeros (drop k l)), length-take-le k l h, length-replicate {A = ℕ} (length (drop k l)) 0, length-drop k l)
 
 -- a result of k numbers at the front
 pub stored-from : {k : ℕ} (xs l : List ℕ) → length xs ≡ k → k ≤ length l → zerosFrom k (sets l 0 xs) ≡ thenZeros xs l

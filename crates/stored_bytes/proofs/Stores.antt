@@ -1,16 +1,18 @@
 -- Bytes that do not fit a lent slice are refused with their number; bytes that fit stand in it, then zeros.
 -- Assumes nothing.
-use Prim.Native.Nat.{ℕ, _+_, _-_, _<_, _≤_}
-use mathlib.Core.Path.{_≡_, sym, _∙_}
-use mathlib.Core.List.{List, [], _++_, append-nil}
+use Prim.Native.Nat.{ℕ, _-_, _<_, _≤_}
+use mathlib.Core.Path.{_≡_, sym, ap, _∙_}
+use mathlib.Core.List.{List, _++_}
 use native.Mathlib.Omega.{arith}
-use lib.ListN.{length, take, drop, length-take, length-drop, drop-of-length-le}
-use lib.Seq.{sets, sets-eq, length-sets, take-at}
+use lib.ListN.{length, take, drop}
+use lib.Seq.{sets, length-sets}
 use Rattle.papers.specs.declared.Answer.{Answer}
 use Rattle.papers.specs.Lists.{zeros, thenZeros}
 use Rattle.papers.specs.Refusals.{answer, zeroed, Outcome, bytesTest}
 use Rattle.job_laws.proofs.Firsts.{first-last, over-refuses, over-passes-iff}
 use Rattle.job_laws.proofs.Outcomes.{outcome-zeroed, outcome-done}
+use Rattle.slices.specs.From.{zerosFrom}
+use Rattle.slices.proofs.From.{cleared-from, stored-from}
 use Rattle.stored_bytes.specs.Stored.{stored}
 
 module _ (written bytes : List ℕ) where
@@ -36,15 +38,9 @@ module _ (written before : List ℕ) {entry : List ℕ} {needed : ℕ} (n : need
   finished-short h a z = rw (a, z, same-places, n) (sym (short-is written before (omega (arith, same-places))))
 
   module _ (h : needed ≤ length entry) where
-    fits : 0 + length written ≤ length before
-    fits = omega (arith, same-places)
-
     -- the places behind them are cleared
     pub finished-whole : {r : Answer} {rest : List ℕ} → r ≡ answer 0 0 needed → rest ≡ zeros (take (length entry - needed) (drop needed entry))
         → _≡_ {A = Outcome (List ℕ)} (record { answer = r; lent = take needed entry ++ (rest ++ drop (length entry - needed) (drop needed entry)) }) (stored written before)
-    unfolding thenZeros
-    finished-whole {rest = rest} a z =
-        let front : take needed entry ≡ written = rw (e, sets-eq written before 0 fits) (take-at written (drop (0 + length written) before) needed (sym n)) in
-        let last : drop (length entry - needed) (drop needed entry) ≡ [] = drop-of-length-le (drop needed entry) {i = length entry - needed} (rw length-drop (omega arith)) in
-        let many : length (take (length entry - needed) (drop needed entry)) ≡ length before - length written = omega (arith, same-places, length-take (length entry - needed) (drop needed entry), length-drop needed entry) in
-        rw (front, last, append-nil rest, z, many, a, n) (sym (whole-is written before (omega (arith, same-places))))
+    finished-whole a z =
+        let left = cleared-from needed entry h z ∙ ap (zerosFrom needed) e ∙ stored-from written before (sym n) (omega (arith, same-places)) in
+        rw (left, a, n) (sym (whole-is written before (omega (arith, same-places))))
