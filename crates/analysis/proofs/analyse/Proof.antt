@@ -9,65 +9,105 @@ use Rattle.lent_plan.proofs.Made.{made-cleared}
 use Rattle.analysis.proofs.analyse.Statement.{statement}
 use Rattle.analysis.proofs.analyse.Tie as tie
 
+-- The places that the answers look back to: `after-first-fault (search)` is the one behind the answer at hand.
+abbrev after-first-fault : tie.After-first-fault → tie.After-first-fault
+after-first-fault c = c
+
+abbrev else1 : tie.Else1 → tie.Else1
+else1 c = c
+
+abbrev after-too-short : tie.After-too-short → tie.After-too-short
+after-too-short c = c
+
+abbrev else2 : tie.Else2 → tie.Else2
+else2 c = c
+
+abbrev after-planned : tie.After-planned → tie.After-planned
+after-planned c = c
+
+abbrev then3 : tie.Then3 → tie.Then3
+then3 c = c
+
+abbrev cleared : tie.After-clear-all → tie.After-clear-all
+cleared c = c
+
+abbrev after-planned₁ : tie.Then3 → tie.After-planned
+after-planned₁ c = search
+
 first-fault-requires : tie.Need-first-fault-requires
 first-fault-requires c κs = tt
 
 returns : tie.Need-returns
-returns c = way-job _ _ (c .before .before .first-fault .ensures) (c .if1 .taken)
+returns c = way-job _ _ (after-first-fault (search) .first-fault .ensures) (c .if1 .taken)
 
 too-short-requires : tie.Need-too-short-requires
-too-short-requires c κs = tested _ (job-answered _ (c .before .before .first-fault .ensures) (c .if1 .left)) .few
+too-short-requires c κs = tested _ (job-answered _ (after-first-fault (search) .first-fault .ensures) (c .if1 .left)) .few
 
 returns-2 : tie.Need-returns-2
-returns-2 c = way-short _ _ (job-answered _ (c .before .before .before .before .first-fault .ensures) (c .before .before .if1 .left)) (sym (c .before .too-short .ensures) ∙ c .if2 .taken)
+returns-2 c =
+    way-short _ _ (job-answered _ (after-first-fault (search) .first-fault .ensures) (else1 (search) .if1 .left))
+    (sym (c .before .too-short .ensures) ∙ c .if2 .taken)
 
 planned-requires : tie.Need-planned-requires
-planned-requires c κs = (job-answered _ (c .before .before .before .before .before .before .before .before .before .before .first-fault .ensures) (c .before .before .before .before .before .before .before .before .if1 .left), not-short _ _ (sym (c .before .before .before .before .before .before .before .too-short .ensures) ∙ c .before .before .before .before .before .before .if2 .left))
+planned-requires c κs = (
+  job-answered _ (after-first-fault (search) .first-fault .ensures) (else1 (search) .if1 .left),
+  not-short _ _ (sym (after-too-short (search) .too-short .ensures) ∙ else2 (search) .if2 .left),
+)
 
 clear-all-requires : tie.Need-clear-all-requires
 clear-all-requires c κs = tt
 
 same-length : tie.Need-same-length
-same-length c = c .before .before .before .before .before .before .before .before .before .before .before .before .clear-all .kept .0 ∙ c .before .before .before .before .before .before .before .before .before .before .before .before .before .before .before .before .before .before .before .before .before .before .before .before .before .before .before .before .before .before .before .before .before .planned .kept .1 .1 .1 .0
+same-length c = cleared (search) .clear-all .kept .0 ∙ after-planned₁ (search) .planned .kept .1 .1 .1 .0
 
 same-length-2 : tie.Need-same-length-2
-same-length-2 c = c .before .before .before .before .before .before .before .before .before .before .before .before .clear-all .kept .1 .0 ∙ c .before .before .before .before .before .before .before .before .before .before .before .before .before .before .before .before .before .before .before .before .before .before .before .before .before .before .before .before .before .before .before .before .before .planned .kept .1 .1 .1 .1 .0
+same-length-2 c = cleared (search) .clear-all .kept .1 .0 ∙ after-planned₁ (search) .planned .kept .1 .1 .1 .1 .0
 
 same-length-3 : tie.Need-same-length-3
-same-length-3 c = c .before .before .before .before .before .before .before .before .before .before .before .before .clear-all .kept .1 .1 .0 ∙ c .before .before .before .before .before .before .before .before .before .before .before .before .before .before .before .before .before .before .before .before .before .before .before .before .before .before .before .before .before .before .before .before .before .planned .kept .1 .1 .1 .1 .1 .0
+same-length-3 c = cleared (search) .clear-all .kept .1 .1 .0 ∙ after-planned₁ (search) .planned .kept .1 .1 .1 .1 .1 .0
 
 same-length-4 : tie.Need-same-length-4
-same-length-4 c = c .before .before .before .before .before .before .before .before .before .before .before .before .clear-all .kept .1 .1 .1 .0 ∙ c .before .before .before .before .before .before .before .before .before .before .before .before .before .before .before .before .before .before .before .before .before .before .before .before .before .before .before .before .before .before .before .before .before .planned .kept .1 .1 .1 .1 .1 .1 .0
+same-length-4 c = cleared (search) .clear-all .kept .1 .1 .1 .0 ∙ after-planned₁ (search) .planned .kept .1 .1 .1 .1 .1 .1 .0
 
 same-length-5 : tie.Need-same-length-5
-same-length-5 c = c .before .before .before .before .before .before .before .before .before .before .before .before .clear-all .kept .1 .1 .1 .1 .0 ∙ c .before .before .before .before .before .before .before .before .before .before .before .before .before .before .before .before .before .before .before .before .before .before .before .before .before .before .before .before .before .before .before .before .before .planned .kept .1 .1 .1 .1 .1 .1 .1 .0
+same-length-5 c = cleared (search) .clear-all .kept .1 .1 .1 .1 .0 ∙ after-planned₁ (search) .planned .kept .1 .1 .1 .1 .1 .1 .1 .0
 
 same-length-6 : tie.Need-same-length-6
-same-length-6 c = c .before .before .before .before .before .before .before .before .before .before .before .before .clear-all .kept .1 .1 .1 .1 .1 .0 ∙ c .before .before .before .before .before .before .before .before .before .before .before .before .before .before .before .before .before .before .before .before .before .before .before .before .before .before .before .before .before .before .before .before .before .planned .kept .1 .1 .1 .1 .1 .1 .1 .1 .0
+same-length-6 c = cleared (search) .clear-all .kept .1 .1 .1 .1 .1 .0 ∙ after-planned₁ (search) .planned .kept .1 .1 .1 .1 .1 .1 .1 .1 .0
 
 returns-3 : tie.Need-returns-3
-returns-3 c = let k = c .before .before .before .before .before .before .before .before .before .before .before .before .before .before .before .before .before .before .before .before .before .before .before .before .before .before .before .before .before .before .before .before .before .planned .kept in made-cleared (c .before .before .before .before .before .before .before .before .before .before .before .before .before .before .before .before .before .before .before .before .before .before .before .before .before .before .before .before .before .before .before .before .before .planned .ensures) (record { parents = k .1 .1 .1 .0; order = k .1 .1 .1 .1 .0; pops = k .1 .1 .1 .1 .1 .0; starts = k .1 .1 .1 .1 .1 .1 .0; rows = k .1 .1 .1 .1 .1 .1 .1 .0; work = k .1 .1 .1 .1 .1 .1 .1 .1 .0 }) (c .before .before .before .before .before .before .before .before .before .before .before .before .before .before .before .before .before .before .before .if3 .taken) (c .before .before .before .before .before .before .before .before .before .before .before .before .clear-all .ensures)
+returns-3 c =
+    let k = after-planned₁ (search) .planned .kept in
+    made-cleared (after-planned₁ (search) .planned .ensures) (record {
+      parents = k .1 .1 .1 .0;
+      order = k .1 .1 .1 .1 .0;
+      pops = k .1 .1 .1 .1 .1 .0;
+      starts = k .1 .1 .1 .1 .1 .1 .0;
+      rows = k .1 .1 .1 .1 .1 .1 .1 .0;
+      work = k .1 .1 .1 .1 .1 .1 .1 .1 .0;
+    }) (then3 (search) .if3 .taken)
+    (cleared (search) .clear-all .ensures)
 
 same-length-7 : tie.Need-same-length-7
-same-length-7 c = c .before .before .before .before .before .before .before .before .before .before .before .before .before .before .planned .kept .1 .1 .1 .0
+same-length-7 c = after-planned (search) .planned .kept .1 .1 .1 .0
 
 same-length-8 : tie.Need-same-length-8
-same-length-8 c = c .before .before .before .before .before .before .before .before .before .before .before .before .before .before .planned .kept .1 .1 .1 .1 .0
+same-length-8 c = after-planned (search) .planned .kept .1 .1 .1 .1 .0
 
 same-length-9 : tie.Need-same-length-9
-same-length-9 c = c .before .before .before .before .before .before .before .before .before .before .before .before .before .before .planned .kept .1 .1 .1 .1 .1 .0
+same-length-9 c = after-planned (search) .planned .kept .1 .1 .1 .1 .1 .0
 
 same-length-10 : tie.Need-same-length-10
-same-length-10 c = c .before .before .before .before .before .before .before .before .before .before .before .before .before .before .planned .kept .1 .1 .1 .1 .1 .1 .0
+same-length-10 c = after-planned (search) .planned .kept .1 .1 .1 .1 .1 .1 .0
 
 same-length-11 : tie.Need-same-length-11
-same-length-11 c = c .before .before .before .before .before .before .before .before .before .before .before .before .before .before .planned .kept .1 .1 .1 .1 .1 .1 .1 .0
+same-length-11 c = after-planned (search) .planned .kept .1 .1 .1 .1 .1 .1 .1 .0
 
 same-length-12 : tie.Need-same-length-12
-same-length-12 c = c .before .before .before .before .before .before .before .before .before .before .before .before .before .before .planned .kept .1 .1 .1 .1 .1 .1 .1 .1 .0
+same-length-12 c = after-planned (search) .planned .kept .1 .1 .1 .1 .1 .1 .1 .1 .0
 
 returns-4 : tie.Need-returns-4
-returns-4 c = c .before .before .before .before .before .before .before .before .before .before .before .before .before .before .planned .ensures .done (c .if3 .left)
+returns-4 c = after-planned (search) .planned .ensures .done (c .if3 .left)
 
 pub analyse-spec : {M : Type 1} → statement M
 analyse-spec =

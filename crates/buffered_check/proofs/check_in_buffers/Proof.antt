@@ -19,6 +19,10 @@ in-buffers : (job : Job) (plan : List ℕ) {a : Answer} {lent : Lent} → record
 unfolding buffers
 in-buffers job plan e = ap (λ (o : Outcome Lent). o .answer) e
 
+-- The places that the answers look back to: `after-check-plan (search)` is the one behind the answer at hand.
+abbrev after-check-plan : tie.After-check-plan → tie.After-check-plan
+after-check-plan c = c
+
 slice-aggregate-check-plan : tie.Need-slice-aggregate-check-plan
 slice-aggregate-check-plan c = search needs
 
@@ -41,7 +45,7 @@ check-plan-requires : tie.Need-check-plan-requires
 check-plan-requires c κs = search needs
 
 returns : tie.Need-returns
-returns c = in-buffers _ _ (c .before .before .before .before .before .before .check-plan .ensures)
+returns c = in-buffers _ _ (after-check-plan (search) .check-plan .ensures)
 
 pub check-in-buffers-spec : {M : Type 1} → statement M
 check-in-buffers-spec =

@@ -13,6 +13,49 @@ use Rattle.bytes_judge.proofs.Rules.{whole-held, ruled}
 use Rattle.bytes_judge.proofs.judge_bytes.Statement.{statement}
 use Rattle.bytes_judge.proofs.judge_bytes.Tie as tie
 
+-- The places that the answers look back to: `entry (search)` is the one behind the answer at hand.
+abbrev entry : tie.Start → tie.Start
+entry c = c
+
+abbrev matched : tie.After-match-key → tie.After-match-key
+matched c = c
+
+abbrev after-next : tie.After-next → tie.After-next
+after-next c = c
+
+abbrev after-place : tie.After-place → tie.After-place
+after-place c = c
+
+abbrev cleared : tie.After-clear-all → tie.After-clear-all
+cleared c = c
+
+abbrev read : tie.After-read-plan → tie.After-read-plan
+read c = c
+
+abbrev judged : tie.After-judge-reading → tie.After-judge-reading
+judged c = c
+
+abbrev entry₁ : tie.After-match-key → tie.Start
+entry₁ c = search
+
+abbrev after-shared-slice-known3₁ : tie.After-match-key → tie.After-shared-slice-known3
+after-shared-slice-known3₁ c = search
+
+abbrev entry₂ : tie.After-read-plan → tie.Start
+entry₂ c = entry₁ (search)
+
+abbrev after-shared-slice-known3₂ : tie.After-read-plan → tie.After-shared-slice-known3
+after-shared-slice-known3₂ c = after-shared-slice-known3₁ (search)
+
+abbrev matched₂ : tie.After-read-plan → tie.After-match-key
+matched₂ c = search
+
+abbrev after-next₂ : tie.After-read-plan → tie.After-next
+after-next₂ c = search
+
+abbrev cleared₂ : tie.After-read-plan → tie.After-clear-all
+cleared₂ c = search
+
 match-key-requires : tie.Need-match-key-requires
 match-key-requires c κs = search needs
 
@@ -23,7 +66,9 @@ answered-requires : tie.Need-answered-requires
 answered-requires c κs = search needs
 
 returns : tie.Need-returns
-returns c = refuses (refuses-11 _ _ _ (c .before .before .before .before .before .before .before .before .before .before .before .before .before .before .pre .0) (c .before .before .before .before .before .before .before .before .before .before .before .before .before .before .pre .1) (c .before .before .before .before .match-key .ensures) (c .before .before .place .given .1) (c .answered .ensures)) (λ n. omega (arith, number-of (c .answered .ensures)))
+returns c =
+    refuses (refuses-11 _ _ _ (entry (search) .pre .0) (entry (search) .pre .1) (matched (search) .match-key .ensures)
+    (after-place (search) .place .given .1) (c .answered .ensures)) (λ n. omega (arith, number-of (c .answered .ensures)))
 
 enum-known-next : tie.Need-enum-known-next
 enum-known-next c = search needs
@@ -33,38 +78,59 @@ clear-all-requires c κs = search needs
 
 read-plan-requires : tie.Need-read-plan-requires
 read-plan-requires c κs =
-    let long = c .before .before .before .before .before .before .before .before .before .before .before .before .before .before .before .before .before .before .before .before .before .before .before .before .before .before .before .before .before .before .before .before .before .before .before .before .pre .1 in
-    (tested _ (c .before .before .before .before .before .before .before .before .before .before .before .before .before .before .before .before .before .before .before .before .before .before .before .before .before .before .before .before .before .before .before .before .before .before .before .before .pre .0) .few, begins-key _ _ (c .before .before .before .before .before .before .before .before .before .before .before .before .before .before .before .before .before .before .before .before .before .before .before .before .before .before .match-key .ensures) (c .before .before .before .before .before .before .before .before .before .before .before .before .before .before .before .before .before .before .before .before .before .before .before .before .next .given .1) .2, omega (arith, long .order, c .before .before .before .before .before .before .before .before .before .before .before .before .before .before .before .before .clear-all .kept .1 .0), omega (arith, long .pops, c .before .before .before .before .before .before .before .before .before .before .before .before .before .before .before .before .clear-all .kept .1 .1 .0), omega (arith, long .starts, c .before .before .before .before .before .before .before .before .before .before .before .before .before .before .before .before .clear-all .kept .1 .1 .1 .0))
+    let long = entry₁ (search) .pre .1 in (
+      tested _ (entry₁ (search) .pre .0) .few,
+      begins-key _ _ (matched (search) .match-key .ensures) (after-next (search) .next .given .1) .2,
+      omega (arith, long .order, cleared (search) .clear-all .kept .1 .0),
+      omega (arith, long .pops, cleared (search) .clear-all .kept .1 .1 .0),
+      omega (arith, long .starts, cleared (search) .clear-all .kept .1 .1 .1 .0),
+    )
 
 judge-reading-requires : tie.Need-judge-reading-requires
 judge-reading-requires c κs = (
-  c .before .before .before .before .before .before .before .before .before .before .before .before .before .before .before .before .before .before .before .before .before .before .before .before .before .before .before .before .before .before .before .before .before .before .before .before .before .before .before .before .before .before .before .before .before .before .before .before .before .before .before .pre .0,
+  entry₂ (search) .pre .0,
   (
-    whole-held _ _ _ (c .before .before .before .before .before .before .before .before .before .before .before .before .before .before .before .before .before .before .before .before .before .before .before .before .before .before .before .before .before .before .before .before .before .before .before .before .before .before .before .before .before .before .before .before .before .before .before .before .before .before .before .pre .0) (c .before .before .before .before .before .before .before .before .before .before .before .before .before .before .before .before .before .before .before .before .before .before .before .before .before .before .before .before .before .before .before .before .before .before .before .before .before .before .before .before .before .before .before .before .before .before .before .before .before .before .before .pre .1) (c .before .before .before .before .before .before .before .before .before .before .before .before .before .before .before .before .before .before .before .before .before .before .before .before .before .before .before .before .before .before .before .before .before .before .before .before .before .before .before .before .before .match-key .ensures) (c .before .before .before .before .before .before .before .before .before .before .before .before .before .before .before .before .before .before .before .before .before .before .before .before .before .before .before .before .before .before .before .before .before .before .before .before .before .before .before .next .given .1) (c .before .before .before .before .before .before .before .before .before .before .before .before .before .before .read-plan .ensures .0) (λ i. omega (arith, c .before .before .before .before .before .before .before .before .before .before .before .before .before .before .before .before .before .before .before .before .before .before .before .before .before .before .before .before .before .before .before .before .before .before .before .before .before .before .before .before .before .before .before .before .before .before .before .before .shared-slice-known3 .given i)) (c .before .before .before .before .before .before .before .before .before .before .before .before .before .before .before .before .before .before .before .before .before .before .before .before .before .before .before .before .before .before .before .clear-all .ensures) (c .before .before .before .before .before .before .before .before .before .before .before .before .before .before .read-plan .ensures .1) (c .before .before .before .before .before .before .before .before .before .before .before .before .before .before .read-plan .kept .1 .1 .1 .1 .1 .1 .0 ∙ c .before .before .before .before .before .before .before .before .before .before .before .before .before .before .before .before .before .before .before .before .before .before .before .before .before .before .before .before .before .before .before .clear-all .kept .1 .1 .1 .1 .0),
-    long-alike (record { parents = c .before .before .before .before .before .before .before .before .before .before .before .before .before .before .before .before .before .before .before .before .before .before .before .before .before .before .before .before .before .before .before .clear-all .kept .0; order = c .before .before .before .before .before .before .before .before .before .before .before .before .before .before .read-plan .kept .1 .1 .1 .0 ∙ c .before .before .before .before .before .before .before .before .before .before .before .before .before .before .before .before .before .before .before .before .before .before .before .before .before .before .before .before .before .before .before .clear-all .kept .1 .0; pops = c .before .before .before .before .before .before .before .before .before .before .before .before .before .before .read-plan .kept .1 .1 .1 .1 .0 ∙ c .before .before .before .before .before .before .before .before .before .before .before .before .before .before .before .before .before .before .before .before .before .before .before .before .before .before .before .before .before .before .before .clear-all .kept .1 .1 .0; starts = c .before .before .before .before .before .before .before .before .before .before .before .before .before .before .read-plan .kept .1 .1 .1 .1 .1 .0 ∙ c .before .before .before .before .before .before .before .before .before .before .before .before .before .before .before .before .before .before .before .before .before .before .before .before .before .before .before .before .before .before .before .clear-all .kept .1 .1 .1 .0; rows = c .before .before .before .before .before .before .before .before .before .before .before .before .before .before .read-plan .kept .1 .1 .1 .1 .1 .1 .0 ∙ c .before .before .before .before .before .before .before .before .before .before .before .before .before .before .before .before .before .before .before .before .before .before .before .before .before .before .before .before .before .before .before .clear-all .kept .1 .1 .1 .1 .0; work = c .before .before .before .before .before .before .before .before .before .before .before .before .before .before .before .before .before .before .before .before .before .before .before .before .before .before .before .before .before .before .before .clear-all .kept .1 .1 .1 .1 .1 .0 }) (c .before .before .before .before .before .before .before .before .before .before .before .before .before .before .before .before .before .before .before .before .before .before .before .before .before .before .before .before .before .before .before .before .before .before .before .before .before .before .before .before .before .before .before .before .before .before .before .before .before .before .before .pre .1),
+    whole-held _ _ _ (entry₂ (search) .pre .0) (entry₂ (search) .pre .1) (matched₂ (search) .match-key .ensures)
+        (after-next₂ (search) .next .given .1) (read (search) .read-plan .ensures .0)
+        (λ i. omega (arith, after-shared-slice-known3₂ (search) .shared-slice-known3 .given i)) (cleared₂ (search) .clear-all .ensures)
+        (read (search) .read-plan .ensures .1)
+        (read (search) .read-plan .kept .1 .1 .1 .1 .1 .1 .0 ∙ cleared₂ (search) .clear-all .kept .1 .1 .1 .1 .0),
+    long-alike (record {
+      parents = cleared₂ (search) .clear-all .kept .0;
+      order = read (search) .read-plan .kept .1 .1 .1 .0 ∙ cleared₂ (search) .clear-all .kept .1 .0;
+      pops = read (search) .read-plan .kept .1 .1 .1 .1 .0 ∙ cleared₂ (search) .clear-all .kept .1 .1 .0;
+      starts = read (search) .read-plan .kept .1 .1 .1 .1 .1 .0 ∙ cleared₂ (search) .clear-all .kept .1 .1 .1 .0;
+      rows = read (search) .read-plan .kept .1 .1 .1 .1 .1 .1 .0 ∙ cleared₂ (search) .clear-all .kept .1 .1 .1 .1 .0;
+      work = cleared₂ (search) .clear-all .kept .1 .1 .1 .1 .1 .0;
+    }) (entry₂ (search) .pre .1),
   ),
 )
 
 same-length : tie.Need-same-length
-same-length c = c .before .before .before .before .judge-reading .kept .1 .1 .1 .1 .0 ∙ c .before .before .before .before .before .before .before .before .before .before .before .before .before .before .before .before .before .before .before .before .before .before .before .before .before .before .before .before .before .before .before .before .before .before .before .before .clear-all .kept .0
+same-length c = judged (search) .judge-reading .kept .1 .1 .1 .1 .0 ∙ cleared₂ (search) .clear-all .kept .0
 
 same-length-2 : tie.Need-same-length-2
-same-length-2 c = c .before .before .before .before .before .before .before .before .before .before .before .before .before .before .before .before .before .before .before .read-plan .kept .1 .1 .1 .0 ∙ c .before .before .before .before .before .before .before .before .before .before .before .before .before .before .before .before .before .before .before .before .before .before .before .before .before .before .before .before .before .before .before .before .before .before .before .before .clear-all .kept .1 .0
+same-length-2 c = read (search) .read-plan .kept .1 .1 .1 .0 ∙ cleared₂ (search) .clear-all .kept .1 .0
 
 same-length-3 : tie.Need-same-length-3
-same-length-3 c = c .before .before .before .before .before .before .before .before .before .before .before .before .before .before .before .before .before .before .before .read-plan .kept .1 .1 .1 .1 .0 ∙ c .before .before .before .before .before .before .before .before .before .before .before .before .before .before .before .before .before .before .before .before .before .before .before .before .before .before .before .before .before .before .before .before .before .before .before .before .clear-all .kept .1 .1 .0
+same-length-3 c = read (search) .read-plan .kept .1 .1 .1 .1 .0 ∙ cleared₂ (search) .clear-all .kept .1 .1 .0
 
 same-length-4 : tie.Need-same-length-4
-same-length-4 c = c .before .before .before .before .before .before .before .before .before .before .before .before .before .before .before .before .before .before .before .read-plan .kept .1 .1 .1 .1 .1 .0 ∙ c .before .before .before .before .before .before .before .before .before .before .before .before .before .before .before .before .before .before .before .before .before .before .before .before .before .before .before .before .before .before .before .before .before .before .before .before .clear-all .kept .1 .1 .1 .0
+same-length-4 c = read (search) .read-plan .kept .1 .1 .1 .1 .1 .0 ∙ cleared₂ (search) .clear-all .kept .1 .1 .1 .0
 
 same-length-5 : tie.Need-same-length-5
-same-length-5 c = c .before .before .before .before .before .before .before .before .before .before .before .before .before .before .before .before .before .before .before .read-plan .kept .1 .1 .1 .1 .1 .1 .0 ∙ c .before .before .before .before .before .before .before .before .before .before .before .before .before .before .before .before .before .before .before .before .before .before .before .before .before .before .before .before .before .before .before .before .before .before .before .before .clear-all .kept .1 .1 .1 .1 .0
+same-length-5 c = read (search) .read-plan .kept .1 .1 .1 .1 .1 .1 .0 ∙ cleared₂ (search) .clear-all .kept .1 .1 .1 .1 .0
 
 same-length-6 : tie.Need-same-length-6
-same-length-6 c = c .before .before .before .before .judge-reading .kept .1 .1 .1 .1 .1 .1 .1 .1 .1 .0 ∙ c .before .before .before .before .before .before .before .before .before .before .before .before .before .before .before .before .before .before .before .before .before .before .before .before .before .before .before .before .before .before .before .before .before .before .before .before .clear-all .kept .1 .1 .1 .1 .1 .0
+same-length-6 c = judged (search) .judge-reading .kept .1 .1 .1 .1 .1 .1 .1 .1 .1 .0 ∙ cleared₂ (search) .clear-all .kept .1 .1 .1 .1 .1 .0
 
 returns-2 : tie.Need-returns-2
-returns-2 c = ruled _ _ _ (c .before .before .before .before .before .before .before .before .before .before .before .before .before .before .before .before .before .before .before .before .before .before .before .before .before .before .before .before .before .before .before .before .before .before .before .before .before .before .before .before .before .before .before .before .before .before .before .before .before .before .before .before .before .before .before .before .pre .0) (c .before .before .before .before .before .before .before .before .before .before .before .before .before .before .before .before .before .before .before .before .before .before .before .before .before .before .before .before .before .before .before .before .before .before .before .before .before .before .before .before .before .before .before .before .before .before .before .before .before .before .before .before .before .before .before .before .pre .1) (c .before .before .before .before .before .before .before .before .before .before .before .before .before .before .before .before .before .before .before .before .before .before .before .before .before .before .before .before .before .before .before .before .before .before .before .before .before .before .before .before .before .before .before .before .before .before .match-key .ensures) (c .before .before .before .before .before .before .before .before .before .before .before .before .before .before .before .before .before .before .before .before .before .before .before .before .before .before .before .before .before .before .before .before .before .before .before .before .before .before .before .before .before .before .before .before .next .given .1) (c .before .before .before .before .before .before .before .before .before .before .before .before .before .before .before .before .before .before .before .read-plan .ensures .0) (λ i. omega (arith, c .before .before .before .before .before .before .before .before .before .before .before .before .before .before .before .before .before .before .before .before .before .before .before .before .before .before .before .before .before .before .before .before .before .before .before .before .before .before .before .before .before .before .before .before .before .before .before .before .before .before .before .before .before .shared-slice-known3 .given i)) (c .before .before .before .before .before .before .before .before .before .before .before .before .before .before .before .before .before .before .before .before .before .before .before .before .before .before .before .before .before .before .before .before .before .before .before .before .clear-all .ensures) (c .before .before .before .before .before .before .before .before .before .before .before .before .before .before .before .before .before .before .before .read-plan .ensures .1) (c .before .before .before .before .before .before .before .before .before .before .before .before .before .before .before .before .before .before .before .read-plan .kept .1 .1 .1 .1 .1 .1 .0 ∙ c .before .before .before .before .before .before .before .before .before .before .before .before .before .before .before .before .before .before .before .before .before .before .before .before .before .before .before .before .before .before .before .before .before .before .before .before .clear-all .kept .1 .1 .1 .1 .0) (c .before .before .before .before .judge-reading .ensures)
+returns-2 c =
+    ruled _ _ _ (entry₂ (search) .pre .0) (entry₂ (search) .pre .1) (matched₂ (search) .match-key .ensures) (after-next₂ (search) .next .given .1)
+    (read (search) .read-plan .ensures .0) (λ i. omega (arith, after-shared-slice-known3₂ (search) .shared-slice-known3 .given i))
+    (cleared₂ (search) .clear-all .ensures) (read (search) .read-plan .ensures .1)
+    (read (search) .read-plan .kept .1 .1 .1 .1 .1 .1 .0 ∙ cleared₂ (search) .clear-all .kept .1 .1 .1 .1 .0)
+    (judged (search) .judge-reading .ensures)
 
 pub judge-bytes-spec : {M : Type 1} → statement M
 judge-bytes-spec =

@@ -5,6 +5,22 @@ use Rattle.bytes_judge.specs.Ruled.{fault, over, judged}
 use Rattle.bytes_judge.proofs.judge_reading.Statement.{statement}
 use Rattle.bytes_judge.proofs.judge_reading.Tie as tie
 
+-- The places that the answers look back to: `entry (search)` is the one behind the answer at hand.
+abbrev entry : tie.Start → tie.Start
+entry c = c
+
+abbrev after-reading : tie.After-reading → tie.After-reading
+after-reading c = c
+
+abbrev after-reading2 : tie.After-reading2 → tie.After-reading2
+after-reading2 c = c
+
+abbrev else1 : tie.Else1 → tie.Else1
+else1 c = c
+
+abbrev after-judge : tie.After-judge → tie.After-judge
+after-judge c = c
+
 enum-known-reading : tie.Need-enum-known-reading
 enum-known-reading c = search needs
 
@@ -12,7 +28,7 @@ answered-requires : tie.Need-answered-requires
 answered-requires c κs = search needs
 
 returns : tie.Need-returns
-returns c = fault _ _ (c .before .before .reading .given .1) (c .answered .ensures)
+returns c = fault _ _ (after-reading (search) .reading .given .1) (c .answered .ensures)
 
 enum-known-reading-2 : tie.Need-enum-known-reading-2
 enum-known-reading-2 c = search needs
@@ -21,19 +37,27 @@ answered-requires-2 : tie.Need-answered-requires-2
 answered-requires-2 c κs = search needs
 
 returns-2 : tie.Need-returns-2
-returns-2 c = over _ _ (c .before .before .before .reading2 .given .1) (c .before .if1 .taken) (c .answered2 .ensures)
+returns-2 c = over _ _ (after-reading2 (search) .reading2 .given .1) (c .before .if1 .taken) (c .answered2 .ensures)
 
 judge-requires : tie.Need-judge-requires
-judge-requires c κs = (c .before .before .before .before .before .before .before .before .before .before .before .before .before .before .pre .0, (c .before .before .before .before .before .before .before .before .before .before .before .before .before .before .pre .1 .0 _ _ (c .before .before .before .before .reading2 .given .1) (c .before .before .if1 .left), c .before .before .before .before .before .before .before .before .before .before .before .before .before .before .pre .1 .1))
+judge-requires c κs = (
+  entry (search) .pre .0,
+  (
+    entry (search) .pre .1 .0 _ _ (after-reading2 (search) .reading2 .given .1) (else1 (search) .if1 .left),
+    entry (search) .pre .1 .1,
+  ),
+)
 
 same-length : tie.Need-same-length
-same-length c = c .before .before .before .before .judge .kept .1 .1 .1 .1 .0
+same-length c = after-judge (search) .judge .kept .1 .1 .1 .1 .0
 
 same-length-2 : tie.Need-same-length-2
-same-length-2 c = c .before .before .before .before .judge .kept .1 .1 .1 .1 .1 .1 .1 .1 .1 .0
+same-length-2 c = after-judge (search) .judge .kept .1 .1 .1 .1 .1 .1 .1 .1 .1 .0
 
 returns-3 : tie.Need-returns-3
-returns-3 c = judged _ _ (c .before .before .before .before .before .before .before .before .before .reading2 .given .1) (c .before .before .before .before .before .before .before .if1 .left) (c .before .before .before .before .judge .ensures .0) (c .before .before .before .before .judge .ensures .1)
+returns-3 c =
+    judged _ _ (after-reading2 (search) .reading2 .given .1) (else1 (search) .if1 .left) (after-judge (search) .judge .ensures .0)
+    (after-judge (search) .judge .ensures .1)
 
 pub judge-reading-spec : {M : Type 1} → statement M
 judge-reading-spec =

@@ -13,6 +13,16 @@ Inv-loop n j list work k₀ k = Covering n j list work k
 abbrev μ-loop : tie.MeasureT-loop
 μ-loop n j list work k₀ k = length list - k
 
+-- The places that the answers look back to: `entry (search)` is the one behind the answer at hand.
+abbrev entry : tie.Start Inv-loop μ-loop → tie.Start Inv-loop μ-loop
+entry c = c
+
+abbrev at-loop : tie.At-loop Inv-loop μ-loop → tie.At-loop Inv-loop μ-loop
+at-loop c = c
+
+abbrev in-loop : tie.In-loop Inv-loop μ-loop → tie.In-loop Inv-loop μ-loop
+in-loop c = c
+
 loop-holds : tie.Need-loop-holds Inv-loop μ-loop
 loop-holds c = cover-begin _ _ _ _
 
@@ -26,19 +36,19 @@ shared-slice-read-if1 : tie.Need-shared-slice-read-if1 Inv-loop μ-loop
 shared-slice-read-if1 c = omega arith
 
 cast-if1 : tie.Need-cast-if1 Inv-loop μ-loop
-cast-if1 c = omega (arith, c .shared-slice-known .given (c .before .before .loop .k))
+cast-if1 c = omega (arith, c .shared-slice-known .given (at-loop (search) .loop .k))
 
 add-if1-2 : tie.Need-add-if1-2 Inv-loop μ-loop
-add-if1-2 c = let h = mark-place (c .before .before .before .pre) _ (c .before .loop-test .taken) in let g = c .before .before .before .good .1 .1 .1 .0 in omega arith
+add-if1-2 c = let h = mark-place (entry (search) .pre) _ (c .before .loop-test .taken) in let g = entry (search) .good .1 .1 .1 .0 in omega arith
 
 mul-if1-2 : tie.Need-mul-if1-2 Inv-loop μ-loop
-mul-if1-2 c = let h = mark-place (c .before .before .before .pre) _ (c .before .loop-test .taken) in let g = c .before .before .before .good .1 .1 .1 .0 in omega arith
+mul-if1-2 c = let h = mark-place (entry (search) .pre) _ (c .before .loop-test .taken) in let g = entry (search) .good .1 .1 .1 .0 in omega arith
 
 shared-slice-read-if1-2 : tie.Need-shared-slice-read-if1-2 Inv-loop μ-loop
-shared-slice-read-if1-2 c = mark-place (c .before .before .before .before .pre) _ (c .before .before .loop-test .taken)
+shared-slice-read-if1-2 c = mark-place (entry (search) .pre) _ (in-loop (search) .loop-test .taken)
 
 returns : tie.Need-returns Inv-loop μ-loop
-returns c = cover-no _ _ _ _ (c .before .before .before .before .loop .inv) (c .before .before .before .loop-test .taken) (c .if1 .taken)
+returns c = cover-no _ _ _ _ (at-loop (search) .loop .inv) (in-loop (search) .loop-test .taken) (c .if1 .taken)
 
 add-k : tie.Need-add-k Inv-loop μ-loop
 add-k c = omega arith
@@ -47,7 +57,7 @@ loop-less : tie.Need-loop-less Inv-loop μ-loop
 loop-less c = omega arith
 
 loop-again : tie.Need-loop-again Inv-loop μ-loop
-loop-again c = cover-turn _ _ _ _ (c .before .before .before .before .loop .inv) (c .before .before .before .loop-test .taken) (c .if1 .left)
+loop-again c = cover-turn _ _ _ _ (at-loop (search) .loop .inv) (in-loop (search) .loop-test .taken) (c .if1 .left)
 
 returns-2 : tie.Need-returns-2 Inv-loop μ-loop
 returns-2 c = cover-yes _ _ _ _ (c .before .loop .inv) (c .loop-test .left)

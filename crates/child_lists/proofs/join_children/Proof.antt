@@ -14,53 +14,90 @@ Inv-loop n j c len fstarts frows work₀ x₀ y₀ d₀ turn₀ count₀ work x 
 abbrev μ-loop : tie.MeasureT-loop
 μ-loop n j c len fstarts frows work₀ x₀ y₀ d₀ turn₀ count₀ work x y d turn count = d
 
+-- The places that the answers look back to: `entry (search)` is the one behind the answer at hand.
+abbrev entry : tie.Start Inv-loop μ-loop → tie.Start Inv-loop μ-loop
+entry c = c
+
+abbrev at-loop : tie.At-loop Inv-loop μ-loop → tie.At-loop Inv-loop μ-loop
+at-loop c = c
+
+abbrev in-loop : tie.In-loop Inv-loop μ-loop → tie.In-loop Inv-loop μ-loop
+in-loop c = c
+
+abbrev after-handed-on : tie.After-handed-on Inv-loop μ-loop → tie.After-handed-on Inv-loop μ-loop
+after-handed-on c = c
+
+abbrev after-covered : tie.After-covered Inv-loop μ-loop → tie.After-covered Inv-loop μ-loop
+after-covered c = c
+
+abbrev joined : tie.After-join-rows Inv-loop μ-loop → tie.After-join-rows Inv-loop μ-loop
+joined c = c
+
+abbrev marked : tie.After-mark Inv-loop μ-loop → tie.After-mark Inv-loop μ-loop
+marked c = c
+
 loop-holds : tie.Need-loop-holds Inv-loop μ-loop
-loop-holds c = begin (c .before .before .before .before .before .pre)
+loop-holds c = begin (entry (search) .pre)
 
 handed-on-requires : tie.Need-handed-on-requires Inv-loop μ-loop
 handed-on-requires c κs = (child-at (c .before .loop .inv) (c .loop-test .taken), ends (c .before .loop .inv) (c .loop-test .taken))
 
 covered-requires : tie.Need-covered-requires Inv-loop μ-loop
-covered-requires c κs = markable (c .before .before .before .loop .inv) (c .before .before .loop-test .taken) _ (c .before .handed-on .ensures)
+covered-requires c κs = markable (at-loop (search) .loop .inv) (in-loop (search) .loop-test .taken) _ (c .before .handed-on .ensures)
 
 add-d : tie.Need-add-d Inv-loop μ-loop
-add-d c = let l = link-first (c .before .before .before .before .before .loop .inv) (c .before .before .before .before .loop-test .taken) in let g = c .before .before .before .before .before .before .before .before .before .before .before .good .1 .1 .1 .1 .1 .1 .0 in omega arith
+add-d c =
+    let l = link-first (at-loop (search) .loop .inv) (in-loop (search) .loop-test .taken) in
+    let g = entry (search) .good .1 .1 .1 .1 .1 .1 .0 in omega arith
 
 mul-d : tie.Need-mul-d Inv-loop μ-loop
-mul-d c = let l = link-first (c .before .before .before .before .before .loop .inv) (c .before .before .before .before .loop-test .taken) in let g = c .before .before .before .before .before .before .before .before .before .before .before .good .1 .1 .1 .1 .1 .1 .0 in omega arith
+mul-d c =
+    let l = link-first (at-loop (search) .loop .inv) (in-loop (search) .loop-test .taken) in
+    let g = entry (search) .good .1 .1 .1 .1 .1 .1 .0 in omega arith
 
 slice-read-d : tie.Need-slice-read-d Inv-loop μ-loop
-slice-read-d c = link (c .before .before .before .before .before .before .loop .inv) (c .before .before .before .before .before .loop-test .taken)
+slice-read-d c = link (at-loop (search) .loop .inv) (in-loop (search) .loop-test .taken)
 
 loop-less : tie.Need-loop-less Inv-loop μ-loop
-loop-less c = falls (c .before .before .before .before .before .before .loop .inv) (c .before .before .before .before .before .loop-test .taken)
+loop-less c = falls (at-loop (search) .loop .inv) (in-loop (search) .loop-test .taken)
 
 loop-again : tie.Need-loop-again Inv-loop μ-loop
-loop-again c = passes-over (c .before .before .before .before .before .before .loop .inv) (c .before .before .before .before .before .loop-test .taken) _ (c .before .before .before .before .handed-on .ensures) (sym (c .before .if1 .taken) ∙ c .before .before .covered .ensures)
+loop-again c =
+    passes-over (at-loop (search) .loop .inv) (in-loop (search) .loop-test .taken) _ (after-handed-on (search) .handed-on .ensures)
+    (sym (c .before .if1 .taken) ∙ after-covered (search) .covered .ensures)
 
 join-rows-requires : tie.Need-join-rows-requires Inv-loop μ-loop
-join-rows-requires c κs = roomy (c .before .before .before .before .before .before .before .loop .inv) (c .before .before .before .before .before .before .loop-test .taken) _ (c .before .before .before .before .before .handed-on .ensures)
+join-rows-requires c κs = roomy (at-loop (search) .loop .inv) (in-loop (search) .loop-test .taken) _ (after-handed-on (search) .handed-on .ensures)
 
 mark-requires : tie.Need-mark-requires Inv-loop μ-loop
-mark-requires c κs = markable (c .before .before .before .before .before .before .before .before .before .before .before .before .before .loop .inv) (c .before .before .before .before .before .before .before .before .before .before .before .before .loop-test .taken) _ (c .before .before .before .before .before .before .before .before .before .before .before .handed-on .ensures)
+mark-requires c κs = markable (at-loop (search) .loop .inv) (in-loop (search) .loop-test .taken) _ (after-handed-on (search) .handed-on .ensures)
 
 sub-turn : tie.Need-sub-turn Inv-loop μ-loop
-sub-turn c = let l = c .before .before .before .before .before .before .before .before .before .before .before .before .before .before .before .before .loop .inv .turns in omega arith
+sub-turn c = let l = at-loop (search) .loop .inv .turns in omega arith
 
 add-d-2 : tie.Need-add-d-2 Inv-loop μ-loop
-add-d-2 c = let l = link-first (c .before .before .before .before .before .before .before .before .before .before .before .before .before .before .before .before .loop .inv) (c .before .before .before .before .before .before .before .before .before .before .before .before .before .before .before .loop-test .taken) in let g = c .before .before .before .before .before .before .before .before .before .before .before .before .before .before .before .before .before .before .before .before .before .before .good .1 .1 .1 .1 .1 .1 .0 in omega arith
+add-d-2 c =
+    let l = link-first (at-loop (search) .loop .inv) (in-loop (search) .loop-test .taken) in
+    let g = entry (search) .good .1 .1 .1 .1 .1 .1 .0 in omega arith
 
 mul-d-2 : tie.Need-mul-d-2 Inv-loop μ-loop
-mul-d-2 c = let l = link-first (c .before .before .before .before .before .before .before .before .before .before .before .before .before .before .before .before .loop .inv) (c .before .before .before .before .before .before .before .before .before .before .before .before .before .before .before .loop-test .taken) in let g = c .before .before .before .before .before .before .before .before .before .before .before .before .before .before .before .before .before .before .before .before .before .before .good .1 .1 .1 .1 .1 .1 .0 in omega arith
+mul-d-2 c =
+    let l = link-first (at-loop (search) .loop .inv) (in-loop (search) .loop-test .taken) in
+    let g = entry (search) .good .1 .1 .1 .1 .1 .1 .0 in omega arith
 
 slice-read-d-2 : tie.Need-slice-read-d-2 Inv-loop μ-loop
-slice-read-d-2 c = rw (c .before .before .before .mark .kept .1 .1 .1 .0) (link (c .before .before .before .before .before .before .before .before .before .before .before .before .before .before .before .before .before .loop .inv) (c .before .before .before .before .before .before .before .before .before .before .before .before .before .before .before .before .loop-test .taken))
+slice-read-d-2 c = rw (marked (search) .mark .kept .1 .1 .1 .0) (link (at-loop (search) .loop .inv) (in-loop (search) .loop-test .taken))
 
 loop-less-2 : tie.Need-loop-less-2 Inv-loop μ-loop
-loop-less-2 c = falls-marked (c .before .before .before .before .before .before .before .before .before .before .before .before .before .before .before .before .before .loop .inv) (c .before .before .before .before .before .before .before .before .before .before .before .before .before .before .before .before .loop-test .taken) _ (c .before .before .before .before .before .before .before .before .before .before .before .before .before .before .before .handed-on .ensures) _ (c .before .before .before .mark .ensures)
+loop-less-2 c =
+    falls-marked (at-loop (search) .loop .inv) (in-loop (search) .loop-test .taken) _ (after-handed-on (search) .handed-on .ensures) _
+    (marked (search) .mark .ensures)
 
 loop-again-2 : tie.Need-loop-again-2 Inv-loop μ-loop
-loop-again-2 c = joins (c .before .before .before .before .before .before .before .before .before .before .before .before .before .before .before .before .before .loop .inv) (c .before .before .before .before .before .before .before .before .before .before .before .before .before .before .before .before .loop-test .taken) _ (c .before .before .before .before .before .before .before .before .before .before .before .before .before .before .before .handed-on .ensures) _ _ _ _ (c .before .before .before .before .before .before .before .before .before .join-rows .ensures) (c .before .before .before .mark .ensures) (c .before .before .before .before .before .before .before .before .before .join-rows .kept .1 .1 .1 .0) (c .before .before .before .before .before .before .before .before .before .join-rows .kept .1 .1 .1 .1 .0) (c .before .before .before .mark .kept .1 .1 .1 .0)
+loop-again-2 c =
+    joins (at-loop (search) .loop .inv) (in-loop (search) .loop-test .taken) _ (after-handed-on (search) .handed-on .ensures) _ _ _ _
+    (joined (search) .join-rows .ensures) (marked (search) .mark .ensures) (joined (search) .join-rows .kept .1 .1 .1 .0)
+    (joined (search) .join-rows .kept .1 .1 .1 .1 .0) (marked (search) .mark .kept .1 .1 .1 .0)
 
 same-length : tie.Need-same-length Inv-loop μ-loop
 same-length c = omega arith

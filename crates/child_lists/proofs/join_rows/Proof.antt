@@ -7,23 +7,39 @@ use Rattle.child_lists.proofs.Buffers.{fits-x, fits-y, joined-in-x, joi
 use Rattle.child_lists.proofs.join_rows.Statement.{statement}
 use Rattle.child_lists.proofs.join_rows.Tie as tie
 
+-- The places that the answers look back to: `entry (search)` is the one behind the answer at hand.
+abbrev entry : tie.Start → tie.Start
+entry c = c
+
+abbrev else1 : tie.Else1 → tie.Else1
+else1 c = c
+
+abbrev then1 : tie.Then1 → tie.Then1
+then1 c = c
+
+abbrev after-unite : tie.After-unite → tie.After-unite
+after-unite c = c
+
+abbrev after-unite2 : tie.After-unite2 → tie.After-unite2
+after-unite2 c = c
+
 slice-reshare-prefix-unite : tie.Need-slice-reshare-prefix-unite
 slice-reshare-prefix-unite c = omega arith
 
 slice-aggregate-unite : tie.Need-slice-aggregate-unite
-slice-aggregate-unite c = sym (length-take-le _ _ (c .before .before .before .before .before .pre .held-x))
+slice-aggregate-unite c = sym (length-take-le _ _ (entry (search) .pre .held-x))
 
 unite-requires : tie.Need-unite-requires
-unite-requires c κs = fits-y _ _ _ _ _ (c .before .before .before .before .before .before .pre) (c .before .before .if1 .taken)
+unite-requires c κs = fits-y _ _ _ _ _ (entry (search) .pre) (then1 (search) .if1 .taken)
 
 slice-reshare-prefix-unite-2 : tie.Need-slice-reshare-prefix-unite-2
 slice-reshare-prefix-unite-2 c = omega arith
 
 slice-aggregate-unite-2 : tie.Need-slice-aggregate-unite-2
-slice-aggregate-unite-2 c = sym (length-take-le _ _ (c .before .before .before .before .before .pre .held-y))
+slice-aggregate-unite-2 c = sym (length-take-le _ _ (entry (search) .pre .held-y))
 
 unite-requires-2 : tie.Need-unite-requires-2
-unite-requires-2 c κs = fits-x _ _ _ _ _ (c .before .before .before .before .before .before .pre) (c .before .before .if1 .left)
+unite-requires-2 c κs = fits-x _ _ _ _ _ (entry (search) .pre) (else1 (search) .if1 .left)
 
 same-length : tie.Need-same-length
 same-length c = omega arith
@@ -32,7 +48,7 @@ same-length-2 : tie.Need-same-length-2
 same-length-2 c = omega arith
 
 returns : tie.Need-returns
-returns c = joined-in-y _ _ _ _ _ (c .before .before .before .before .before .before .before .before .before .pre) _ _ (c .before .before .before .before .before .if1 .taken) (c .before .before .unite .ensures)
+returns c = joined-in-y _ _ _ _ _ (entry (search) .pre) _ _ (then1 (search) .if1 .taken) (after-unite (search) .unite .ensures)
 
 same-length-3 : tie.Need-same-length-3
 same-length-3 c = omega arith
@@ -41,7 +57,7 @@ same-length-4 : tie.Need-same-length-4
 same-length-4 c = omega arith
 
 returns-2 : tie.Need-returns-2
-returns-2 c = joined-in-x _ _ _ _ _ (c .before .before .before .before .before .before .before .before .before .pre) _ _ (c .before .before .before .before .before .if1 .left) (c .before .before .unite2 .ensures)
+returns-2 c = joined-in-x _ _ _ _ _ (entry (search) .pre) _ _ (else1 (search) .if1 .left) (after-unite2 (search) .unite2 .ensures)
 
 pub join-rows-spec : {M : Type 1} → statement M
 join-rows-spec =

@@ -13,6 +13,13 @@ Inv-loop n j list work₀ k₀ work k = Marking n j list work₀ work k
 abbrev μ-loop : tie.MeasureT-loop
 μ-loop n j list work₀ k₀ work k = length list - k
 
+-- The places that the answers look back to: `entry (search)` is the one behind the answer at hand.
+abbrev entry : tie.Start Inv-loop μ-loop → tie.Start Inv-loop μ-loop
+entry c = c
+
+abbrev at-loop : tie.At-loop Inv-loop μ-loop → tie.At-loop Inv-loop μ-loop
+at-loop c = c
+
 loop-holds : tie.Need-loop-holds Inv-loop μ-loop
 loop-holds c = mark-begin _ _ _ _
 
@@ -26,16 +33,17 @@ shared-slice-read-work : tie.Need-shared-slice-read-work Inv-loop μ-loop
 shared-slice-read-work c = omega arith
 
 cast-work : tie.Need-cast-work Inv-loop μ-loop
-cast-work c = omega (arith, c .shared-slice-known .given (c .before .before .loop .k))
+cast-work c = omega (arith, c .shared-slice-known .given (at-loop (search) .loop .k))
 
 add-work-2 : tie.Need-add-work-2 Inv-loop μ-loop
-add-work-2 c = let h = mark-place (c .before .before .before .pre) _ (c .before .loop-test .taken) in let g = c .before .before .before .good .1 .1 .1 .0 in omega arith
+add-work-2 c = let h = mark-place (entry (search) .pre) _ (c .before .loop-test .taken) in let g = entry (search) .good .1 .1 .1 .0 in omega arith
 
 mul-work-2 : tie.Need-mul-work-2 Inv-loop μ-loop
-mul-work-2 c = let h = mark-place (c .before .before .before .pre) _ (c .before .loop-test .taken) in let g = c .before .before .before .good .1 .1 .1 .0 in omega arith
+mul-work-2 c = let h = mark-place (entry (search) .pre) _ (c .before .loop-test .taken) in let g = entry (search) .good .1 .1 .1 .0 in omega arith
 
 slice-write-work : tie.Need-slice-write-work Inv-loop μ-loop
-slice-write-work c = let h = mark-place (c .before .before .before .pre) _ (c .before .loop-test .taken) in let l = c .before .before .loop .inv .long in omega arith
+slice-write-work c =
+    let h = mark-place (entry (search) .pre) _ (c .before .loop-test .taken) in let l = at-loop (search) .loop .inv .long in omega arith
 
 add-k : tie.Need-add-k Inv-loop μ-loop
 add-k c = omega arith
@@ -44,7 +52,7 @@ loop-less : tie.Need-loop-less Inv-loop μ-loop
 loop-less c = omega arith
 
 loop-again : tie.Need-loop-again Inv-loop μ-loop
-loop-again c = mark-turn (c .before .before .loop .inv) (c .before .loop-test .taken)
+loop-again c = mark-turn (at-loop (search) .loop .inv) (c .before .loop-test .taken)
 
 same-length : tie.Need-same-length Inv-loop μ-loop
 same-length c = omega arith

@@ -8,17 +8,25 @@ use Rattle.child_lists.proofs.Buffers.{first-buffer, second-buffer}
 use Rattle.column_list.proofs.gathered.Statement.{statement}
 use Rattle.column_list.proofs.gathered.Tie as tie
 
+-- The places that the answers look back to: `entry (search)` is the one behind the answer at hand.
+abbrev entry : tie.Start → tie.Start
+entry c = c
+
 slice-aggregate-result : tie.Need-slice-aggregate-result
-slice-aggregate-result c = sym (length-take-le _ _ (c .before .before .before .pre .0))
+slice-aggregate-result c = sym (length-take-le _ _ (entry (search) .pre .0))
 
 slice-aggregate-result-2 : tie.Need-slice-aggregate-result-2
-slice-aggregate-result-2 c = sym (length-take-le _ _ (c .before .before .before .pre .1))
+slice-aggregate-result-2 c = sym (length-take-le _ _ (entry (search) .pre .1))
 
 returns : tie.Need-returns
-returns c = ap (take (c .before .before .before .args .g .len)) (sym (first-buffer (c .before .before .before .args .g .turn) (now (c .before .before .before .args .x)) (now (c .before .before .before .args .y)) (c .before .if1 .taken)))
+returns c =
+    ap (take (entry (search) .args .g .len)) (sym (first-buffer (entry (search) .args .g .turn) (now (entry (search) .args .x))
+    (now (entry (search) .args .y)) (c .before .if1 .taken)))
 
 returns-2 : tie.Need-returns-2
-returns-2 c = ap (take (c .before .before .before .args .g .len)) (sym (second-buffer (c .before .before .before .args .g .turn) (now (c .before .before .before .args .x)) (now (c .before .before .before .args .y)) (c .before .if1 .left)))
+returns-2 c =
+    ap (take (entry (search) .args .g .len)) (sym (second-buffer (entry (search) .args .g .turn) (now (entry (search) .args .x))
+    (now (entry (search) .args .y)) (c .before .if1 .left)))
 
 pub gathered-spec : {M : Type 1} → statement M
 gathered-spec =

@@ -5,6 +5,16 @@ use Rattle.field_reader.proofs.Answers.{field-by-number, one-group}
 use Rattle.field_reader.proofs.read_field.Statement.{statement}
 use Rattle.field_reader.proofs.read_field.Tie as tie
 
+-- The places that the answers look back to: `then1 (search)` is the one behind the answer at hand.
+abbrev then1 : tie.Then1 → tie.Then1
+then1 c = c
+
+abbrev after-two-groups : tie.After-two-groups → tie.After-two-groups
+after-two-groups c = c
+
+abbrev after-wide8 : tie.After-wide8 → tie.After-wide8
+after-wide8 c = c
+
 shared-slice-read-wide8 : tie.Need-shared-slice-read-wide8
 shared-slice-read-wide8 c = search needs
 
@@ -18,7 +28,9 @@ in-range-requires : tie.Need-in-range-requires
 in-range-requires c κs = search needs
 
 returns : tie.Need-returns
-returns c = field-by-number _ _ _ _ (one-group _ _ (c .before .before .before .before .if1 .taken) (c .before .before .wide8 .ensures .0) (c .before .if2 .taken)) (c .in-range .ensures)
+returns c =
+    field-by-number _ _ _ _ (one-group _ _ (then1 (search) .if1 .taken) (after-wide8 (search) .wide8 .ensures .0) (c .before .if2 .taken))
+    (c .in-range .ensures)
 
 two-groups-requires : tie.Need-two-groups-requires
 two-groups-requires c κs = search needs
@@ -30,7 +42,7 @@ in-range-requires-2 : tie.Need-in-range-requires-2
 in-range-requires-2 c κs = search needs
 
 returns-2 : tie.Need-returns-2
-returns-2 c = field-by-number _ _ _ _ (c .before .before .two-groups .ensures (c .before .if3 .taken)) (c .in-range2 .ensures)
+returns-2 c = field-by-number _ _ _ _ (after-two-groups (search) .two-groups .ensures (c .before .if3 .taken)) (c .in-range2 .ensures)
 
 read-long-requires : tie.Need-read-long-requires
 read-long-requires c κs = search needs

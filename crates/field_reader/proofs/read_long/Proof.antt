@@ -6,6 +6,13 @@ use Rattle.field_reader.proofs.Answers.{ended-is-12, too-long-is-13, no
 use Rattle.field_reader.proofs.read_long.Statement.{statement}
 use Rattle.field_reader.proofs.read_long.Tie as tie
 
+-- The places that the answers look back to: `read (search)` is the one behind the answer at hand.
+abbrev read : tie.After-read-number → tie.After-read-number
+read c = c
+
+abbrev after-value : tie.After-value → tie.After-value
+after-value c = c
+
 add-place : tie.Need-add-place
 add-place c = search needs
 
@@ -19,25 +26,25 @@ in-range-requires : tie.Need-in-range-requires
 in-range-requires c κs = search needs
 
 returns : tie.Need-returns
-returns c = field-by-number _ _ _ _ (sym (c .before .before .value .given .1) ∙ c .before .before .before .before .read-number .ensures) (c .in-range .ensures)
+returns c = field-by-number _ _ _ _ (sym (after-value (search) .value .given .1) ∙ read (search) .read-number .ensures) (c .in-range .ensures)
 
 enum-told : tie.Need-enum-told
 enum-told c = search needs
 
 returns-2 : tie.Need-returns-2
-returns-2 c = field-by-number _ _ _ _ (sym (c .enum-told .given .1) ∙ c .before .before .read-number .ensures) (ended-is-12 _ _ _)
+returns-2 c = field-by-number _ _ _ _ (sym (c .enum-told .given .1) ∙ read (search) .read-number .ensures) (ended-is-12 _ _ _)
 
 enum-told-2 : tie.Need-enum-told-2
 enum-told-2 c = search needs
 
 returns-3 : tie.Need-returns-3
-returns-3 c = field-by-number _ _ _ _ (sym (c .enum-told2 .given .1) ∙ c .before .before .read-number .ensures) (too-long-is-13 _ _ _)
+returns-3 c = field-by-number _ _ _ _ (sym (c .enum-told2 .given .1) ∙ read (search) .read-number .ensures) (too-long-is-13 _ _ _)
 
 enum-told-3 : tie.Need-enum-told-3
 enum-told-3 c = search needs
 
 returns-4 : tie.Need-returns-4
-returns-4 c = field-by-number _ _ _ _ (sym (c .enum-told3 .given .1) ∙ c .before .before .read-number .ensures) (not-shortest-is-13 _ _ _)
+returns-4 c = field-by-number _ _ _ _ (sym (c .enum-told3 .given .1) ∙ read (search) .read-number .ensures) (not-shortest-is-13 _ _ _)
 
 pub read-long-spec : {M : Type 1} → statement M
 read-long-spec =

@@ -9,6 +9,22 @@ use Rattle.field_reader.proofs.Answers.{two-groups}
 use Rattle.field_reader.proofs.two_groups.Statement.{statement}
 use Rattle.field_reader.proofs.two_groups.Tie as tie
 
+-- The places that the answers look back to: `entry (search)` is the one behind the answer at hand.
+abbrev entry : tie.Start → tie.Start
+entry c = c
+
+abbrev else1 : tie.Else1 → tie.Else1
+else1 c = c
+
+abbrev after-wide8 : tie.After-wide8 → tie.After-wide8
+after-wide8 c = c
+
+abbrev after-wide82 : tie.After-wide82 → tie.After-wide82
+after-wide82 c = c
+
+abbrev else2 : tie.Else2 → tie.Else2
+else2 c = c
+
 sub-if1 : tie.Need-sub-if1
 sub-if1 c = search needs
 
@@ -41,12 +57,12 @@ add-result c = search needs
 
 returns-3 : tie.Need-returns-3
 returns-3 c =
-    let some : c .before .before .before .wide82 .result ≢ 0 = eqb-false (c .before .before .before .wide82 .result) 0 (c .before .if3 .left) in
-    let last = ltb-false 127 (c .before .before .before .wide82 .result) (c .if4 .left) in
-    let more = c .before .before .if2 .left in
-    let there = c .before .before .before .before .before .before .before .if1 .left in
-    let inside = c .before .before .before .before .before .before .before .before .before .pre in
-    λ z. two-groups _ _ (omega arith) (c .before .before .before .before .before .wide8 .ensures .0) more (c .before .before .before .wide82 .ensures .0) some (omega arith)
+    let some : after-wide82 (search) .wide82 .result ≢ 0 = eqb-false (after-wide82 (search) .wide82 .result) 0 (c .before .if3 .left) in
+    let last = ltb-false 127 (after-wide82 (search) .wide82 .result) (c .if4 .left) in
+    let more = else2 (search) .if2 .left in
+    let there = else1 (search) .if1 .left in
+    let inside = entry (search) .pre in
+    λ z. two-groups _ _ (omega arith) (after-wide8 (search) .wide8 .ensures .0) more (after-wide82 (search) .wide82 .ensures .0) some (omega arith)
 
 pub two-groups-spec : {M : Type 1} → statement M
 two-groups-spec =

@@ -14,6 +14,16 @@ Inv-loop a b end i₀ i = Same a b i
 abbrev μ-loop : tie.MeasureT-loop
 μ-loop a b end i₀ i = end - i
 
+-- The places that the answers look back to: `after-lesser (search)` is the one behind the answer at hand.
+abbrev after-lesser : tie.After-lesser Inv-loop μ-loop → tie.After-lesser Inv-loop μ-loop
+after-lesser c = c
+
+abbrev at-loop : tie.At-loop Inv-loop μ-loop → tie.At-loop Inv-loop μ-loop
+at-loop c = c
+
+abbrev in-loop : tie.In-loop Inv-loop μ-loop → tie.In-loop Inv-loop μ-loop
+in-loop c = c
+
 lesser-requires : tie.Need-lesser-requires Inv-loop μ-loop
 lesser-requires c κs = search needs
 
@@ -42,7 +52,8 @@ loop-less : tie.Need-loop-less Inv-loop μ-loop
 loop-less c = search needs
 
 loop-again : tie.Need-loop-again Inv-loop μ-loop
-loop-again c = same-next (c .before .before .before .before .loop .inv) (omega (arith, c .before .before .before .loop-test .taken, c .before .before .before .before .before .lesser .ensures)) (c .if1 .left)
+loop-again c =
+    same-next (at-loop (search) .loop .inv) (omega (arith, in-loop (search) .loop-test .taken, after-lesser (search) .lesser .ensures)) (c .if1 .left)
 
 returns-2 : tie.Need-returns-2 Inv-loop μ-loop
 returns-2 c = search needs

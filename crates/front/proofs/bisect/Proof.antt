@@ -14,6 +14,13 @@ Inv-loop rows row lo hi low₀ high₀ low high = Bracket rows row low high
 abbrev μ-loop : tie.MeasureT-loop
 μ-loop rows row lo hi low₀ high₀ low high = high - low
 
+-- The places that the answers look back to: `entry (search)` is the one behind the answer at hand.
+abbrev entry : tie.Start Inv-loop μ-loop → tie.Start Inv-loop μ-loop
+entry c = c
+
+abbrev at-loop : tie.At-loop Inv-loop μ-loop → tie.At-loop Inv-loop μ-loop
+at-loop c = c
+
 loop-holds : tie.Need-loop-holds Inv-loop μ-loop
 loop-holds c = c .pre .1
 
@@ -36,13 +43,13 @@ loop-less : tie.Need-loop-less Inv-loop μ-loop
 loop-less c = search needs
 
 loop-again : tie.Need-loop-again Inv-loop μ-loop
-loop-again c = narrow-above (c .before .before .before .before .pre .0) (c .before .before .before .loop .inv) (omega arith) (c .if1 .taken)
+loop-again c = narrow-above (entry (search) .pre .0) (at-loop (search) .loop .inv) (omega arith) (c .if1 .taken)
 
 loop-less-2 : tie.Need-loop-less-2 Inv-loop μ-loop
 loop-less-2 c = search needs
 
 loop-again-2 : tie.Need-loop-again-2 Inv-loop μ-loop
-loop-again-2 c = narrow-below (c .before .before .before .before .pre .0) (c .before .before .before .loop .inv) (omega arith) (omega arith) (c .if1 .left)
+loop-again-2 c = narrow-below (entry (search) .pre .0) (at-loop (search) .loop .inv) (omega arith) (omega arith) (c .if1 .left)
 
 returns : tie.Need-returns Inv-loop μ-loop
 returns c = one-place (c .before .loop .inv) (c .loop-test .left)

@@ -9,11 +9,17 @@ use Rattle.front.proofs.Columns.{column-fits}
 use Rattle.front.proofs.entries_of.Statement.{statement}
 use Rattle.front.proofs.entries_of.Tie as tie
 
+-- The places that the answers look back to: `entry (search)` is the one behind the answer at hand.
+abbrev entry : tie.Start → tie.Start
+entry c = c
+
 rows-of-requires : tie.Need-rows-of-requires
 rows-of-requires c κs = search needs
 
 entries-requires : tie.Need-entries-requires
-entries-requires c κs = let few = c .before .before .before .pre .0 .few in omega (arith, column-fits (c .before .before .before .pre .0) (c .before .before .before .pre .1), ap length (c .rows-of .ensures))
+entries-requires c κs =
+    let few = entry (search) .pre .0 .few in
+    omega (arith, column-fits (entry (search) .pre .0) (entry (search) .pre .1), ap length (c .rows-of .ensures))
 
 returns : tie.Need-returns
 returns c = c .entries .ensures ∙ ap (λ l. t (length l)) (c .before .rows-of .ensures)

@@ -6,6 +6,10 @@ use Rattle.front.proofs.Columns.{lies, part-is-column}
 use Rattle.front.proofs.rows_of.Statement.{statement}
 use Rattle.front.proofs.rows_of.Tie as tie
 
+-- The places that the answers look back to: `entry (search)` is the one behind the answer at hand.
+abbrev entry : tie.Start → tie.Start
+entry c = c
+
 sub-from : tie.Need-sub-from
 sub-from c = search needs
 
@@ -19,22 +23,22 @@ mul-end : tie.Need-mul-end
 mul-end c = search needs
 
 shared-slice-read-end : tie.Need-shared-slice-read-end
-shared-slice-read-end c = lies (c .before .before .pre .0) (c .before .before .pre .1) .listed
+shared-slice-read-end c = lies (entry (search) .pre .0) (entry (search) .pre .1) .listed
 
 mul-result : tie.Need-mul-result
-mul-result c = let l = lies (c .before .before .pre .0) (c .before .before .pre .1) in omega arith
+mul-result c = let l = lies (entry (search) .pre .0) (entry (search) .pre .1) in omega arith
 
 sub-result : tie.Need-sub-result
-sub-result c = lies (c .before .before .pre .0) (c .before .before .pre .1) .rising
+sub-result c = lies (entry (search) .pre .0) (entry (search) .pre .1) .rising
 
 part-result-start : tie.Need-part-result-start
-part-result-start c = lies (c .before .before .pre .0) (c .before .before .pre .1) .rising
+part-result-start c = lies (entry (search) .pre .0) (entry (search) .pre .1) .rising
 
 part-result-end : tie.Need-part-result-end
-part-result-end c = lies (c .before .before .pre .0) (c .before .before .pre .1) .within
+part-result-end c = lies (entry (search) .pre .0) (entry (search) .pre .1) .within
 
 returns : tie.Need-returns
-returns c = part-is-column (c .before .before .before .pre .0) (c .before .before .before .pre .1)
+returns c = part-is-column (entry (search) .pre .0) (entry (search) .pre .1)
 
 pub rows-of-spec : {M : Type 1} → statement M
 rows-of-spec =

@@ -15,6 +15,16 @@ Inv-loop rows row from low₀ look₀ low look = Bracket rows row low (length ro
 abbrev μ-loop : tie.MeasureT-loop
 μ-loop rows row from low₀ look₀ low look = length rows - look
 
+-- The places that the answers look back to: `entry (search)` is the one behind the answer at hand.
+abbrev entry : tie.Start Inv-loop μ-loop → tie.Start Inv-loop μ-loop
+entry c = c
+
+abbrev at-loop : tie.At-loop Inv-loop μ-loop → tie.At-loop Inv-loop μ-loop
+at-loop c = c
+
+abbrev in-loop : tie.In-loop Inv-loop μ-loop → tie.In-loop Inv-loop μ-loop
+in-loop c = c
+
 loop-holds : tie.Need-loop-holds Inv-loop μ-loop
 loop-holds c = search needs
 
@@ -25,7 +35,11 @@ shared-slice-read-if1 : tie.Need-shared-slice-read-if1 Inv-loop μ-loop
 shared-slice-read-if1 c = search needs
 
 bisect-requires : tie.Need-bisect-requires Inv-loop μ-loop
-bisect-requires c κs = (c .before .before .before .before .before .pre .0, narrow-below (c .before .before .before .before .before .pre .0) (c .before .before .before .loop .inv .0) (c .before .before .before .loop .inv .1) (c .before .before .loop-test .taken) (c .if1 .taken))
+bisect-requires c κs = (
+  entry (search) .pre .0,
+  narrow-below (entry (search) .pre .0) (at-loop (search) .loop .inv .0) (at-loop (search) .loop .inv .1)
+      (in-loop (search) .loop-test .taken) (c .if1 .taken),
+)
 
 returns : tie.Need-returns Inv-loop μ-loop
 returns c = search needs
@@ -43,7 +57,11 @@ loop-less : tie.Need-loop-less Inv-loop μ-loop
 loop-less c = search needs
 
 loop-again : tie.Need-loop-again Inv-loop μ-loop
-loop-again c = (narrow-above (c .before .before .before .before .before .pre .0) (c .before .before .before .loop .inv .0) (c .before .before .loop-test .taken) (c .if1 .left), omega arith, omega arith)
+loop-again c = (
+  narrow-above (entry (search) .pre .0) (at-loop (search) .loop .inv .0) (in-loop (search) .loop-test .taken) (c .if1 .left),
+  omega arith,
+  omega arith,
+)
 
 bisect-requires-2 : tie.Need-bisect-requires-2 Inv-loop μ-loop
 bisect-requires-2 c κs = search needs

@@ -15,6 +15,22 @@ Inv-loop column rows update found₀ i₀ found i = Swept column rows update fou
 abbrev μ-loop : tie.MeasureT-loop
 μ-loop column rows update found₀ i₀ found i = length update - i
 
+-- The places that the answers look back to: `entry (search)` is the one behind the answer at hand.
+abbrev entry : tie.Start Inv-loop μ-loop → tie.Start Inv-loop μ-loop
+entry c = c
+
+abbrev at-loop : tie.At-loop Inv-loop μ-loop → tie.At-loop Inv-loop μ-loop
+at-loop c = c
+
+abbrev in-loop : tie.In-loop Inv-loop μ-loop → tie.In-loop Inv-loop μ-loop
+in-loop c = c
+
+abbrev else1 : tie.Else1 Inv-loop μ-loop → tie.Else1 Inv-loop μ-loop
+else1 c = c
+
+abbrev after-seek : tie.After-seek Inv-loop μ-loop → tie.After-seek Inv-loop μ-loop
+after-seek c = c
+
 loop-holds : tie.Need-loop-holds Inv-loop μ-loop
 loop-holds c = swept-start _ _ _
 
@@ -25,7 +41,7 @@ shared-slice-read-row : tie.Need-shared-slice-read-row Inv-loop μ-loop
 shared-slice-read-row c = search needs
 
 cast-if1 : tie.Need-cast-if1 Inv-loop μ-loop
-cast-if1 c = omega (arith, c .shared-slice-known3 .given (c .before .before .loop .i))
+cast-if1 c = omega (arith, c .shared-slice-known3 .given (at-loop (search) .loop .i))
 
 add-i : tie.Need-add-i Inv-loop μ-loop
 add-i c = search needs
@@ -34,10 +50,10 @@ loop-less : tie.Need-loop-less Inv-loop μ-loop
 loop-less c = search needs
 
 loop-again : tie.Need-loop-again Inv-loop μ-loop
-loop-again c = swept-column (c .before .before .before .loop .inv) (c .before .before .loop-test .taken) (c .before .before .before .before .before .before .pre .1) (c .if1 .taken)
+loop-again c = swept-column (at-loop (search) .loop .inv) (in-loop (search) .loop-test .taken) (entry (search) .pre .1) (c .if1 .taken)
 
 seek-requires : tie.Need-seek-requires Inv-loop μ-loop
-seek-requires c κs = (c .before .before .before .before .before .before .pre .0, to-seek (c .before .before .before .loop .inv) (c .before .before .loop-test .taken))
+seek-requires c κs = (entry (search) .pre .0, to-seek (at-loop (search) .loop .inv) (in-loop (search) .loop-test .taken))
 
 mul-alike : tie.Need-mul-alike Inv-loop μ-loop
 mul-alike c = search needs
@@ -67,7 +83,9 @@ alike-requires : tie.Need-alike-requires Inv-loop μ-loop
 alike-requires c κs = search needs
 
 returns : tie.Need-returns Inv-loop μ-loop
-returns c = swept-missing (c .before .before .before .before .before .before .before .before .loop .inv) (c .before .before .before .before .before .before .before .loop-test .taken) (c .before .before .before .before .before .before .before .before .before .before .before .pre .0) (c .before .before .before .before .before .if1 .left) (c .before .before .before .before .seek .ensures) (rw (c .if2 .taken) at (c .before .alike .ensures))
+returns c =
+    swept-missing (at-loop (search) .loop .inv) (in-loop (search) .loop-test .taken) (entry (search) .pre .0) (else1 (search) .if1 .left)
+    (after-seek (search) .seek .ensures) (rw (c .if2 .taken) at (c .before .alike .ensures))
 
 add-found : tie.Need-add-found Inv-loop μ-loop
 add-found c = search needs
@@ -79,7 +97,9 @@ loop-less-2 : tie.Need-loop-less-2 Inv-loop μ-loop
 loop-less-2 c = search needs
 
 loop-again-2 : tie.Need-loop-again-2 Inv-loop μ-loop
-loop-again-2 c = swept-alike (c .before .before .before .before .before .before .before .before .before .before .before .pre .1) (c .before .before .before .before .before .before .before .before .loop .inv) (c .before .before .before .before .before .before .before .loop-test .taken) (c .before .before .before .before .seek .ensures) (c .before .alike .ensures)
+loop-again-2 c =
+    swept-alike (entry (search) .pre .1) (at-loop (search) .loop .inv) (in-loop (search) .loop-test .taken) (after-seek (search) .seek .ensures)
+    (c .before .alike .ensures)
 
 returns-2 : tie.Need-returns-2 Inv-loop μ-loop
 returns-2 c = swept-end (c .before .loop .inv) (c .loop-test .left)

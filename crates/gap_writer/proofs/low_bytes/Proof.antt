@@ -15,8 +15,18 @@ Inv-loop rows from to b bytes₀ at widest₀ before₀ next₀ i₀ bytes wides
 abbrev μ-loop : tie.MeasureT-loop
 μ-loop rows from to b bytes₀ at widest₀ before₀ next₀ i₀ bytes widest before next i = to - i
 
+-- The places that the answers look back to: `entry (search)` is the one behind the answer at hand.
+abbrev entry : tie.Start Inv-loop μ-loop → tie.Start Inv-loop μ-loop
+entry c = c
+
+abbrev at-loop : tie.At-loop Inv-loop μ-loop → tie.At-loop Inv-loop μ-loop
+at-loop c = c
+
+abbrev in-loop : tie.In-loop Inv-loop μ-loop → tie.In-loop Inv-loop μ-loop
+in-loop c = c
+
 loop-holds : tie.Need-loop-holds Inv-loop μ-loop
-loop-holds c = lows-start (c .before .before .pre .0) (c .before .before .pre .1)
+loop-holds c = lows-start (entry (search) .pre .0) (entry (search) .pre .1)
 
 mul-row : tie.Need-mul-row Inv-loop μ-loop
 mul-row c = search needs
@@ -25,7 +35,7 @@ shared-slice-read-row : tie.Need-shared-slice-read-row Inv-loop μ-loop
 shared-slice-read-row c = search needs
 
 sub-gap : tie.Need-sub-gap Inv-loop μ-loop
-sub-gap c = omega (arith, row-above (c .before .before .loop .inv .rows-left) (c .before .loop-test .taken) refl)
+sub-gap c = omega (arith, row-above (at-loop (search) .loop .inv .rows-left) (c .before .loop-test .taken) refl)
 
 cast-bytes : tie.Need-cast-bytes Inv-loop μ-loop
 cast-bytes c = search needs
@@ -46,7 +56,7 @@ loop-less : tie.Need-loop-less Inv-loop μ-loop
 loop-less c = search needs
 
 loop-again : tie.Need-loop-again Inv-loop μ-loop
-loop-again c = lows-turn (c .before .before .before .loop .inv) (c .before .before .loop-test .taken) refl (c .greater32 .ensures)
+loop-again c = lows-turn (at-loop (search) .loop .inv) (in-loop (search) .loop-test .taken) refl (c .greater32 .ensures)
 
 same-length : tie.Need-same-length Inv-loop μ-loop
 same-length c = search needs

@@ -14,8 +14,21 @@ Inv-loop rows from to b bytes₀ at next₀ before₀ i₀ bytes next before i =
 abbrev μ-loop : tie.MeasureT-loop
 μ-loop rows from to b bytes₀ at next₀ before₀ i₀ bytes next before i = to - i
 
+-- The places that the answers look back to: `start (search)` is the one behind the answer at hand.
+abbrev start : tie.Start Inv-loop μ-loop → tie.Start Inv-loop μ-loop
+start c = c
+
+abbrev at-loop : tie.At-loop Inv-loop μ-loop → tie.At-loop Inv-loop μ-loop
+at-loop c = c
+
+abbrev in-loop : tie.In-loop Inv-loop μ-loop → tie.In-loop Inv-loop μ-loop
+in-loop c = c
+
+abbrev after-put : tie.After-put Inv-loop μ-loop → tie.After-put Inv-loop μ-loop
+after-put c = c
+
 loop-holds : tie.Need-loop-holds Inv-loop μ-loop
-loop-holds c = gaps-start (c .before .before .pre .0)
+loop-holds c = gaps-start (start (search) .pre .0)
 
 mul-row : tie.Need-mul-row Inv-loop μ-loop
 mul-row c = search needs
@@ -24,16 +37,22 @@ shared-slice-read-row : tie.Need-shared-slice-read-row Inv-loop μ-loop
 shared-slice-read-row c = search needs
 
 sub-put : tie.Need-sub-put Inv-loop μ-loop
-sub-put c = omega (arith, row-above (c .before .before .before .loop .inv .rows-left) (c .before .before .loop-test .taken) refl)
+sub-put c = omega (arith, row-above (at-loop (search) .loop .inv .rows-left) (in-loop (search) .loop-test .taken) refl)
 
 cast-put : tie.Need-cast-put Inv-loop μ-loop
-cast-put c = omega (arith, row-within (c .before .before .before .loop .inv .rows-left) (c .before .before .loop-test .taken) refl)
+cast-put c = omega (arith, row-within (at-loop (search) .loop .inv .rows-left) (in-loop (search) .loop-test .taken) refl)
 
 put-requires : tie.Need-put-requires Inv-loop μ-loop
 put-requires c κs =
-    let loop = c .before .before .before .loop in
-    let entry = c .before .before .before .before .before .before .pre in
-    (omega (arith, row-within (loop .inv .rows-left) (c .before .before .loop-test .taken) refl), omega (arith, place-near (loop .inv) (entry .0), entry .1))
+    let loop = at-loop (search) .loop in
+    let entry = start (search) .pre in (
+      omega (arith, row-within (loop .inv .rows-left) (in-loop (search) .loop-test .taken) refl),
+      omega (
+        arith,
+        place-near (loop .inv) (entry .0),
+        entry .1,
+      ),
+    )
 
 add-i : tie.Need-add-i Inv-loop μ-loop
 add-i c = search needs
@@ -43,8 +62,8 @@ loop-less c = search needs
 
 loop-again : tie.Need-loop-again Inv-loop μ-loop
 loop-again c =
-    let put = c .before .before .put in
-    write-turn (c .before .before .before .before .before .before .loop .inv) (c .before .before .before .before .before .loop-test .taken) refl (put .ensures .0) (put .ensures .1)
+    let put = after-put (search) .put in
+    write-turn (at-loop (search) .loop .inv) (in-loop (search) .loop-test .taken) refl (put .ensures .0) (put .ensures .1)
 
 same-length : tie.Need-same-length Inv-loop μ-loop
 same-length c = search needs

@@ -21,7 +21,12 @@ cast-result : tie.Need-cast-result
 cast-result c = search needs
 
 returns-2 : tie.Need-returns-2
-returns-2 c = omega (arith, count-of-zeros 64 (c .before .args .x) _ (omega (arith, c .before .pre)) (c .before .pre) refl, bytes-large (c .before .args .x) (c .if1 .left))
+returns-2 c =
+    omega (
+      arith,
+      count-of-zeros 64 (c .before .args .x) _ (omega (arith, c .before .pre)) (c .before .pre) refl,
+      bytes-large (c .before .args .x) (c .if1 .left),
+    )
 
 pub length-spec : {M : Type 1} → statement M
 length-spec = tie.close (tie.spec returns sub-bits add-result cast-result returns-2)

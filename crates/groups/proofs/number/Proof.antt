@@ -13,6 +13,10 @@ Inv-loop x bytes₀ v₀ count₀ bytes v count = Left bytes₀ 0 x bytes v coun
 abbrev μ-loop : tie.MeasureT-loop
 μ-loop x bytes₀ v₀ count₀ bytes v count = v
 
+-- The places that the answers look back to: `entry (search)` is the one behind the answer at hand.
+abbrev entry : tie.Start Inv-loop μ-loop → tie.Start Inv-loop μ-loop
+entry c = c
+
 loop-holds : tie.Need-loop-holds Inv-loop μ-loop
 loop-holds c = start _ 0 _ (c .pre)
 
@@ -23,10 +27,10 @@ cast-bytes : tie.Need-cast-bytes Inv-loop μ-loop
 cast-bytes c = search needs
 
 array-write-bytes : tie.Need-array-write-bytes Inv-loop μ-loop
-array-write-bytes c = omega (arith, inside (c .before .loop .inv), bytes-length (c .before .before .args .x))
+array-write-bytes c = omega (arith, inside (c .before .loop .inv), bytes-length (entry (search) .args .x))
 
 add-count : tie.Need-add-count Inv-loop μ-loop
-add-count c = omega (arith, inside (c .before .loop .inv), bytes-length (c .before .before .args .x))
+add-count c = omega (arith, inside (c .before .loop .inv), bytes-length (entry (search) .args .x))
 
 loop-less : tie.Need-loop-less Inv-loop μ-loop
 loop-less c = search needs
@@ -38,10 +42,10 @@ cast-bytes-2 : tie.Need-cast-bytes-2 Inv-loop μ-loop
 cast-bytes-2 c = search needs
 
 array-write-bytes-2 : tie.Need-array-write-bytes-2 Inv-loop μ-loop
-array-write-bytes-2 c = omega (arith, inside (c .before .loop .inv), bytes-length (c .before .before .args .x))
+array-write-bytes-2 c = omega (arith, inside (c .before .loop .inv), bytes-length (entry (search) .args .x))
 
 add-t15 : tie.Need-add-t15 Inv-loop μ-loop
-add-t15 c = omega (arith, inside (c .before .loop .inv), bytes-length (c .before .before .args .x))
+add-t15 c = omega (arith, inside (c .before .loop .inv), bytes-length (entry (search) .args .x))
 
 returns : tie.Need-returns Inv-loop μ-loop
 returns c = let (stored, place) = stop (c .before .loop .inv) (c .loop-test .left) in (stored, omega arith)

@@ -8,8 +8,16 @@ use Rattle.held.specs.Record.{steppedOf}
 use Rattle.held.proofs.stepped.Statement.{statement}
 use Rattle.held.proofs.stepped.Tie as tie
 
-same : (held : Held) (pops popped update room : ℕ) {on top : ℕ} → on ≡ min 1 update → top ≡ max (held .greatest) room → _≡_ {A = Held} (record { count = held .count - pops + on; entries = held .entries - popped + update; greatest = top }) (steppedOf held pops popped update room)
+same : (held : Held) (pops popped update room : ℕ) {on top : ℕ} → on ≡ min 1 update → top ≡ max (held .greatest) room → _≡_ {A = Held}
+    (record { count = held .count - pops + on; entries = held .entries - popped + update; greatest = top }) (steppedOf held pops popped update room)
 same held pops popped update room e f = rw (e, f)
+
+-- The places that the answers look back to: `entry (search)` is the one behind the answer at hand.
+abbrev entry : tie.Start → tie.Start
+entry c = c
+
+abbrev after-put-on : tie.After-put-on → tie.After-put-on
+after-put-on c = c
 
 sub-t6 : tie.Need-sub-t6
 sub-t6 c = search needs
@@ -30,7 +38,9 @@ greater-requires : tie.Need-greater-requires
 greater-requires c κs = search needs
 
 returns : tie.Need-returns
-returns c = same (c .before .before .before .before .args .held) (c .before .before .before .before .args .pops) (c .before .before .before .before .args .popped) (c .before .before .before .before .args .update) (c .before .before .before .before .args .room) (c .before .before .put-on .ensures) (c .greater .ensures)
+returns c =
+    same (entry (search) .args .held) (entry (search) .args .pops) (entry (search) .args .popped) (entry (search) .args .update)
+    (entry (search) .args .room) (after-put-on (search) .put-on .ensures) (c .greater .ensures)
 
 pub stepped-spec : {M : Type 1} → statement M
 stepped-spec =

@@ -16,22 +16,37 @@ Inv-loop n starts rows stack pops count end top₀ total₀ top total = Added n 
 abbrev μ-loop : tie.MeasureT-loop
 μ-loop n starts rows stack pops count end top₀ total₀ top total = top - end
 
+-- The places that the answers look back to: `entry (search)` is the one behind the answer at hand.
+abbrev entry : tie.Start Inv-loop μ-loop → tie.Start Inv-loop μ-loop
+entry c = c
+
+abbrev at-loop : tie.At-loop Inv-loop μ-loop → tie.At-loop Inv-loop μ-loop
+at-loop c = c
+
+abbrev in-loop : tie.In-loop Inv-loop μ-loop → tie.In-loop Inv-loop μ-loop
+in-loop c = c
+
 sub-end : tie.Need-sub-end Inv-loop μ-loop
 sub-end c = search needs
 
 loop-holds : tie.Need-loop-holds Inv-loop μ-loop
-loop-holds c = added-start _ _ _ _ _ _ (c .before .before .before .pre .1 .1)
+loop-holds c = added-start _ _ _ _ _ _ (entry (search) .pre .1 .1)
 
 held-column-requires : tie.Need-held-column-requires Inv-loop μ-loop
-held-column-requires c κs = (λ i l. c .before .before .before .before .before .pre .1 .0 .columns i (omega arith), (omega arith, omega arith))
+held-column-requires c κs = (λ i l. entry (search) .pre .1 .0 .columns i (omega arith), (omega arith, omega arith))
 
 entries-of-requires : tie.Need-entries-of-requires Inv-loop μ-loop
-entries-of-requires c κs = (c .before .before .before .before .before .before .pre .0, c .held-column .ensures .1)
+entries-of-requires c κs = (entry (search) .pre .0, c .held-column .ensures .1)
 
 add-total : tie.Need-add-total Inv-loop μ-loop
 add-total c =
-    let pre = c .before .before .before .before .before .before .before .pre in
-    omega (arith, added-within _ _ _ _ (c .before .before .before .loop .inv) (c .before .before .loop-test .taken) (c .before .held-column .ensures .0) (c .entries-of .ensures), popped-small _ _ _ (pre .0) (pre .1 .0) (c .before .before .before .before .before .before .before .args .pops))
+    let pre = entry (search) .pre in
+    omega (
+      arith,
+      added-within _ _ _ _ (at-loop (search) .loop .inv) (in-loop (search) .loop-test .taken) (c .before .held-column .ensures .0)
+          (c .entries-of .ensures),
+      popped-small _ _ _ (pre .0) (pre .1 .0) (entry (search) .args .pops),
+    )
 
 sub-top : tie.Need-sub-top Inv-loop μ-loop
 sub-top c = search needs
@@ -40,7 +55,9 @@ loop-less : tie.Need-loop-less Inv-loop μ-loop
 loop-less c = search needs
 
 loop-again : tie.Need-loop-again Inv-loop μ-loop
-loop-again c = added-next _ _ _ _ (c .before .before .before .loop .inv) (c .before .before .loop-test .taken) (c .before .held-column .ensures .0) (c .entries-of .ensures)
+loop-again c =
+    added-next _ _ _ _ (at-loop (search) .loop .inv) (in-loop (search) .loop-test .taken) (c .before .held-column .ensures .0)
+    (c .entries-of .ensures)
 
 returns : tie.Need-returns Inv-loop μ-loop
 returns c = added-end _ _ _ _ (c .before .loop .inv) (c .loop-test .left)

@@ -16,6 +16,25 @@ Inv-loop n starts rows stack pops column front count end top₀ top = Looked n s
 abbrev μ-loop : tie.MeasureT-loop
 μ-loop n starts rows stack pops column front count end top₀ top = top - end
 
+-- The places that the answers look back to: `entry (search)` is the one behind the answer at hand.
+abbrev entry : tie.Start Inv-loop μ-loop → tie.Start Inv-loop μ-loop
+entry c = c
+
+abbrev after-rows-of : tie.After-rows-of Inv-loop μ-loop → tie.After-rows-of Inv-loop μ-loop
+after-rows-of c = c
+
+abbrev at-loop : tie.At-loop Inv-loop μ-loop → tie.At-loop Inv-loop μ-loop
+at-loop c = c
+
+abbrev in-loop : tie.In-loop Inv-loop μ-loop → tie.In-loop Inv-loop μ-loop
+in-loop c = c
+
+abbrev after-held-column : tie.After-held-column Inv-loop μ-loop → tie.After-held-column Inv-loop μ-loop
+after-held-column c = c
+
+abbrev after-rows-of2 : tie.After-rows-of2 Inv-loop μ-loop → tie.After-rows-of2 Inv-loop μ-loop
+after-rows-of2 c = c
+
 rows-of-requires : tie.Need-rows-of-requires Inv-loop μ-loop
 rows-of-requires c κs = search needs
 
@@ -23,18 +42,20 @@ sub-end : tie.Need-sub-end Inv-loop μ-loop
 sub-end c = search needs
 
 loop-holds : tie.Need-loop-holds Inv-loop μ-loop
-loop-holds c = looked-start _ _ _ _ _ _ _ (c .before .before .before .before .pre .1 .1 .0)
+loop-holds c = looked-start _ _ _ _ _ _ _ (entry (search) .pre .1 .1 .0)
 
 held-column-requires : tie.Need-held-column-requires Inv-loop μ-loop
-held-column-requires c κs = (λ i l. c .before .before .before .before .before .before .pre .1 .0 .columns i (omega arith), (omega arith, omega arith))
+held-column-requires c κs = (λ i l. entry (search) .pre .1 .0 .columns i (omega arith), (omega arith, omega arith))
 
 rows-of-requires-2 : tie.Need-rows-of-requires-2 Inv-loop μ-loop
-rows-of-requires-2 c κs = (c .before .before .before .before .before .before .before .pre .0, c .held-column .ensures .1)
+rows-of-requires-2 c κs = (entry (search) .pre .0, c .held-column .ensures .1)
 
 stands-in-requires : tie.Need-stands-in-requires Inv-loop μ-loop
 stands-in-requires c κs =
-    let pre = c .before .before .before .before .before .before .before .before .pre in
-    (rw (c .before .before .before .before .rows-of .ensures) (column-ascends (pre .0) (pre .1 .1 .1)), rw (c .rows-of2 .ensures) (column-ascends (pre .0) (c .before .held-column .ensures .1)))
+    let pre = entry (search) .pre in (
+      rw (after-rows-of (search) .rows-of .ensures) (column-ascends (pre .0) (pre .1 .1 .1)),
+      rw (c .rows-of2 .ensures) (column-ascends (pre .0) (c .before .held-column .ensures .1)),
+    )
 
 sub-top : tie.Need-sub-top Inv-loop μ-loop
 sub-top c = search needs
@@ -43,10 +64,16 @@ loop-less : tie.Need-loop-less Inv-loop μ-loop
 loop-less c = search needs
 
 loop-again : tie.Need-loop-again Inv-loop μ-loop
-loop-again c = looked-next _ _ _ _ _ (c .before .before .before .before .before .loop .inv) (c .before .before .before .before .loop-test .taken) (c .before .before .before .before .before .before .rows-of .ensures) (c .before .before .before .held-column .ensures .0) (c .before .before .rows-of2 .ensures) (c .before .stands-in .ensures) (c .if1 .taken)
+loop-again c =
+    looked-next _ _ _ _ _ (at-loop (search) .loop .inv) (in-loop (search) .loop-test .taken) (after-rows-of (search) .rows-of .ensures)
+    (after-held-column (search) .held-column .ensures .0) (after-rows-of2 (search) .rows-of2 .ensures) (c .before .stands-in .ensures)
+    (c .if1 .taken)
 
 returns : tie.Need-returns Inv-loop μ-loop
-returns c = looked-outside _ _ _ _ _ (c .before .before .before .before .before .loop .inv) (c .before .before .before .before .loop-test .taken) (c .before .before .before .before .before .before .rows-of .ensures) (c .before .before .before .held-column .ensures .0) (c .before .before .rows-of2 .ensures) (c .before .stands-in .ensures) (c .if1 .left)
+returns c =
+    looked-outside _ _ _ _ _ (at-loop (search) .loop .inv) (in-loop (search) .loop-test .taken) (after-rows-of (search) .rows-of .ensures)
+    (after-held-column (search) .held-column .ensures .0) (after-rows-of2 (search) .rows-of2 .ensures) (c .before .stands-in .ensures)
+    (c .if1 .left)
 
 returns-2 : tie.Need-returns-2 Inv-loop μ-loop
 returns-2 c = looked-end _ _ _ _ _ (c .before .loop .inv) (c .loop-test .left)

@@ -6,6 +6,19 @@ use Rattle.held_updates.proofs.Uses.{top-within, front-fits, room-fits,
 use Rattle.held_updates.proofs.room_in_use.Statement.{statement}
 use Rattle.held_updates.proofs.room_in_use.Tie as tie
 
+-- The places that the answers look back to: `entry (search)` is the one behind the answer at hand.
+abbrev entry : tie.Start → tie.Start
+entry c = c
+
+abbrev after-rows-of : tie.After-rows-of → tie.After-rows-of
+after-rows-of c = c
+
+abbrev after-entries : tie.After-entries → tie.After-entries
+after-entries c = c
+
+abbrev after-held-column : tie.After-held-column → tie.After-held-column
+after-held-column c = c
+
 rows-of-requires : tie.Need-rows-of-requires
 rows-of-requires c κs = search needs
 
@@ -13,17 +26,18 @@ add-entries : tie.Need-add-entries
 add-entries c = search needs
 
 entries-requires : tie.Need-entries-requires
-entries-requires c κs = front-fits (c .before .before .before .before .pre .0) (c .before .before .before .before .pre .1 .0) (c .before .before .before .before .pre .1 .1 .1) (c .rows-of .ensures)
+entries-requires c κs = front-fits (entry (search) .pre .0) (entry (search) .pre .1 .0) (entry (search) .pre .1 .1 .1) (c .rows-of .ensures)
 
 add-result : tie.Need-add-result
 add-result c =
-    let pre = c .before .before .before .before .before .before .before .pre in
-    omega (arith, room-fits (pre .0) (pre .1 .0) (pre .1 .1 .1) (c .before .before .before .rows-of .ensures) (c .before .before .entries .ensures))
+    let pre = entry (search) .pre in
+    omega (arith, room-fits (pre .0) (pre .1 .0) (pre .1 .1 .1) (after-rows-of (search) .rows-of .ensures) (after-entries (search) .entries .ensures))
 
 returns : tie.Need-returns
 returns c =
-    let pre = c .before .before .before .before .before .before .before .pre in
-    room-above (pre .0) (pre .1 .0) (pre .1 .1 .1) (c .before .before .before .rows-of .ensures) (c .before .before .entries .ensures) (c .before .if1 .taken)
+    let pre = entry (search) .pre in
+    room-above (pre .0) (pre .1 .0) (pre .1 .1 .1) (after-rows-of (search) .rows-of .ensures) (after-entries (search) .entries .ensures)
+    (c .before .if1 .taken)
 
 held-column-requires : tie.Need-held-column-requires
 held-column-requires c κs = search needs
@@ -32,17 +46,20 @@ entries-of-requires : tie.Need-entries-of-requires
 entries-of-requires c κs = search needs
 
 sub-result : tie.Need-sub-result
-sub-result c = top-within (c .before .before .before .before .before .before .before .before .before .pre .0) (c .before .before .before .before .before .before .before .before .before .pre .1 .0) (omega arith) (c .before .before .held-column .ensures .0) (c .before .entries-of .ensures)
+sub-result c =
+    top-within (entry (search) .pre .0) (entry (search) .pre .1 .0) (omega arith) (after-held-column (search) .held-column .ensures .0)
+    (c .before .entries-of .ensures)
 
 add-result-2 : tie.Need-add-result-2
 add-result-2 c =
-    let pre = c .before .before .before .before .before .before .before .before .before .pre in
-    omega (arith, room-fits (pre .0) (pre .1 .0) (pre .1 .1 .1) (c .before .before .before .before .before .rows-of .ensures) (c .before .before .before .before .entries .ensures))
+    let pre = entry (search) .pre in
+    omega (arith, room-fits (pre .0) (pre .1 .0) (pre .1 .1 .1) (after-rows-of (search) .rows-of .ensures) (after-entries (search) .entries .ensures))
 
 returns-2 : tie.Need-returns-2
 returns-2 c =
-    let pre = c .before .before .before .before .before .before .before .before .before .pre in
-    room-on-top (pre .0) (pre .1 .0) (pre .1 .1 .1) (c .before .before .before .before .before .rows-of .ensures) (c .before .before .before .before .entries .ensures) (omega arith) (pre .1 .1 .0) (c .before .before .held-column .ensures .0) (c .before .entries-of .ensures)
+    let pre = entry (search) .pre in
+    room-on-top (pre .0) (pre .1 .0) (pre .1 .1 .1) (after-rows-of (search) .rows-of .ensures) (after-entries (search) .entries .ensures)
+    (omega arith) (pre .1 .1 .0) (after-held-column (search) .held-column .ensures .0) (c .before .entries-of .ensures)
 
 pub room-in-use-spec : {M : Type 1} → statement M
 room-in-use-spec =

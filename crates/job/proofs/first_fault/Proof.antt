@@ -8,7 +8,8 @@ use borrow.Author.Needs.{needs}
 use Rattle.papers.specs.declared.Answer.{Answer}
 use Rattle.papers.specs.Bounds.{maxColumns, maxMark, maxLimit}
 use Rattle.papers.specs.Job.{Job}
-use Rattle.papers.specs.Refusals.{answer, untouched, Verdict, passed, refused, answerOf, first, columnsTest, markTest, limitTest, startsTest, rowsTest, jobTests}
+use Rattle.papers.specs.Refusals.{answer, untouched, Verdict, passed, refused, answerOf, first, columnsTest, markTest}
+use Rattle.papers.specs.Refusals.{limitTest, startsTest, rowsTest, jobTests}
 use Rattle.job_laws.proofs.Firsts.{first-passes, first-refuses, first-answers, first-last, over-refuses, over-passes-iff, answer-refused}
 use Rattle.job_laws.proofs.Untouched.{starts-early, early-zero}
 use Rattle.job.proofs.first_fault.Statement.{statement}
@@ -46,12 +47,27 @@ module _ (job : Job) where
         unfolding limitTest
         limit-passes = mark-passes ∙ first-passes _ _ job (over-passes-iff maxLimit (job .limit) _ _ .1 limited)
 
-        starts-refuse : (r : Answer) → r ≡ answerOf (startsTest (job .n) (job .starts) (job .rows)) → r .number ≢ 0 → r ≡ answerOf (first jobTests job)
+        starts-refuse : (r : Answer) → r ≡ answerOf (startsTest (job .n) (job .starts) (job .rows)) → r .number ≢ 0 → r ≡ answerOf
+            (first jobTests job)
         starts-refuse r e h = e ∙ ap answerOf (sym (limit-passes ∙ first-answers _ _ job (λ z. h (ap (λ a. a .number) e ∙ z))))
 
-        rows-decide : startsTest (job .n) (job .starts) (job .rows) ≡ passed → (r : Answer) → r ≡ answerOf (rowsTest (job .n) (job .starts) (job .rows))
+        rows-decide : startsTest (job .n) (job .starts) (job .rows) ≡ passed → (r : Answer) → r ≡ answerOf
+            (rowsTest (job .n) (job .starts) (job .rows))
             → r ≡ answerOf (first jobTests job)
         rows-decide p r e = e ∙ ap answerOf (sym (limit-passes ∙ first-passes _ _ job p ∙ first-last _ job))
+
+-- The places that the answers look back to: `else1 (search)` is the one behind the answer at hand.
+abbrev else1 : tie.Else1 → tie.Else1
+else1 c = c
+
+abbrev else2 : tie.Else2 → tie.Else2
+else2 c = c
+
+abbrev else3 : tie.Else3 → tie.Else3
+else3 c = c
+
+abbrev after-starts-fault : tie.After-starts-fault → tie.After-starts-fault
+after-starts-fault c = c
 
 answered-requires : tie.Need-answered-requires
 answered-requires c κs = search needs
@@ -63,25 +79,29 @@ answered-requires-2 : tie.Need-answered-requires-2
 answered-requires-2 c κs = search needs
 
 returns-2 : tie.Need-returns-2
-returns-2 c = answer-refused (mark-refuses _ (c .before .before .before .if1 .left) (c .before .if2 .taken)) (c .answered2 .ensures)
+returns-2 c = answer-refused (mark-refuses _ (else1 (search) .if1 .left) (c .before .if2 .taken)) (c .answered2 .ensures)
 
 answered-requires-3 : tie.Need-answered-requires-3
 answered-requires-3 c κs = search needs
 
 returns-3 : tie.Need-returns-3
-returns-3 c = answer-refused (limit-refuses _ (c .before .before .before .before .before .if1 .left) (c .before .before .before .if2 .left) (c .before .if3 .taken)) (c .answered3 .ensures)
+returns-3 c = answer-refused (limit-refuses _ (else1 (search) .if1 .left) (else2 (search) .if2 .left) (c .before .if3 .taken)) (c .answered3 .ensures)
 
 starts-fault-requires : tie.Need-starts-fault-requires
 starts-fault-requires c κs = search needs
 
 returns-4 : tie.Need-returns-4
-returns-4 c = starts-refuse _ (c .before .before .before .before .before .before .before .if1 .left) (c .before .before .before .before .before .if2 .left) (c .before .before .before .if3 .left) _ (c .before .before .starts-fault .ensures) (c .if4 .taken)
+returns-4 c =
+    starts-refuse _ (else1 (search) .if1 .left) (else2 (search) .if2 .left) (else3 (search) .if3 .left) _
+    (after-starts-fault (search) .starts-fault .ensures) (c .if4 .taken)
 
 rows-fault-requires : tie.Need-rows-fault-requires
-rows-fault-requires c κs = (search needs, early-zero _ (starts-early _ _ _) _ (c .before .before .starts-fault .ensures) (c .if4 .left))
+rows-fault-requires c κs = (search needs, early-zero _ (starts-early _ _ _) _ (after-starts-fault (search) .starts-fault .ensures) (c .if4 .left))
 
 returns-5 : tie.Need-returns-5
-returns-5 c = rows-decide _ (c .before .before .before .before .before .before .before .before .if1 .left) (c .before .before .before .before .before .before .if2 .left) (c .before .before .before .before .if3 .left) (early-zero _ (starts-early _ _ _) _ (c .before .before .before .starts-fault .ensures) (c .before .if4 .left)) _ (c .rows-fault .ensures)
+returns-5 c =
+    rows-decide _ (else1 (search) .if1 .left) (else2 (search) .if2 .left) (else3 (search) .if3 .left)
+    (early-zero _ (starts-early _ _ _) _ (after-starts-fault (search) .starts-fault .ensures) (c .before .if4 .left)) _ (c .rows-fault .ensures)
 
 pub first-fault-spec : {M : Type 1} → statement M
 first-fault-spec =

@@ -19,8 +19,24 @@ Inv-columns n starts rows number₀ place₀ done₀ number place done = Columns
 abbrev μ-columns : tie.MeasureT-columns
 μ-columns n starts rows number₀ place₀ done₀ number place done = n - done
 
+-- The places that the answers look back to: `entry (search)` is the one behind the answer at hand.
+abbrev entry : tie.Start Inv-rows μ-rows Inv-columns μ-columns → tie.Start Inv-rows μ-rows Inv-columns μ-columns
+entry c = c
+
+abbrev at-columns : tie.At-columns Inv-rows μ-rows Inv-columns μ-columns → tie.At-columns Inv-rows μ-rows Inv-columns μ-columns
+at-columns c = c
+
+abbrev in-columns : tie.In-columns Inv-rows μ-rows Inv-columns μ-columns → tie.In-columns Inv-rows μ-rows Inv-columns μ-columns
+in-columns c = c
+
+abbrev at-rows : tie.At-rows Inv-rows μ-rows Inv-columns μ-columns → tie.At-rows Inv-rows μ-rows Inv-columns μ-columns
+at-rows c = c
+
+abbrev in-rows : tie.In-rows Inv-rows μ-rows Inv-columns μ-columns → tie.In-rows Inv-rows μ-rows Inv-columns μ-columns
+in-rows c = c
+
 columns-holds : tie.Need-columns-holds Inv-rows μ-rows Inv-columns μ-columns
-columns-holds c = first-column (c .before .before .pre .1)
+columns-holds c = first-column (entry (search) .pre .1)
 
 add-j : tie.Need-add-j Inv-rows μ-rows Inv-columns μ-columns
 add-j c = search needs
@@ -38,7 +54,7 @@ shared-slice-read-end : tie.Need-shared-slice-read-end Inv-rows μ-rows Inv-colu
 shared-slice-read-end c = search needs
 
 rows-holds : tie.Need-rows-holds Inv-rows μ-rows Inv-columns μ-columns
-rows-holds c = first-row (c .before .before .before .columns .inv) (c .before .before .columns-test .taken)
+rows-holds c = first-row (at-columns (search) .columns .inv) (in-columns (search) .columns-test .taken)
 
 mul-row : tie.Need-mul-row Inv-rows μ-rows Inv-columns μ-columns
 mul-row c = search needs
@@ -47,7 +63,7 @@ shared-slice-read-row : tie.Need-shared-slice-read-row Inv-rows μ-rows Inv-colu
 shared-slice-read-row c = search needs
 
 cast-row : tie.Need-cast-row Inv-rows μ-rows Inv-columns μ-columns
-cast-row c = omega (arith, c .shared-slice-known5 .given (c .before .before .rows .i))
+cast-row c = omega (arith, c .shared-slice-known5 .given (at-rows (search) .rows .i))
 
 row-fault-requires : tie.Need-row-fault-requires Inv-rows μ-rows Inv-columns μ-columns
 row-fault-requires c κs = search needs
@@ -59,19 +75,22 @@ rows-less : tie.Need-rows-less Inv-rows μ-rows Inv-columns μ-columns
 rows-less c = search needs
 
 rows-again : tie.Need-rows-again Inv-rows μ-rows Inv-columns μ-columns
-rows-again c = next-row (c .before .before .before .before .rows .inv) _ (c .before .before .before .rows-test .taken) (c .before .row-fault .ensures) (c .if1 .left)
+rows-again c = next-row (at-rows (search) .rows .inv) _ (in-rows (search) .rows-test .taken) (c .before .row-fault .ensures) (c .if1 .left)
 
 columns-less : tie.Need-columns-less Inv-rows μ-rows Inv-columns μ-columns
 columns-less c = search needs
 
 columns-again : tie.Need-columns-again Inv-rows μ-rows Inv-columns μ-columns
-columns-again c = next-column (c .before .before .before .before .before .columns .inv) (c .before .before .before .before .columns-test .taken) (c .before .rows .inv) (c .rows-test .left)
+columns-again c =
+    next-column (at-columns (search) .columns .inv) (in-columns (search) .columns-test .taken) (c .before .rows .inv) (c .rows-test .left)
 
 returns : tie.Need-returns Inv-rows μ-rows Inv-columns μ-columns
 returns c = last-column (c .before .columns .inv) (c .columns-test .left)
 
 returns-2 : tie.Need-returns-2 Inv-rows μ-rows Inv-columns μ-columns
-returns-2 c = found (c .before .before .before .before .before .before .before .before .columns .inv) (c .before .before .before .before .before .before .before .columns-test .taken) (c .before .before .before .before .rows .inv) _ (c .before .before .before .rows-test .taken) (c .before .row-fault .ensures) (c .if1 .taken)
+returns-2 c =
+    found (at-columns (search) .columns .inv) (in-columns (search) .columns-test .taken) (at-rows (search) .rows .inv) _
+    (in-rows (search) .rows-test .taken) (c .before .row-fault .ensures) (c .if1 .taken)
 
 pub rows-fault-spec : {M : Type 1} → statement M
 rows-fault-spec =

@@ -14,6 +14,19 @@ Inv-loop n starts rows done₀ done = Rising n starts done
 abbrev μ-loop : tie.MeasureT-loop
 μ-loop n starts rows done₀ done = n - done
 
+-- The places that the answers look back to: `else1 (search)` is the one behind the answer at hand.
+abbrev else1 : tie.Else1 Inv-loop μ-loop → tie.Else1 Inv-loop μ-loop
+else1 c = c
+
+abbrev at-loop : tie.At-loop Inv-loop μ-loop → tie.At-loop Inv-loop μ-loop
+at-loop c = c
+
+abbrev after-loop : tie.After-loop Inv-loop μ-loop → tie.After-loop Inv-loop μ-loop
+after-loop c = c
+
+abbrev in-loop : tie.In-loop Inv-loop μ-loop → tie.In-loop Inv-loop μ-loop
+in-loop c = c
+
 add-if1 : tie.Need-add-if1 Inv-loop μ-loop
 add-if1 c = search needs
 
@@ -30,10 +43,10 @@ answered-requires-2 : tie.Need-answered-requires-2 Inv-loop μ-loop
 answered-requires-2 c κs = search needs
 
 returns-2 : tie.Need-returns-2 Inv-loop μ-loop
-returns-2 c = answer-refused (starts-from _ _ _ (c .before .before .before .if1 .left) (rw (start-at _ 0) (c .before .if2 .taken))) (c .answered2 .ensures)
+returns-2 c = answer-refused (starts-from _ _ _ (else1 (search) .if1 .left) (rw (start-at _ 0) (c .before .if2 .taken))) (c .answered2 .ensures)
 
 loop-holds : tie.Need-loop-holds Inv-loop μ-loop
-loop-holds c = begin _ (c .before .before .if1 .left) (c .if2 .left)
+loop-holds c = begin _ (else1 (search) .if1 .left) (c .if2 .left)
 
 add-if3 : tie.Need-add-if3 Inv-loop μ-loop
 add-if3 c = search needs
@@ -57,7 +70,8 @@ answered-requires-3 : tie.Need-answered-requires-3 Inv-loop μ-loop
 answered-requires-3 c κs = search needs
 
 returns-3 : tie.Need-returns-3 Inv-loop μ-loop
-returns-3 c = answer-refused (fall (c .before .before .before .before .before .loop .inv) _ (c .before .before .before .before .loop-test .taken) (c .before .if3 .taken)) (c .answered3 .ensures)
+returns-3 c =
+    answer-refused (fall (at-loop (search) .loop .inv) _ (in-loop (search) .loop-test .taken) (c .before .if3 .taken)) (c .answered3 .ensures)
 
 add-done : tie.Need-add-done Inv-loop μ-loop
 add-done c = search needs
@@ -66,7 +80,7 @@ loop-less : tie.Need-loop-less Inv-loop μ-loop
 loop-less c = search needs
 
 loop-again : tie.Need-loop-again Inv-loop μ-loop
-loop-again c = next (c .before .before .before .before .loop .inv) (c .before .before .before .loop-test .taken) (c .if3 .left)
+loop-again c = next (at-loop (search) .loop .inv) (in-loop (search) .loop-test .taken) (c .if3 .left)
 
 mul-if4 : tie.Need-mul-if4 Inv-loop μ-loop
 mul-if4 c = search needs
@@ -78,13 +92,15 @@ answered-requires-4 : tie.Need-answered-requires-4 Inv-loop μ-loop
 answered-requires-4 c κs = search needs
 
 returns-4 : tie.Need-returns-4 Inv-loop μ-loop
-returns-4 c = answer-refused (end (c .before .before .before .before .loop .inv) _ (c .before .before .before .loop-test .left) (c .before .if4 .taken)) (c .answered4 .ensures)
+returns-4 c =
+    answer-refused (end (at-loop (search) .loop .inv) _ (after-loop (search) .loop-test .left) (c .before .if4 .taken)) (c .answered4 .ensures)
 
 answered-requires-5 : tie.Need-answered-requires-5 Inv-loop μ-loop
 answered-requires-5 c κs = search needs
 
 returns-5 : tie.Need-returns-5 Inv-loop μ-loop
-returns-5 c = answer-passed (pass (c .before .before .before .before .loop .inv) _ (c .before .before .before .loop-test .left) (c .before .if4 .left)) (c .answered5 .ensures)
+returns-5 c =
+    answer-passed (pass (at-loop (search) .loop .inv) _ (after-loop (search) .loop-test .left) (c .before .if4 .left)) (c .answered5 .ensures)
 
 pub starts-fault-spec : {M : Type 1} → statement M
 starts-fault-spec =

@@ -9,6 +9,10 @@ use Rattle.kept_rows.specs.Narrowed.{narrowed}
 use Rattle.kept_rows.proofs.keep_row.Statement.{statement}
 use Rattle.kept_rows.proofs.keep_row.Tie as tie
 
+-- The places that the answers look back to: `entry (search)` is the one behind the answer at hand.
+abbrev entry : tie.Start → tie.Start
+entry c = c
+
 narrow-requires : tie.Need-narrow-requires
 narrow-requires c κs = search needs
 
@@ -22,10 +26,10 @@ same-length : tie.Need-same-length
 same-length c = search needs
 
 returns : tie.Need-returns
-returns c = ap (set (now (c .before .before .before .args .rows)) (c .before .before .before .args .i)) (c .narrow .ensures)
+returns c = ap (set (now (entry (search) .args .rows)) (entry (search) .args .i)) (c .narrow .ensures)
 
 returns-2 : tie.Need-returns-2
-returns-2 c = sym (set-out (now (c .before .before .args .rows)) (c .before .before .args .i) (narrowed (c .before .before .args .row)) (c .if1 .left))
+returns-2 c = sym (set-out (now (entry (search) .args .rows)) (entry (search) .args .i) (narrowed (entry (search) .args .row)) (c .if1 .left))
 
 pub keep-row-spec : {M : Type 1} → statement M
 keep-row-spec =

@@ -9,14 +9,30 @@ use Rattle.key.proofs.Written.{key-refused, key-stored}
 use Rattle.key.proofs.write_key.Statement.{statement}
 use Rattle.key.proofs.write_key.Tie as tie
 
+-- The places that the answers look back to: `start (search)` is the one behind the answer at hand.
+abbrev start : tie.Start → tie.Start
+start c = c
+
+abbrev after-first-fault : tie.After-first-fault → tie.After-first-fault
+after-first-fault c = c
+
+abbrev else1 : tie.Else1 → tie.Else1
+else1 c = c
+
+abbrev after-put-key : tie.After-put-key → tie.After-put-key
+after-put-key c = c
+
+abbrev after-finish : tie.After-finish → tie.After-finish
+after-finish c = c
+
 first-fault-requires : tie.Need-first-fault-requires
 first-fault-requires c κs = search needs
 
 returns : tie.Need-returns
-returns c = key-refused _ _ (c .before .before .first-fault .ensures) (c .if1 .taken) refl
+returns c = key-refused _ _ (after-first-fault (search) .first-fault .ensures) (c .if1 .taken) refl
 
 put-key-requires : tie.Need-put-key-requires
-put-key-requires c κs = job-answered _ (c .before .before .before .first-fault .ensures) (c .before .if1 .left)
+put-key-requires c κs = job-answered _ (after-first-fault (search) .first-fault .ensures) (c .before .if1 .left)
 
 finish-requires : tie.Need-finish-requires
 finish-requires c κs = search needs
@@ -26,11 +42,11 @@ same-length c = search needs
 
 returns-2 : tie.Need-returns-2
 returns-2 c =
-    let entry = c .before .before .before .before .before .before .before .before .before .before .before .before .before .before in
-    let job = jobOf (entry .args .head) (entry .args .starts .now) (entry .args .rows .now) in
-    let passed = job-answered job (c .before .before .before .before .before .before .before .before .before .before .first-fault .ensures) (c .before .before .before .before .before .before .before .before .if1 .left) in
-    let put = c .before .before .before .before .before .before .put-key .ensures in
-    c .before .before .finish .ensures (keyOf job) (entry .args .bytes .now) (put .0) (put .1) ∙ sym (key-stored job (entry .args .bytes .now) passed)
+    let job = jobOf (start (search) .args .head) (start (search) .args .starts .now) (start (search) .args .rows .now) in
+    let passed = job-answered job (after-first-fault (search) .first-fault .ensures) (else1 (search) .if1 .left) in
+    let put = after-put-key (search) .put-key .ensures in
+    after-finish (search) .finish .ensures (keyOf job) (start (search) .args .bytes .now) (put .0) (put .1) ∙ sym
+    (key-stored job (start (search) .args .bytes .now) passed)
 
 pub write-key-spec : {M : Type 1} → statement M
 write-key-spec =

@@ -6,6 +6,16 @@ use Rattle.key_match.proofs.Numbers.{left-all, left-number, differs-num
 use Rattle.key_match.proofs.match_list.Statement.{statement}
 use Rattle.key_match.proofs.match_list.Tie as tie
 
+-- The places that the answers look back to: `entry (search)` is the one behind the answer at hand.
+abbrev entry : tie.Start → tie.Start
+entry c = c
+
+abbrev matched : tie.After-match-number → tie.After-match-number
+matched c = c
+
+abbrev after-next : tie.After-next → tie.After-next
+after-next c = c
+
 sub-match-number : tie.Need-sub-match-number
 sub-match-number c = search needs
 
@@ -17,21 +27,22 @@ enum-known-place c = search needs
 
 returns : tie.Need-returns
 returns c =
-    let (inside, list) = c .before .before .before .before .before .before .pre in
-    differs-number (left-all inside) (list-is list) (c .before .before .before .match-number .ensures) (c .before .place .given .1)
+    let (inside, list) = entry (search) .pre in
+    differs-number (left-all inside) (list-is list) (matched (search) .match-number .ensures) (c .before .place .given .1)
 
 enum-known-next : tie.Need-enum-known-next
 enum-known-next c = search needs
 
 match-gaps-requires : tie.Need-match-gaps-requires
 match-gaps-requires c κs =
-    let (inside, list) = c .before .before .before .before .before .before .pre in
-    (left-number (left-all inside) (list-is list) (c .before .before .before .match-number .ensures) (c .before .next .given .1) .inside, list)
+    let (inside, list) = entry (search) .pre in
+    (left-number (left-all inside) (list-is list) (matched (search) .match-number .ensures) (c .before .next .given .1) .inside, list)
 
 returns-2 : tie.Need-returns-2
 returns-2 c =
-    let (inside, list) = c .before .before .before .before .before .before .before .pre in
-    left-last (left-number (left-all inside) (list-is list) (c .before .before .before .before .match-number .ensures) (c .before .before .next .given .1)) (c .match-gaps .ensures)
+    let (inside, list) = entry (search) .pre in
+    left-last (left-number (left-all inside) (list-is list) (matched (search) .match-number .ensures) (after-next (search) .next .given .1))
+    (c .match-gaps .ensures)
 
 pub match-list-spec : {M : Type 1} → statement M
 match-list-spec =

@@ -24,9 +24,22 @@ Inv-loop n starts rows plan at k₀ done₀ k done = Columns n starts rows plan 
 abbrev μ-loop : tie.MeasureT-loop
 μ-loop n starts rows plan at k₀ done₀ k done = n - done
 
+-- The places that the answers look back to: `entry (search)` is the one behind the answer at hand.
+abbrev entry : tie.Start Inv-loop μ-loop → tie.Start Inv-loop μ-loop
+entry c = c
+
+abbrev at-loop : tie.At-loop Inv-loop μ-loop → tie.At-loop Inv-loop μ-loop
+at-loop c = c
+
+abbrev in-loop : tie.In-loop Inv-loop μ-loop → tie.In-loop Inv-loop μ-loop
+in-loop c = c
+
+abbrev after-match-list : tie.After-match-list Inv-loop μ-loop → tie.After-match-list Inv-loop μ-loop
+after-match-list c = c
+
 loop-holds : tie.Need-loop-holds Inv-loop μ-loop
 loop-holds c =
-    let p = c .before .before .before .pre in
+    let p = entry (search) .pre in
     record { few = p .1 .0; lists = lists-iff _ _ _ .0 (p .1 .1 .0, p .1 .1 .1); matched = left-all (p .0) }
 
 mul-match-list : tie.Need-mul-match-list Inv-loop μ-loop
@@ -49,16 +62,17 @@ add-match-list-2 c = search needs
 
 match-list-requires : tie.Need-match-list-requires Inv-loop μ-loop
 match-list-requires c κs =
-    let l = c .before .before .before .loop .inv in
-    (l .matched .inside, column-list (l .few) (l .lists) (c .before .before .loop-test .taken))
+    let l = at-loop (search) .loop .inv in
+    (l .matched .inside, column-list (l .few) (l .lists) (in-loop (search) .loop-test .taken))
 
 enum-known-place : tie.Need-enum-known-place Inv-loop μ-loop
 enum-known-place c = search needs
 
 returns : tie.Need-returns Inv-loop μ-loop
 returns c =
-    let l = c .before .before .before .before .before .before .before .loop .inv in
-    differs-numbers (l .matched) _ _ (numbers-next (l .few) (l .lists) (c .before .before .before .before .before .before .loop-test .taken)) (c .before .before .before .match-list .ensures) (c .before .place .given .1)
+    let l = at-loop (search) .loop .inv in
+    differs-numbers (l .matched) _ _ (numbers-next (l .few) (l .lists) (in-loop (search) .loop-test .taken))
+    (after-match-list (search) .match-list .ensures) (c .before .place .given .1)
 
 enum-known-next : tie.Need-enum-known-next Inv-loop μ-loop
 enum-known-next c = search needs
@@ -71,8 +85,13 @@ loop-less c = search needs
 
 loop-again : tie.Need-loop-again Inv-loop μ-loop
 loop-again c =
-    let l = c .before .before .before .before .before .before .before .loop .inv in
-    record { few = l .few; lists = l .lists; matched = left-numbers (l .matched) _ _ (numbers-next (l .few) (l .lists) (c .before .before .before .before .before .before .loop-test .taken)) (c .before .before .before .match-list .ensures) (c .before .next .given .1) }
+    let l = at-loop (search) .loop .inv in
+    record {
+      few = l .few;
+      lists = l .lists;
+      matched = left-numbers (l .matched) _ _ (numbers-next (l .few) (l .lists) (in-loop (search) .loop-test .taken))
+          (after-match-list (search) .match-list .ensures) (c .before .next .given .1);
+    }
 
 returns-2 : tie.Need-returns-2 Inv-loop μ-loop
 returns-2 c =

@@ -6,6 +6,13 @@ use Rattle.key_match.proofs.Bytes.{one-byte}
 use Rattle.key_match.proofs.match_number.Statement.{statement}
 use Rattle.key_match.proofs.match_number.Tie as tie
 
+-- The places that the answers look back to: `then1 (search)` is the one behind the answer at hand.
+abbrev then1 : tie.Then1 → tie.Then1
+then1 c = c
+
+abbrev then2 : tie.Then2 → tie.Then2
+then2 c = c
+
 shared-slice-read-wide8 : tie.Need-shared-slice-read-wide8
 shared-slice-read-wide8 c = search needs
 
@@ -16,7 +23,7 @@ add-t11 : tie.Need-add-t11
 add-t11 c = search needs
 
 returns : tie.Need-returns
-returns c = one-byte _ _ _ (c .before .before .before .if2 .taken) (c .before .before .before .before .if1 .taken) (sym (c .before .wide8 .ensures .0) ∙ c .if3 .taken)
+returns c = one-byte _ _ _ (then2 (search) .if2 .taken) (then1 (search) .if1 .taken) (sym (c .before .wide8 .ensures .0) ∙ c .if3 .taken)
 
 match-groups-requires : tie.Need-match-groups-requires
 match-groups-requires c κs = search needs

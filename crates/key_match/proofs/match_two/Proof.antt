@@ -8,6 +8,16 @@ use Rattle.key_match.proofs.Numbers.{left-all, left-number, differs-num
 use Rattle.key_match.proofs.match_two.Statement.{statement}
 use Rattle.key_match.proofs.match_two.Tie as tie
 
+-- The places that the answers look back to: `entry (search)` is the one behind the answer at hand.
+abbrev entry : tie.Start → tie.Start
+entry c = c
+
+abbrev matched : tie.After-match-number → tie.After-match-number
+matched c = c
+
+abbrev after-next : tie.After-next → tie.After-next
+after-next c = c
+
 match-number-requires : tie.Need-match-number-requires
 match-number-requires c κs = search needs
 
@@ -15,16 +25,22 @@ enum-known-place : tie.Need-enum-known-place
 enum-known-place c = search needs
 
 returns : tie.Need-returns
-returns c = differs-number (left-all (c .before .before .before .before .before .pre .2)) refl (c .before .before .before .match-number .ensures) (c .before .place .given .1)
+returns c = differs-number (left-all (entry (search) .pre .2)) refl (matched (search) .match-number .ensures) (c .before .place .given .1)
 
 enum-known-next : tie.Need-enum-known-next
 enum-known-next c = search needs
 
 match-number-requires-2 : tie.Need-match-number-requires-2
-match-number-requires-2 c κs = (c .before .before .before .before .before .pre .1, bytes-inside (bytesOf (c .before .before .before .before .before .args .x)) _ _ (c .before .before .before .before .before .pre .2) (sym (c .before .before .before .match-number .ensures) ∙ c .before .next .given .1))
+match-number-requires-2 c κs = (
+  entry (search) .pre .1,
+  bytes-inside (bytesOf (entry (search) .args .x)) _ _ (entry (search) .pre .2)
+      (sym (matched (search) .match-number .ensures) ∙ c .before .next .given .1),
+)
 
 returns-2 : tie.Need-returns-2
-returns-2 c = left-one (left-number (left-all (c .before .before .before .before .before .before .pre .2)) refl (c .before .before .before .before .match-number .ensures) (c .before .before .next .given .1)) refl (c .match-number2 .ensures)
+returns-2 c =
+    left-one (left-number (left-all (entry (search) .pre .2)) refl (matched (search) .match-number .ensures) (after-next (search) .next .given .1))
+    refl (c .match-number2 .ensures)
 
 pub match-two-spec : {M : Type 1} → statement M
 match-two-spec =

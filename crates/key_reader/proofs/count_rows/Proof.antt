@@ -16,20 +16,36 @@ Inv-loop key at n none₀ k₀ j₀ total₀ none k j total = Lists n key at [] 
 abbrev μ-loop : tie.MeasureT-loop
 μ-loop key at n none₀ k₀ j₀ total₀ none k j total = n + 1 - j
 
+-- The places that the answers look back to: `entry (search)` is the one behind the answer at hand.
+abbrev entry : tie.Start Inv-loop μ-loop → tie.Start Inv-loop μ-loop
+entry c = c
+
+abbrev at-loop : tie.At-loop Inv-loop μ-loop → tie.At-loop Inv-loop μ-loop
+at-loop c = c
+
+abbrev in-loop : tie.In-loop Inv-loop μ-loop → tie.In-loop Inv-loop μ-loop
+in-loop c = c
+
+abbrev read : tie.After-read-list Inv-loop μ-loop → tie.After-read-list Inv-loop μ-loop
+read c = c
+
 loop-holds : tie.Need-loop-holds Inv-loop μ-loop
 loop-holds c = lists-start _ _ _ [] _ (c .before .pre .0)
 
 slice-aggregate-read-list : tie.Need-slice-aggregate-read-list Inv-loop μ-loop
-slice-aggregate-read-list c = let h = lists-long (c .before .before .loop .inv) .1 in search needs
+slice-aggregate-read-list c = let h = lists-long (at-loop (search) .loop .inv) .1 in search needs
 
 read-list-requires : tie.Need-read-list-requires Inv-loop μ-loop
-read-list-requires c κs = (c .before .before .loop .inv .inside, c .before .before .before .before .pre .1, c .before .loop-test .taken, c .before .before .loop .inv .paced)
+read-list-requires c κs =
+    (at-loop (search) .loop .inv .inside, entry (search) .pre .1, c .before .loop-test .taken, at-loop (search) .loop .inv .paced)
 
 enum-known-number : tie.Need-enum-known-number Inv-loop μ-loop
 enum-known-number c = search needs
 
 returns : tie.Need-returns Inv-loop μ-loop
-returns c = refuses _ _ (lists-fault (c .before .before .before .before .before .before .before .loop .inv) (c .before .before .before .before .before .before .loop-test .taken) (c .before .before .before .before .read-list .ensures) (c .before .number .given .1)) refl
+returns c =
+    refuses _ _ (lists-fault (at-loop (search) .loop .inv) (in-loop (search) .loop-test .taken) (read (search) .read-list .ensures)
+    (c .before .number .given .1)) refl
 
 enum-known-value : tie.Need-enum-known-value Inv-loop μ-loop
 enum-known-value c = search needs
@@ -41,7 +57,9 @@ loop-less : tie.Need-loop-less Inv-loop μ-loop
 loop-less c = search needs
 
 loop-again : tie.Need-loop-again Inv-loop μ-loop
-loop-again c = lists-turn (c .before .before .before .before .before .before .before .loop .inv) (c .before .before .before .before .before .before .loop-test .taken) (c .before .before .before .before .read-list .ensures) (c .before .value .given .1) refl
+loop-again c =
+    lists-turn (at-loop (search) .loop .inv) (in-loop (search) .loop-test .taken) (read (search) .read-list .ensures) (c .before .value .given .1)
+    refl
 
 returns-2 : tie.Need-returns-2 Inv-loop μ-loop
 returns-2 c = told-alone (lists-stop (c .before .loop .inv) [] refl (c .loop-test .left))

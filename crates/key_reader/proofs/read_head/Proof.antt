@@ -6,6 +6,19 @@ use Rattle.key_reader.proofs.Heads.{no-edition, no-columns, columns-mar
 use Rattle.key_reader.proofs.read_head.Statement.{statement}
 use Rattle.key_reader.proofs.read_head.Tie as tie
 
+-- The places that the answers look back to: `after-read-field (search)` is the one behind the answer at hand.
+abbrev after-read-field : tie.After-read-field → tie.After-read-field
+after-read-field c = c
+
+abbrev after-middle : tie.After-middle → tie.After-middle
+after-middle c = c
+
+abbrev after-read-field2 : tie.After-read-field2 → tie.After-read-field2
+after-read-field2 c = c
+
+abbrev after-n : tie.After-n → tie.After-n
+after-n c = c
+
 read-field-requires : tie.Need-read-field-requires
 read-field-requires c κs = search needs
 
@@ -13,28 +26,32 @@ enum-told : tie.Need-enum-told
 enum-told c = search needs
 
 returns : tie.Need-returns
-returns c = no-edition _ (field-refused _ _ _ _ (c .before .before .read-field .ensures) (c .enum-told .given .1))
+returns c = no-edition _ (field-refused _ _ _ _ (after-read-field (search) .read-field .ensures) (c .enum-told .given .1))
 
 enum-known-middle : tie.Need-enum-known-middle
 enum-known-middle c = search needs
 
 read-field-requires-2 : tie.Need-read-field-requires-2
-read-field-requires-2 c κs = field-found _ _ _ _ (c .before .before .before .read-field .ensures) (c .before .middle .given .1) .1 .inside
+read-field-requires-2 c κs = field-found _ _ _ _ (after-read-field (search) .read-field .ensures) (c .before .middle .given .1) .1 .inside
 
 enum-told-2 : tie.Need-enum-told-2
 enum-told-2 c = search needs
 
 returns-2 : tie.Need-returns-2
-returns-2 c = no-columns _ (field-found _ _ _ _ (c .before .before .before .before .before .before .read-field .ensures) (c .before .before .before .before .middle .given .1) .0) (field-refused _ _ _ _ (c .before .before .read-field2 .ensures) (c .enum-told2 .given .1))
+returns-2 c =
+    no-columns _ (field-found _ _ _ _ (after-read-field (search) .read-field .ensures) (after-middle (search) .middle .given .1) .0)
+    (field-refused _ _ _ _ (after-read-field2 (search) .read-field2 .ensures) (c .enum-told2 .given .1))
 
 enum-known-n : tie.Need-enum-known-n
 enum-known-n c = search needs
 
 read-mark-requires : tie.Need-read-mark-requires
-read-mark-requires c κs = field-found _ _ _ _ (c .before .before .before .read-field2 .ensures) (c .before .n .given .1) .1 .inside
+read-mark-requires c κs = field-found _ _ _ _ (after-read-field2 (search) .read-field2 .ensures) (c .before .n .given .1) .1 .inside
 
 returns-3 : tie.Need-returns-3
-returns-3 c = columns-mark _ (field-found _ _ _ _ (c .before .before .before .before .before .before .before .before .read-field .ensures) (c .before .before .before .before .before .before .middle .given .1) .0) (field-found _ _ _ _ (c .before .before .before .before .read-field2 .ensures) (c .before .before .n .given .1) .0) (c .read-mark .ensures)
+returns-3 c =
+    columns-mark _ (field-found _ _ _ _ (after-read-field (search) .read-field .ensures) (after-middle (search) .middle .given .1) .0)
+    (field-found _ _ _ _ (after-read-field2 (search) .read-field2 .ensures) (after-n (search) .n .given .1) .0) (c .read-mark .ensures)
 
 pub read-head-spec : {M : Type 1} → statement M
 read-head-spec =

@@ -6,6 +6,16 @@ use Rattle.key_reader.proofs.Heads.{no-mark, no-limit, mark-limit}
 use Rattle.key_reader.proofs.read_mark.Statement.{statement}
 use Rattle.key_reader.proofs.read_mark.Tie as tie
 
+-- The places that the answers look back to: `after-read-field (search)` is the one behind the answer at hand.
+abbrev after-read-field : tie.After-read-field → tie.After-read-field
+after-read-field c = c
+
+abbrev after-mark : tie.After-mark → tie.After-mark
+after-mark c = c
+
+abbrev after-read-field2 : tie.After-read-field2 → tie.After-read-field2
+after-read-field2 c = c
+
 read-field-requires : tie.Need-read-field-requires
 read-field-requires c κs = search needs
 
@@ -13,25 +23,29 @@ enum-told : tie.Need-enum-told
 enum-told c = search needs
 
 returns : tie.Need-returns
-returns c = no-mark _ _ _ (field-refused _ _ _ _ (c .before .before .read-field .ensures) (c .enum-told .given .1))
+returns c = no-mark _ _ _ (field-refused _ _ _ _ (after-read-field (search) .read-field .ensures) (c .enum-told .given .1))
 
 enum-known-mark : tie.Need-enum-known-mark
 enum-known-mark c = search needs
 
 read-field-requires-2 : tie.Need-read-field-requires-2
-read-field-requires-2 c κs = field-found _ _ _ _ (c .before .before .before .read-field .ensures) (c .before .mark .given .1) .1 .inside
+read-field-requires-2 c κs = field-found _ _ _ _ (after-read-field (search) .read-field .ensures) (c .before .mark .given .1) .1 .inside
 
 enum-told-2 : tie.Need-enum-told-2
 enum-told-2 c = search needs
 
 returns-2 : tie.Need-returns-2
-returns-2 c = no-limit _ _ _ (field-found _ _ _ _ (c .before .before .before .before .before .before .read-field .ensures) (c .before .before .before .before .mark .given .1) .0) (field-refused _ _ _ _ (c .before .before .read-field2 .ensures) (c .enum-told2 .given .1))
+returns-2 c =
+    no-limit _ _ _ (field-found _ _ _ _ (after-read-field (search) .read-field .ensures) (after-mark (search) .mark .given .1) .0)
+    (field-refused _ _ _ _ (after-read-field2 (search) .read-field2 .ensures) (c .enum-told2 .given .1))
 
 enum-known-limit : tie.Need-enum-known-limit
 enum-known-limit c = search needs
 
 returns-3 : tie.Need-returns-3
-returns-3 c = mark-limit _ _ _ (field-found _ _ _ _ (c .before .before .before .before .before .before .before .read-field .ensures) (c .before .before .before .before .before .mark .given .1) .0) (field-found _ _ _ _ (c .before .before .before .read-field2 .ensures) (c .before .limit .given .1) .0)
+returns-3 c =
+    mark-limit _ _ _ (field-found _ _ _ _ (after-read-field (search) .read-field .ensures) (after-mark (search) .mark .given .1) .0)
+    (field-found _ _ _ _ (after-read-field2 (search) .read-field2 .ensures) (c .before .limit .given .1) .0)
 
 pub read-mark-spec : {M : Type 1} → statement M
 read-mark-spec =

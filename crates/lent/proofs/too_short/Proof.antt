@@ -5,6 +5,13 @@ use borrow.Author.Needs.{needs}
 use Rattle.lent.proofs.too_short.Statement.{statement}
 use Rattle.lent.proofs.too_short.Tie as tie
 
+-- The places that the answers look back to: `else1 (search)` is the one behind the answer at hand.
+abbrev else1 : tie.Else1 → tie.Else1
+else1 c = c
+
+abbrev else2 : tie.Else2 → tie.Else2
+else2 c = c
+
 returns : tie.Need-returns
 returns c = short-parents _ _ _ _ _ _ (c .if1 .taken)
 
@@ -12,13 +19,13 @@ returns-2 : tie.Need-returns-2
 returns-2 c = short-order _ _ _ _ _ _ (c .before .if1 .left) (c .if2 .taken)
 
 returns-3 : tie.Need-returns-3
-returns-3 c = short-pops _ _ _ _ _ _ (c .before .before .if1 .left) (c .before .if2 .left) (c .if3 .taken)
+returns-3 c = short-pops _ _ _ _ _ _ (else1 (search) .if1 .left) (c .before .if2 .left) (c .if3 .taken)
 
 add-if4 : tie.Need-add-if4
 add-if4 c = search needs
 
 returns-4 : tie.Need-returns-4
-returns-4 c = short-starts _ _ _ _ _ _ (c .before .before .before .if1 .left) (c .before .before .if2 .left) (c .before .if3 .left) (c .if4 .taken)
+returns-4 c = short-starts _ _ _ _ _ _ (else1 (search) .if1 .left) (else2 (search) .if2 .left) (c .before .if3 .left) (c .if4 .taken)
 
 mul-result : tie.Need-mul-result
 mul-result c = search needs
@@ -27,7 +34,7 @@ add-result : tie.Need-add-result
 add-result c = search needs
 
 returns-5 : tie.Need-returns-5
-returns-5 c = short-work _ _ _ _ _ _ (c .before .before .before .if1 .left) (c .before .before .if2 .left) (c .before .if3 .left) (c .if4 .left)
+returns-5 c = short-work _ _ _ _ _ _ (else1 (search) .if1 .left) (else2 (search) .if2 .left) (c .before .if3 .left) (c .if4 .left)
 
 pub too-short-spec : {M : Type 1} → statement M
 too-short-spec =

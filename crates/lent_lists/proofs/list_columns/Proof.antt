@@ -7,20 +7,54 @@ use Rattle.lent_lists.proofs.Listings.{front-anew, listing-lengths, som
 use Rattle.lent_lists.proofs.list_columns.Statement.{statement}
 use Rattle.lent_lists.proofs.list_columns.Tie as tie
 
+-- The places that the answers look back to: `entry (search)` is the one behind the answer at hand.
+abbrev entry : tie.Start → tie.Start
+entry c = c
+
+abbrev after-column-lists : tie.After-column-lists → tie.After-column-lists
+after-column-lists c = c
+
+abbrev else1 : tie.Else1 → tie.Else1
+else1 c = c
+
+abbrev after-clear32-from : tie.After-clear32-from → tie.After-clear32-from
+after-clear32-from c = c
+
+abbrev after-clear32-from2 : tie.After-clear32-from2 → tie.After-clear32-from2
+after-clear32-from2 c = c
+
+abbrev after-clear32-from3 : tie.After-clear32-from3 → tie.After-clear32-from3
+after-clear32-from3 c = c
+
+abbrev after-clear64-from : tie.After-clear64-from → tie.After-clear64-from
+after-clear64-from c = c
+
+abbrev after-clear32-from4 : tie.After-clear32-from4 → tie.After-clear32-from4
+after-clear32-from4 c = c
+
+abbrev entry₁ : tie.After-column-lists → tie.Start
+entry₁ c = search
+
+abbrev entry₂ : tie.Else1 → tie.Start
+entry₂ c = search
+
+abbrev after-column-lists₂ : tie.Else1 → tie.After-column-lists
+after-column-lists₂ c = search
+
 slice-relend-prefix-column-lists : tie.Need-slice-relend-prefix-column-lists
 slice-relend-prefix-column-lists c = search needs
 
 slice-aggregate-column-lists : tie.Need-slice-aggregate-column-lists
-slice-aggregate-column-lists c = part-long _ _ (c .before .before .before .before .before .before .before .before .before .before .before .before .pre .1 .order)
+slice-aggregate-column-lists c = part-long _ _ (entry (search) .pre .1 .order)
 
 slice-relend-prefix-column-lists-2 : tie.Need-slice-relend-prefix-column-lists-2
 slice-relend-prefix-column-lists-2 c = search needs
 
 slice-aggregate-column-lists-2 : tie.Need-slice-aggregate-column-lists-2
-slice-aggregate-column-lists-2 c = part-long _ _ (c .before .before .before .before .before .before .before .before .before .before .before .before .before .pre .1 .pops)
+slice-aggregate-column-lists-2 c = part-long _ _ (entry (search) .pre .1 .pops)
 
 column-lists-requires : tie.Need-column-lists-requires
-column-lists-requires c κs = (c .before .before .before .before .before .before .before .before .before .before .before .before .before .before .pre .0, listing-lengths (c .before .before .before .before .before .before .before .before .before .before .before .before .before .before .pre .1))
+column-lists-requires c κs = (entry (search) .pre .0, listing-lengths (entry (search) .pre .1))
 
 same-length : tie.Need-same-length
 same-length c = search needs
@@ -41,7 +75,7 @@ same-length-6 : tie.Need-same-length-6
 same-length-6 c = search needs
 
 returns : tie.Need-returns
-returns c = some-listed (c .before .before .before .before .before .before .before .before .before .before .before .before .before .before .before .before .before .before .before .before .before .before .before .before .before .before .before .before .pre .1) (c .before .before .before .before .before .before .before .before .before .before .before .before .before .column-lists .ensures) (c .if1 .taken)
+returns c = some-listed (entry (search) .pre .1) (after-column-lists (search) .column-lists .ensures) (c .if1 .taken)
 
 mul-last : tie.Need-mul-last
 mul-last c = search needs
@@ -56,16 +90,21 @@ clear32-from-requires-2 : tie.Need-clear32-from-requires-2
 clear32-from-requires-2 c κs = search needs
 
 clear32-from-requires-3 : tie.Need-clear32-from-requires-3
-clear32-from-requires-3 c κs = let k = front-anew (c .before .before .before .before .before .before .before .before .before .before .before .before .before .before .before .before .before .before .before .before .before .before .before .before .before .before .before .before .before .before .before .before .before .before .before .before .before .before .args .n) (c .before .before .before .before .before .before .before .before .before .before .before .before .before .before .before .before .before .before .before .before .before .before .before .before .before .before .before .before .before .before .before .before .before .before .before .before .before .before .args .pops .now) (c .before .before .before .before .before .before .before .before .before .before .before .before .before .before .before .before .before .before .before .before .before .before .before .column-lists .last .1 .1 .1 .1 .1 .1 .1 .0) (c .before .before .before .before .before .before .before .before .before .before .before .before .before .before .before .before .before .before .before .before .before .before .before .column-lists .kept .1 .1 .1 .1 .1 .1 .1 .0) in let l = c .before .before .before .before .before .before .before .before .before .before .before .before .before .before .before .before .before .before .before .before .before .before .before .before .before .before .before .before .before .before .before .before .before .before .before .before .before .before .pre .1 .pops in omega arith
+clear32-from-requires-3 c κs =
+    let k = front-anew (entry₁ (search) .args .n) (entry₁ (search) .args .pops .now)
+    (after-column-lists (search) .column-lists .last .1 .1 .1 .1 .1 .1 .1 .0)
+    (after-column-lists (search) .column-lists .kept .1 .1 .1 .1 .1 .1 .1 .0) in
+    let l = entry₁ (search) .pre .1 .pops in omega arith
 
 add-clear64-from : tie.Need-add-clear64-from
-add-clear64-from c = omega (arith, c .before .before .before .before .before .before .before .before .before .before .before .before .before .before .before .before .before .before .before .before .before .before .before .before .before .before .before .before .before .before .before .before .before .before .before .before .before .before .before .before .before .before .pre .0 .few)
+add-clear64-from c = omega (arith, entry₁ (search) .pre .0 .few)
 
 clear64-from-requires : tie.Need-clear64-from-requires
-clear64-from-requires c κs = let k = c .before .before .before .before .before .before .before .before .before .before .before .before .before .before .before .before .before .before .before .before .before .before .before .before .before .before .before .column-lists .kept .1 .1 .1 .1 .0 in let l = c .before .before .before .before .before .before .before .before .before .before .before .before .before .before .before .before .before .before .before .before .before .before .before .before .before .before .before .before .before .before .before .before .before .before .before .before .before .before .before .before .before .before .pre .1 .starts in omega arith
+clear64-from-requires c κs =
+    let k = after-column-lists (search) .column-lists .kept .1 .1 .1 .1 .0 in let l = entry₁ (search) .pre .1 .starts in omega arith
 
 clear32-from-requires-4 : tie.Need-clear32-from-requires-4
-clear32-from-requires-4 c κs = last-fits (c .before .before .before .before .before .before .before .before .before .before .before .before .before .before .before .before .before .before .before .before .before .before .before .before .before .before .before .before .before .before .before .before .before .before .before .before .before .before .before .before .before .before .before .before .before .before .pre .1) (c .before .before .before .before .before .before .before .before .before .before .before .before .before .before .before .before .before .before .before .before .before .before .before .before .before .before .before .before .before .before .before .column-lists .ensures) (c .before .before .before .before .before .before .before .before .before .before .before .before .before .before .before .before .before .before .if1 .left)
+clear32-from-requires-4 c κs = last-fits (entry₂ (search) .pre .1) (after-column-lists₂ (search) .column-lists .ensures) (else1 (search) .if1 .left)
 
 same-length-7 : tie.Need-same-length-7
 same-length-7 c = search needs
@@ -86,7 +125,13 @@ same-length-12 : tie.Need-same-length-12
 same-length-12 c = search needs
 
 returns-2 : tie.Need-returns-2
-returns-2 c = let k = c .before .before .before .before .before .before .before .before .before .before .before .before .before .before .before .before .before .before .before .before .before .before .before .before .before .before .before .before .before .before .before .before .before .before .column-lists .kept in let l = c .before .before .before .before .before .before .before .before .before .before .before .before .before .before .before .before .before .before .before .before .before .before .before .before .before .before .before .before .before .before .before .before .before .before .column-lists .last in all-listed (c .before .before .before .before .before .before .before .before .before .before .before .before .before .before .before .before .before .before .before .before .before .before .before .before .before .before .before .before .before .before .before .before .before .before .before .before .before .before .before .before .before .before .before .before .before .before .before .before .before .pre .1) (c .before .before .before .before .before .before .before .before .before .before .before .before .before .before .before .before .before .before .before .before .before .before .before .before .before .before .before .before .before .before .before .before .before .before .column-lists .ensures) (c .before .before .before .before .before .before .before .before .before .before .before .before .before .before .before .before .before .before .before .before .before .if1 .left) (l .1 .1 .1 .1 .1 .1 .0) (l .1 .1 .1 .1 .1 .1 .1 .0) _ (k .1 .1 .1 .1 .1 .1 .0) (k .1 .1 .1 .1 .1 .1 .1 .0) (c .before .before .before .before .before .before .before .before .before .before .before .before .before .before .before .before .before .before .clear32-from .ensures) (c .before .before .before .before .before .before .before .before .before .before .before .before .before .before .clear32-from2 .ensures) (c .before .before .before .before .before .before .before .before .before .before .clear32-from3 .ensures) (c .before .before .before .before .before .before .clear64-from .ensures) (c .before .before .clear32-from4 .ensures)
+returns-2 c =
+    let k = after-column-lists₂ (search) .column-lists .kept in
+    let l = after-column-lists₂ (search) .column-lists .last in
+    all-listed (entry₂ (search) .pre .1) (after-column-lists₂ (search) .column-lists .ensures) (else1 (search) .if1 .left) (l .1 .1 .1 .1 .1 .1 .0)
+    (l .1 .1 .1 .1 .1 .1 .1 .0) _ (k .1 .1 .1 .1 .1 .1 .0) (k .1 .1 .1 .1 .1 .1 .1 .0) (after-clear32-from (search) .clear32-from .ensures)
+    (after-clear32-from2 (search) .clear32-from2 .ensures) (after-clear32-from3 (search) .clear32-from3 .ensures)
+    (after-clear64-from (search) .clear64-from .ensures) (after-clear32-from4 (search) .clear32-from4 .ensures)
 
 pub list-columns-spec : {M : Type 1} → statement M
 list-columns-spec =

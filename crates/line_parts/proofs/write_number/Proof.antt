@@ -8,6 +8,13 @@ use Rattle.line_parts.proofs.Lines.{spaced-number}
 use Rattle.line_parts.proofs.write_number.Statement.{statement}
 use Rattle.line_parts.proofs.write_number.Tie as tie
 
+-- The places that the answers look back to: `entry (search)` is the one behind the answer at hand.
+abbrev entry : tie.Start → tie.Start
+entry c = c
+
+abbrev written : tie.After-write-decimal → tie.After-write-decimal
+written c = c
+
 slice-write-bytes : tie.Need-slice-write-bytes
 slice-write-bytes c = search needs
 
@@ -15,13 +22,14 @@ add-write-decimal : tie.Need-add-write-decimal
 add-write-decimal c = search needs
 
 write-decimal-requires : tie.Need-write-decimal-requires
-write-decimal-requires c κs = let e = c .before .before in omega (arith, e .pre, length-set (e .args .bytes .now) (e .args .at) 32)
+write-decimal-requires c κs = omega (arith, entry (search) .pre, length-set (entry (search) .args .bytes .now) (entry (search) .args .at) 32)
 
 same-length : tie.Need-same-length
-same-length c = let e = c .before .before .before .before .before in c .before .before .write-decimal .kept .1 .0 ∙ length-set (e .args .bytes .now) (e .args .at) 32
+same-length c = written (search) .write-decimal .kept .1 .0 ∙ length-set (entry (search) .args .bytes .now) (entry (search) .args .at) 32
 
 returns : tie.Need-returns
-returns c = let e = c .before .before .before .before .before in spaced-number (e .args .x) (e .args .bytes .now) (e .args .at) (c .before .before .write-decimal .ensures)
+returns c =
+    spaced-number (entry (search) .args .x) (entry (search) .args .bytes .now) (entry (search) .args .at) (written (search) .write-decimal .ensures)
 
 pub write-number-spec : {M : Type 1} → statement M
 write-number-spec =

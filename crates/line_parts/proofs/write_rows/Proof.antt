@@ -14,8 +14,24 @@ Inv-loop rows bytes₀ at next₀ i₀ bytes next i = Listed rows bytes₀ at by
 abbrev μ-loop : tie.MeasureT-loop
 μ-loop rows bytes₀ at next₀ i₀ bytes next i = length rows - i
 
+-- The places that the answers look back to: `entry (search)` is the one behind the answer at hand.
+abbrev entry : tie.Start Inv-loop μ-loop → tie.Start Inv-loop μ-loop
+entry c = c
+
+abbrev at-loop : tie.At-loop Inv-loop μ-loop → tie.At-loop Inv-loop μ-loop
+at-loop c = c
+
+abbrev in-loop : tie.In-loop Inv-loop μ-loop → tie.In-loop Inv-loop μ-loop
+in-loop c = c
+
+abbrev after-wide32 : tie.After-wide32 Inv-loop μ-loop → tie.After-wide32 Inv-loop μ-loop
+after-wide32 c = c
+
+abbrev after-write-number : tie.After-write-number Inv-loop μ-loop → tie.After-write-number Inv-loop μ-loop
+after-write-number c = c
+
 loop-holds : tie.Need-loop-holds Inv-loop μ-loop
-loop-holds c = record { written = writes-all _ _ _; room = c .before .before .pre }
+loop-holds c = record { written = writes-all _ _ _; room = entry (search) .pre }
 
 mul-wide32 : tie.Need-mul-wide32 Inv-loop μ-loop
 mul-wide32 c = search needs
@@ -27,7 +43,7 @@ wide32-requires : tie.Need-wide32-requires Inv-loop μ-loop
 wide32-requires c κs = search needs
 
 write-number-requires : tie.Need-write-number-requires Inv-loop μ-loop
-write-number-requires c κs = listed-room (c .before .before .before .before .loop .inv) (c .before .before .before .loop-test .taken) (c .before .wide32 .ensures .0)
+write-number-requires c κs = listed-room (at-loop (search) .loop .inv) (in-loop (search) .loop-test .taken) (c .before .wide32 .ensures .0)
 
 add-i : tie.Need-add-i Inv-loop μ-loop
 add-i c = search needs
@@ -36,7 +52,9 @@ loop-less : tie.Need-loop-less Inv-loop μ-loop
 loop-less c = search needs
 
 loop-again : tie.Need-loop-again Inv-loop μ-loop
-loop-again c = listed-turn (c .before .before .before .before .before .before .before .loop .inv) (c .before .before .before .before .before .before .loop-test .taken) (c .before .before .before .before .wide32 .ensures .0) (c .before .before .write-number .ensures .0) (c .before .before .write-number .ensures .1)
+loop-again c =
+    listed-turn (at-loop (search) .loop .inv) (in-loop (search) .loop-test .taken) (after-wide32 (search) .wide32 .ensures .0)
+    (after-write-number (search) .write-number .ensures .0) (after-write-number (search) .write-number .ensures .1)
 
 same-length : tie.Need-same-length Inv-loop μ-loop
 same-length c = c .before .loop .inv .written .long

@@ -13,6 +13,10 @@ Inv-loop word bytes₀ at i₀ bytes i = Spelled word bytes₀ at bytes i
 abbrev μ-loop : tie.MeasureT-loop
 μ-loop word bytes₀ at i₀ bytes i = length word - i
 
+-- The places that the answers look back to: `at-loop (search)` is the one behind the answer at hand.
+abbrev at-loop : tie.At-loop Inv-loop μ-loop → tie.At-loop Inv-loop μ-loop
+at-loop c = c
+
 loop-holds : tie.Need-loop-holds Inv-loop μ-loop
 loop-holds c = spelled-start _ _ _
 
@@ -32,7 +36,7 @@ loop-less : tie.Need-loop-less Inv-loop μ-loop
 loop-less c = search needs
 
 loop-again : tie.Need-loop-again Inv-loop μ-loop
-loop-again c = spelled-turn (c .before .before .loop .inv) (c .before .loop-test .taken)
+loop-again c = spelled-turn (at-loop (search) .loop .inv) (c .before .loop-test .taken)
 
 add-result : tie.Need-add-result Inv-loop μ-loop
 add-result c = search needs

@@ -8,6 +8,10 @@ use denote.Ref.{now}
 use Rattle.list_reader.proofs.keep_row.Statement.{statement}
 use Rattle.list_reader.proofs.keep_row.Tie as tie
 
+-- The places that the answers look back to: `entry (search)` is the one behind the answer at hand.
+abbrev entry : tie.Start → tie.Start
+entry c = c
+
 narrow32-requires : tie.Need-narrow32-requires
 narrow32-requires c κs = search needs
 
@@ -21,10 +25,10 @@ same-length : tie.Need-same-length
 same-length c = search needs
 
 returns : tie.Need-returns
-returns c = ap (set (now (c .before .before .before .args .rows)) (c .before .before .before .args .i)) (c .narrow32 .ensures)
+returns c = ap (set (now (entry (search) .args .rows)) (entry (search) .args .i)) (c .narrow32 .ensures)
 
 returns-2 : tie.Need-returns-2
-returns-2 c = sym (set-out (now (c .before .before .args .rows)) (c .before .before .args .i) (c .before .before .args .row) (c .if1 .left))
+returns-2 c = sym (set-out (now (entry (search) .args .rows)) (entry (search) .args .i) (entry (search) .args .row) (c .if1 .left))
 
 pub keep-row-spec : {M : Type 1} → statement M
 keep-row-spec =

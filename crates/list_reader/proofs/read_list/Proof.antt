@@ -8,8 +8,24 @@ use Rattle.list_reader.proofs.Lists.{list-bad, list-got, place-behind, 
 use Rattle.list_reader.proofs.read_list.Statement.{statement}
 use Rattle.list_reader.proofs.read_list.Tie as tie
 
+-- The places that the answers look back to: `entry (search)` is the one behind the answer at hand.
+abbrev entry : tie.Start → tie.Start
+entry c = c
+
+abbrev after-read-field : tie.After-read-field → tie.After-read-field
+after-read-field c = c
+
+abbrev after-count : tie.After-count → tie.After-count
+after-count c = c
+
+abbrev after-quick-rows : tie.After-quick-rows → tie.After-quick-rows
+after-quick-rows c = c
+
+abbrev after-read-rows : tie.After-read-rows → tie.After-read-rows
+after-read-rows c = c
+
 sub-read-field : tie.Need-sub-read-field
-sub-read-field c = c .before .before .pre .2
+sub-read-field c = entry (search) .pre .2
 
 read-field-requires : tie.Need-read-field-requires
 read-field-requires c κs = search needs
@@ -18,43 +34,44 @@ enum-known-number : tie.Need-enum-known-number
 enum-known-number c = search needs
 
 returns : tie.Need-returns
-returns c = refuses _ _ (list-bad _ _ _ _ (field-refused _ _ _ _ (c .before .before .before .read-field .ensures) (c .before .number .given .1))) refl
+returns c = refuses _ _ (list-bad _ _ _ _ (field-refused _ _ _ _ (after-read-field (search) .read-field .ensures) (c .before .number .given .1))) refl
 
 enum-known-count : tie.Need-enum-known-count
 enum-known-count c = search needs
 
 quick-rows-requires : tie.Need-quick-rows-requires
 quick-rows-requires c κs =
-    let (inside, few, low, before) = c .before .before .before .before .before .before .before .pre in
-    let found = field-found _ _ _ _ (c .before .before .before .before .read-field .ensures) (c .before .before .count .given .1) .1 in
+    let (inside, few, low, before) = entry (search) .pre in
+    let found = field-found _ _ _ _ (after-read-field (search) .read-field .ensures) (after-count (search) .count .given .1) .1 in
     (found .inside, few, low, place-behind _ _ few before found, count-few _ _ few before found)
 
 add-t18 : tie.Need-add-t18
 add-t18 c =
-    let (inside, few, low, before) = c .before .before .before .before .before .before .before .before .before .before .before .pre in
-    total-fits _ _ few before (field-found _ _ _ _ (c .before .before .before .before .before .before .before .before .read-field .ensures) (c .before .before .before .before .before .before .count .given .1) .1) inside (c .before .before .before .before .before .before .before .before .before .before .before .good .0 .1)
+    let (inside, few, low, before) = entry (search) .pre in
+    total-fits _ _ few before (field-found _ _ _ _ (after-read-field (search) .read-field .ensures) (after-count (search) .count .given .1) .1) inside
+    (entry (search) .good .0 .1)
 
 same-length : tie.Need-same-length
-same-length c = c .before .before .before .quick-rows .kept .1 .1 .1 .1 .1 .1 .0
+same-length c = after-quick-rows (search) .quick-rows .kept .1 .1 .1 .1 .1 .1 .0
 
 returns-2 : tie.Need-returns-2
 returns-2 c =
-    let found = field-found _ _ _ _ (c .before .before .before .before .before .before .before .before .read-field .ensures) (c .before .before .before .before .before .before .count .given .1) .0 in
-    told-of (list-got _ _ _ _ found) (quick-told (c .before .before .before .quick-rows .ensures) (c .if1 .taken))
+    let found = field-found _ _ _ _ (after-read-field (search) .read-field .ensures) (after-count (search) .count .given .1) .0 in
+    told-of (list-got _ _ _ _ found) (quick-told (after-quick-rows (search) .quick-rows .ensures) (c .if1 .taken))
 
 read-rows-requires : tie.Need-read-rows-requires
 read-rows-requires c κs =
-    let (inside, few, low, before) = c .before .before .before .before .before .before .before .before .before .before .before .before .pre in
-    let found = field-found _ _ _ _ (c .before .before .before .before .before .before .before .before .before .read-field .ensures) (c .before .before .before .before .before .before .before .count .given .1) .1 in
+    let (inside, few, low, before) = entry (search) .pre in
+    let found = field-found _ _ _ _ (after-read-field (search) .read-field .ensures) (after-count (search) .count .given .1) .1 in
     (found .inside, few, low, place-behind _ _ few before found)
 
 same-length-2 : tie.Need-same-length-2
-same-length-2 c = c .before .before .read-rows .kept .1 .1 .1 .1 .1 .1 .0 ∙ c .before .before .before .before .before .before .before .quick-rows .kept .1 .1 .1 .1 .1 .1 .0
+same-length-2 c = after-read-rows (search) .read-rows .kept .1 .1 .1 .1 .1 .1 .0 ∙ after-quick-rows (search) .quick-rows .kept .1 .1 .1 .1 .1 .1 .0
 
 returns-3 : tie.Need-returns-3
 returns-3 c =
-    let found = field-found _ _ _ _ (c .before .before .before .before .before .before .before .before .before .before .before .before .read-field .ensures) (c .before .before .before .before .before .before .before .before .before .before .count .given .1) .0 in
-    told-of (list-got _ _ _ _ found) (quick-again (c .before .before .before .before .before .before .before .quick-rows .ensures) (c .before .before .read-rows .ensures))
+    let found = field-found _ _ _ _ (after-read-field (search) .read-field .ensures) (after-count (search) .count .given .1) .0 in
+    told-of (list-got _ _ _ _ found) (quick-again (after-quick-rows (search) .quick-rows .ensures) (after-read-rows (search) .read-rows .ensures))
 
 pub read-list-spec : {M : Type 1} → statement M
 read-list-spec =

@@ -19,8 +19,27 @@ Inv-loop plan at n j count t rows₀ k₀ row₀ left₀ total₀ rows k row lef
 abbrev μ-loop : tie.MeasureT-loop
 μ-loop plan at n j count t rows₀ k₀ row₀ left₀ total₀ rows k row left total = left
 
+-- The places that the answers look back to: `entry (search)` is the one behind the answer at hand.
+abbrev entry : tie.Start Inv-loop μ-loop → tie.Start Inv-loop μ-loop
+entry c = c
+
+abbrev at-loop : tie.At-loop Inv-loop μ-loop → tie.At-loop Inv-loop μ-loop
+at-loop c = c
+
+abbrev in-loop : tie.In-loop Inv-loop μ-loop → tie.In-loop Inv-loop μ-loop
+in-loop c = c
+
+abbrev read : tie.After-read-field Inv-loop μ-loop → tie.After-read-field Inv-loop μ-loop
+read c = c
+
+abbrev after-gap : tie.After-gap Inv-loop μ-loop → tie.After-gap Inv-loop μ-loop
+after-gap c = c
+
+abbrev kept : tie.After-keep-row Inv-loop μ-loop → tie.After-keep-row Inv-loop μ-loop
+kept c = c
+
 loop-holds : tie.Need-loop-holds Inv-loop μ-loop
-loop-holds c = rows-start _ _ _ _ _ _ _ (c .before .before .pre .0) (c .before .before .pre .2)
+loop-holds c = rows-start _ _ _ _ _ _ _ (entry (search) .pre .0) (entry (search) .pre .2)
 
 sub-read-field : tie.Need-sub-read-field Inv-loop μ-loop
 sub-read-field c = c .before .loop .inv .high
@@ -32,40 +51,43 @@ enum-known-number : tie.Need-enum-known-number Inv-loop μ-loop
 enum-known-number c = search needs
 
 same-length : tie.Need-same-length Inv-loop μ-loop
-same-length c = rows-long (c .before .before .before .before .before .loop .inv)
+same-length c = rows-long (at-loop (search) .loop .inv)
 
 returns : tie.Need-returns Inv-loop μ-loop
-returns c = refuses _ _ (rows-fault (c .before .before .before .before .before .loop .inv) (c .before .before .before .before .loop-test .taken) (field-refused _ _ _ _ (c .before .before .before .read-field .ensures) (c .before .number .given .1))) refl
+returns c =
+    refuses _ _ (rows-fault (at-loop (search) .loop .inv) (in-loop (search) .loop-test .taken)
+    (field-refused _ _ _ _ (read (search) .read-field .ensures) (c .before .number .given .1))) refl
 
 enum-known-gap : tie.Need-enum-known-gap Inv-loop μ-loop
 enum-known-gap c = search needs
 
 add-row : tie.Need-add-row Inv-loop μ-loop
 add-row c =
-    let found = field-found _ _ _ _ (c .before .before .before .read-field .ensures) (c .before .gap .given .1) .1 in
-    fits-bits 32 tt (row-narrow (c .before .before .before .before .before .before .before .before .pre .1) (c .before .before .before .before .before .loop .inv .high) (found .high))
+    let found = field-found _ _ _ _ (read (search) .read-field .ensures) (c .before .gap .given .1) .1 in
+    fits-bits 32 tt (row-narrow (entry (search) .pre .1) (at-loop (search) .loop .inv .high) (found .high))
 
 keep-row-requires : tie.Need-keep-row-requires Inv-loop μ-loop
 keep-row-requires c κs =
-    let found = field-found _ _ _ _ (c .before .before .before .before .read-field .ensures) (c .before .before .gap .given .1) .1 in
-    row-narrow (c .before .before .before .before .before .before .before .before .before .pre .1) (c .before .before .before .before .before .before .loop .inv .high) (found .high)
+    let found = field-found _ _ _ _ (read (search) .read-field .ensures) (after-gap (search) .gap .given .1) .1 in
+    row-narrow (entry (search) .pre .1) (at-loop (search) .loop .inv .high) (found .high)
 
 add-total : tie.Need-add-total Inv-loop μ-loop
 add-total c =
-    let found = field-found _ _ _ _ (c .before .before .before .before .before .before .before .read-field .ensures) (c .before .before .before .before .before .gap .given .1) .1 in
-    next-fits (c .before .before .before .before .before .before .before .before .before .before .before .before .good .0 .0) (lt-of-le-of-lt (rows-paced (c .before .before .before .before .before .before .before .before .before .loop .inv) (c .before .before .before .before .before .before .before .before .before .before .before .before .pre .3)) (lt-of-lt-of-le (found .on) (found .inside)))
+    let found = field-found _ _ _ _ (read (search) .read-field .ensures) (after-gap (search) .gap .given .1) .1 in
+    next-fits (entry (search) .good .0 .0) (lt-of-le-of-lt (rows-paced (at-loop (search) .loop .inv) (entry (search) .pre .3))
+    (lt-of-lt-of-le (found .on) (found .inside)))
 
 sub-left : tie.Need-sub-left Inv-loop μ-loop
-sub-left c = c .before .before .before .before .before .before .before .before .loop-test .taken
+sub-left c = in-loop (search) .loop-test .taken
 
 loop-less : tie.Need-loop-less Inv-loop μ-loop
-loop-less c = one-less (c .before .before .before .before .before .before .before .before .loop-test .taken)
+loop-less c = one-less (in-loop (search) .loop-test .taken)
 
 loop-again : tie.Need-loop-again Inv-loop μ-loop
 loop-again c =
-    let x = c .before .before .before .before .before .before .before .before .before .loop .inv in
-    let found = field-found _ _ _ _ (c .before .before .before .before .before .before .before .read-field .ensures) (c .before .before .before .before .before .gap .given .1) in
-    rows-both x (rows-one _ _ _ _ _ _ _ (c .before .before .before .before .before .before .before .before .loop-test .taken) (x .high) found (c .before .before .keep-row .ensures))
+    let x = at-loop (search) .loop .inv in
+    let found = field-found _ _ _ _ (read (search) .read-field .ensures) (after-gap (search) .gap .given .1) in
+    rows-both x (rows-one _ _ _ _ _ _ _ (in-loop (search) .loop-test .taken) (x .high) found (kept (search) .keep-row .ensures))
 
 same-length-2 : tie.Need-same-length-2 Inv-loop μ-loop
 same-length-2 c = rows-long (c .before .loop .inv)

@@ -9,8 +9,33 @@ use Rattle.list_test.proofs.OneChild.{own-markable, own-changes, no-chi
 use Rattle.list_test.proofs.is_right.Statement.{statement}
 use Rattle.list_test.proofs.is_right.Tie as tie
 
+-- The places that the answers look back to: `entry (search)` is the one behind the answer at hand.
+abbrev entry : tie.Start → tie.Start
+entry c = c
+
+abbrev after-pattern-rows : tie.After-pattern-rows → tie.After-pattern-rows
+after-pattern-rows c = c
+
+abbrev else1 : tie.Else1 → tie.Else1
+else1 c = c
+
+abbrev then2 : tie.Then2 → tie.Then2
+then2 c = c
+
+abbrev after-handed-on : tie.After-handed-on → tie.After-handed-on
+after-handed-on c = c
+
+abbrev after-begins-with : tie.After-begins-with → tie.After-begins-with
+after-begins-with c = c
+
+abbrev then3 : tie.Then3 → tie.Then3
+then3 c = c
+
+abbrev after-adds-own : tie.After-adds-own → tie.After-adds-own
+after-adds-own c = c
+
 pattern-rows-requires : tie.Need-pattern-rows-requires
-pattern-rows-requires c κs = part-of (c .before .before .before .before .before .before .pre .0) (c .before .before .before .before .before .before .pre .1 .0)
+pattern-rows-requires c κs = part-of (entry (search) .pre .0) (entry (search) .pre .1 .0)
 
 add-c : tie.Need-add-c
 add-c c = search needs
@@ -25,19 +50,33 @@ same-rows-requires : tie.Need-same-rows-requires
 same-rows-requires c κs = search needs
 
 returns : tie.Need-returns
-returns c = (no-child (tested-below (c .before .before .before .before .before .before .before .before .before .before .pre .0)) (c .before .before .before .before .before .before .before .before .before .before .pre .1 .0) (c .before .before .before .before .before .before .before .before .before .before .pre .1 .1 .0) _ (c .before .before .before .pattern-rows .ensures) (c .before .if1 .taken) _ _ (c .same-rows .ensures), changed-none _ _ _)
+returns c = (
+  no-child (tested-below (entry (search) .pre .0)) (entry (search) .pre .1 .0) (entry (search) .pre .1 .1 .0) _
+      (after-pattern-rows (search) .pattern-rows .ensures) (c .before .if1 .taken) _ _ (c .same-rows .ensures),
+  changed-none _ _ _,
+)
 
 add-if2 : tie.Need-add-if2
-add-if2 c = let l = child-link (tested-below (c .before .before .before .before .before .before .before .before .before .pre .0)) (c .before .before .before .before .before .before .before .before .before .pre .1 .0) (c .before .before .before .before .before .before .before .before .before .pre .1 .1 .0) _ (c .before .before .pattern-rows .ensures) (c .if1 .left) in let g = c .before .before .before .before .before .before .before .before .before .good .1 .1 .1 .1 .1 .1 .1 .0 in omega arith
+add-if2 c =
+    let l = child-link (tested-below (entry (search) .pre .0)) (entry (search) .pre .1 .0) (entry (search) .pre .1 .1 .0) _
+    (after-pattern-rows (search) .pattern-rows .ensures) (c .if1 .left) in
+    let g = entry (search) .good .1 .1 .1 .1 .1 .1 .1 .0 in omega arith
 
 mul-if2 : tie.Need-mul-if2
-mul-if2 c = let l = child-link (tested-below (c .before .before .before .before .before .before .before .before .before .pre .0)) (c .before .before .before .before .before .before .before .before .before .pre .1 .0) (c .before .before .before .before .before .before .before .before .before .pre .1 .1 .0) _ (c .before .before .pattern-rows .ensures) (c .if1 .left) in let g = c .before .before .before .before .before .before .before .before .before .good .1 .1 .1 .1 .1 .1 .1 .0 in omega arith
+mul-if2 c =
+    let l = child-link (tested-below (entry (search) .pre .0)) (entry (search) .pre .1 .0) (entry (search) .pre .1 .1 .0) _
+    (after-pattern-rows (search) .pattern-rows .ensures) (c .if1 .left) in
+    let g = entry (search) .good .1 .1 .1 .1 .1 .1 .1 .0 in omega arith
 
 slice-read-if2 : tie.Need-slice-read-if2
-slice-read-if2 c = child-link (tested-below (c .before .before .before .before .before .before .before .before .before .before .pre .0)) (c .before .before .before .before .before .before .before .before .before .before .pre .1 .0) (c .before .before .before .before .before .before .before .before .before .before .pre .1 .1 .0) _ (c .before .before .before .pattern-rows .ensures) (c .before .if1 .left)
+slice-read-if2 c =
+    child-link (tested-below (entry (search) .pre .0)) (entry (search) .pre .1 .0) (entry (search) .pre .1 .1 .0) _
+    (after-pattern-rows (search) .pattern-rows .ensures) (c .before .if1 .left)
 
 handed-on-requires : tie.Need-handed-on-requires
-handed-on-requires c κs = child-found (tested-below (c .before .before .before .before .before .before .before .before .before .before .before .pre .0)) (c .before .before .before .before .before .before .before .before .before .before .before .pre .1 .0) (c .before .before .before .before .before .before .before .before .before .before .before .pre .1 .1 .0) _ (c .before .before .before .before .pattern-rows .ensures) (c .before .before .if1 .left)
+handed-on-requires c κs =
+    child-found (tested-below (entry (search) .pre .0)) (entry (search) .pre .1 .0) (entry (search) .pre .1 .1 .0) _
+    (after-pattern-rows (search) .pattern-rows .ensures) (else1 (search) .if1 .left)
 
 begins-with-requires : tie.Need-begins-with-requires
 begins-with-requires c κs = search needs
@@ -46,13 +85,27 @@ add-adds-own : tie.Need-add-adds-own
 add-adds-own c = search needs
 
 adds-own-requires : tie.Need-adds-own-requires
-adds-own-requires c κs = (own-markable (tested-below (c .before .before .before .before .before .before .before .before .before .before .before .before .before .before .before .pre .0)) (c .before .before .before .before .before .before .before .before .before .before .before .before .before .before .before .pre .1 .0) (c .before .before .before .before .before .before .before .before .before .before .before .before .before .before .before .pre .1 .1 .0) _ (c .before .before .before .before .before .before .before .before .pattern-rows .ensures), (list-markable (c .before .before .before .before .before .before .before .before .before .before .before .before .before .before .before .pre .1 .1 .0) _ (c .before .before .before .before .before .before .before .before .before .before .before .before .before .before .before .pre .1 .1 .1), c .before .before .begins-with .ensures (c .before .if3 .taken) .0))
+adds-own-requires c κs = (
+  own-markable (tested-below (entry (search) .pre .0)) (entry (search) .pre .1 .0) (entry (search) .pre .1 .1 .0) _
+      (after-pattern-rows (search) .pattern-rows .ensures),
+  (
+    list-markable (entry (search) .pre .1 .1 .0) _ (entry (search) .pre .1 .1 .1),
+    after-begins-with (search) .begins-with .ensures (c .before .if3 .taken) .0,
+  ),
+)
 
 same-length : tie.Need-same-length
 same-length c = search needs
 
 returns-2 : tie.Need-returns-2
-returns-2 c = (one-child (tested-below (c .before .before .before .before .before .before .before .before .before .before .before .before .before .before .before .before .before .before .pre .0)) (c .before .before .before .before .before .before .before .before .before .before .before .before .before .before .before .before .before .before .pre .1 .0) (c .before .before .before .before .before .before .before .before .before .before .before .before .before .before .before .before .before .before .pre .1 .1 .0) _ (c .before .before .before .before .before .before .before .before .before .before .before .pattern-rows .ensures) (c .before .before .before .before .before .before .before .before .before .if1 .left) (c .before .before .before .before .before .before .before .if2 .taken) _ (c .before .before .before .before .before .before .handed-on .ensures) _ _ _ (c .before .before .before .before .before .before .before .before .before .before .before .before .before .before .before .before .before .before .pre .1 .1 .1) (c .before .before .before .before .before .begins-with .ensures (c .before .before .before .before .if3 .taken) .1) (c .before .before .adds-own .ensures .1) (c .before .before .adds-own .ensures .0), own-changes (tested-below (c .before .before .before .before .before .before .before .before .before .before .before .before .before .before .before .before .before .before .pre .0)) (c .before .before .before .before .before .before .before .before .before .before .before .before .before .before .before .before .before .before .pre .1 .0) (c .before .before .before .before .before .before .before .before .before .before .before .before .before .before .before .before .before .before .pre .1 .1 .0) _ (c .before .before .before .before .before .before .before .before .before .before .before .pattern-rows .ensures) _ (c .before .before .adds-own .ensures .1))
+returns-2 c = (
+  one-child (tested-below (entry (search) .pre .0)) (entry (search) .pre .1 .0) (entry (search) .pre .1 .1 .0) _
+      (after-pattern-rows (search) .pattern-rows .ensures) (else1 (search) .if1 .left) (then2 (search) .if2 .taken) _
+      (after-handed-on (search) .handed-on .ensures) _ _ _ (entry (search) .pre .1 .1 .1) (after-begins-with (search) .begins-with .ensures
+      (then3 (search) .if3 .taken) .1) (after-adds-own (search) .adds-own .ensures .1) (after-adds-own (search) .adds-own .ensures .0),
+  own-changes (tested-below (entry (search) .pre .0)) (entry (search) .pre .1 .0) (entry (search) .pre .1 .1 .0) _
+      (after-pattern-rows (search) .pattern-rows .ensures) _ (after-adds-own (search) .adds-own .ensures .1),
+)
 
 is-all-marked-requires : tie.Need-is-all-marked-requires
 is-all-marked-requires c κs = search needs

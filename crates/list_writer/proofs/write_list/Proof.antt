@@ -18,28 +18,49 @@ Inv-loop rows from to j bytes₀ at next₀ before₀ i₀ bytes next before i =
 abbrev μ-loop : tie.MeasureT-loop
 μ-loop rows from to j bytes₀ at next₀ before₀ i₀ bytes next before i = to - i
 
+-- The places that the answers look back to: `start (search)` is the one behind the answer at hand.
+abbrev start : tie.Start Inv-loop μ-loop → tie.Start Inv-loop μ-loop
+start c = c
+
+abbrev after-put : tie.After-put Inv-loop μ-loop → tie.After-put Inv-loop μ-loop
+after-put c = c
+
+abbrev at-loop : tie.At-loop Inv-loop μ-loop → tie.At-loop Inv-loop μ-loop
+at-loop c = c
+
+abbrev after-run-end : tie.After-run-end Inv-loop μ-loop → tie.After-run-end Inv-loop μ-loop
+after-run-end c = c
+
+abbrev written : tie.After-write-run Inv-loop μ-loop → tie.After-write-run Inv-loop μ-loop
+written c = c
+
 sub-put : tie.Need-sub-put Inv-loop μ-loop
 sub-put c = search needs
 
 put-requires : tie.Need-put-requires Inv-loop μ-loop
 put-requires c κs =
-    let entry = c .before .before .before .pre in
+    let entry = start (search) .pre in
     (let few = entry .0 .few in omega arith, omega (arith, entry .1))
 
 loop-holds : tie.Need-loop-holds Inv-loop μ-loop
-loop-holds c = gaps-start (c .before .before .before .before .before .before .pre .0)
+loop-holds c = gaps-start (start (search) .pre .0)
 
 run-end-requires : tie.Need-run-end-requires Inv-loop μ-loop
 run-end-requires c κs = search needs
 
 write-run-requires : tie.Need-write-run-requires Inv-loop μ-loop
 write-run-requires c κs =
-    let loop = c .before .before .before .loop in
+    let loop = at-loop (search) .loop in
     let end = c .before .run-end in
-    let put = c .before .before .before .before .before .before .put in
-    let entry = c .before .before .before .before .before .before .before .before .before .before in (
+    let put = after-put (search) .put in (
       run-list (loop .inv .rows-left) _ (end .ensures .0) (end .ensures .1),
-      omega (arith, place-near (loop .inv) (entry .pre .0), put .ensures .0, bytes-length (entry .args .to - entry .args .from), entry .pre .1),
+      omega (
+        arith,
+        place-near (loop .inv) (start (search) .pre .0),
+        put .ensures .0,
+        bytes-length (start (search) .args .to - start (search) .args .from),
+        start (search) .pre .1,
+      ),
     )
 
 sub-before : tie.Need-sub-before Inv-loop μ-loop
@@ -56,17 +77,17 @@ loop-less c = search needs
 
 loop-again : tie.Need-loop-again Inv-loop μ-loop
 loop-again c =
-    let end = c .before .before .before .before .before .run-end in
-    let run = c .before .before .before .write-run in
-    run-turn (c .before .before .before .before .before .before .before .loop .inv) (end .ensures .0) (end .ensures .1) refl (run .ensures .0) (run .ensures .1)
+    let end = after-run-end (search) .run-end in
+    let run = written (search) .write-run in
+    run-turn (at-loop (search) .loop .inv) (end .ensures .0) (end .ensures .1) refl (run .ensures .0) (run .ensures .1)
 
 same-length : tie.Need-same-length Inv-loop μ-loop
 same-length c = search needs
 
 returns : tie.Need-returns Inv-loop μ-loop
 returns c =
-    let put = c .before .before .before .before .put in
-    list-stop _ _ (c .before .before .before .before .before .before .before .before .pre .0) (put .ensures .0) (put .ensures .1) (c .before .loop .inv) (c .loop-test .left)
+    let put = after-put (search) .put in
+    list-stop _ _ (start (search) .pre .0) (put .ensures .0) (put .ensures .1) (c .before .loop .inv) (c .loop-test .left)
 
 pub write-list-spec : {M : Type 1} → statement M
 write-list-spec =

@@ -15,10 +15,29 @@ Inv-loop n starts rows bytes₀ at next₀ done₀ bytes next done = WritesColum
 abbrev μ-loop : tie.MeasureT-loop
 μ-loop n starts rows bytes₀ at next₀ done₀ bytes next done = n - done
 
+-- The places that the answers look back to: `start (search)` is the one behind the answer at hand.
+abbrev start : tie.Start Inv-loop μ-loop → tie.Start Inv-loop μ-loop
+start c = c
+
+abbrev at-loop : tie.At-loop Inv-loop μ-loop → tie.At-loop Inv-loop μ-loop
+at-loop c = c
+
+abbrev in-loop : tie.In-loop Inv-loop μ-loop → tie.In-loop Inv-loop μ-loop
+in-loop c = c
+
+abbrev after-write-list : tie.After-write-list Inv-loop μ-loop → tie.After-write-list Inv-loop μ-loop
+after-write-list c = c
+
 loop-holds : tie.Need-loop-holds Inv-loop μ-loop
 loop-holds c =
-    let entry = c .before .before .before .pre in
-    record { few = entry .0; lists = lists-iff _ _ _ .0 (entry .1 .0, entry .1 .1 .0); high = omega arith; written = writes-all; near = entry .1 .1 .1 }
+    let entry = start (search) .pre in
+    record {
+      few = entry .0;
+      lists = lists-iff _ _ _ .0 (entry .1 .0, entry .1 .1 .0);
+      high = omega arith;
+      written = writes-all;
+      near = entry .1 .1 .1;
+    }
 
 add-j : tie.Need-add-j Inv-loop μ-loop
 add-j c = search needs
@@ -43,8 +62,8 @@ shared-slice-read-write-list-2 c = search needs
 
 write-list-requires : tie.Need-write-list-requires Inv-loop μ-loop
 write-list-requires c κs =
-    let loop = c .before .before .before .before .loop in
-    let there = c .before .before .before .loop-test .taken in
+    let loop = at-loop (search) .loop in
+    let there = in-loop (search) .loop-test .taken in
     (column-list (loop .inv .few) (loop .inv .lists) there, list-near (loop .inv))
 
 add-done : tie.Need-add-done Inv-loop μ-loop
@@ -55,8 +74,8 @@ loop-less c = search needs
 
 loop-again : tie.Need-loop-again Inv-loop μ-loop
 loop-again c =
-    let list = c .before .before .write-list in
-    lists-turn (c .before .before .before .before .before .before .before .loop .inv) (c .before .before .before .before .before .before .loop-test .taken) (list .ensures .0) (list .ensures .1)
+    let list = after-write-list (search) .write-list in
+    lists-turn (at-loop (search) .loop .inv) (in-loop (search) .loop-test .taken) (list .ensures .0) (list .ensures .1)
 
 same-length : tie.Need-same-length Inv-loop μ-loop
 same-length c = search needs

@@ -5,20 +5,39 @@ use Rattle.listing.proofs.Ways.{way-short, prints-fit, way-printed}
 use Rattle.listing.proofs.listing.Statement.{statement}
 use Rattle.listing.proofs.listing.Tie as tie
 
+-- The places that the answers look back to: `entry (search)` is the one behind the answer at hand.
+abbrev entry : tie.Start → tie.Start
+entry c = c
+
+abbrev else1 : tie.Else1 → tie.Else1
+else1 c = c
+
+abbrev cleared : tie.After-clear8 → tie.After-clear8
+cleared c = c
+
+abbrev printed : tie.After-print-text → tie.After-print-text
+printed c = c
+
 returns : tie.Need-returns
-returns c = way-short (record { text = c .before .before .before .args .text .now; more = c .before .before .before .args .more }) (c .before .before .before .args .bytes .now) (c .if1 .taken)
+returns c =
+    way-short (record { text = entry (search) .args .text .now; more = entry (search) .args .more }) (entry (search) .args .bytes .now)
+    (c .if1 .taken)
 
 clear8-requires : tie.Need-clear8-requires
 clear8-requires c κs = search needs
 
 print-text-requires : tie.Need-print-text-requires
-print-text-requires c κs = prints-fit (record { text = c .before .before .before .before .before .before .before .before .args .text .now; more = c .before .before .before .before .before .before .before .before .args .more }) (c .before .before .before .before .before .before .before .before .args .bytes .now) (c .before .before .before .before .before .if1 .left) (c .before .before .before .clear8 .ensures)
+print-text-requires c κs =
+    prints-fit (record { text = entry (search) .args .text .now; more = entry (search) .args .more }) (entry (search) .args .bytes .now)
+    (else1 (search) .if1 .left) (cleared (search) .clear8 .ensures)
 
 same-length : tie.Need-same-length
 same-length c = search needs
 
 returns-2 : tie.Need-returns-2
-returns-2 c = way-printed (record { text = c .before .before .before .before .before .before .before .before .before .before .before .args .text .now; more = c .before .before .before .before .before .before .before .before .before .before .before .args .more }) (c .before .before .before .before .before .before .before .before .before .before .before .args .bytes .now) (c .before .before .before .before .before .before .before .before .if1 .left) (c .before .before .before .before .before .before .clear8 .ensures) (c .before .before .print-text .ensures)
+returns-2 c =
+    way-printed (record { text = entry (search) .args .text .now; more = entry (search) .args .more }) (entry (search) .args .bytes .now)
+    (else1 (search) .if1 .left) (cleared (search) .clear8 .ensures) (printed (search) .print-text .ensures)
 
 pub listing-spec : {M : Type 1} → statement M
 listing-spec =

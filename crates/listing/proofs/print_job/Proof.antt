@@ -7,6 +7,13 @@ use Rattle.listing.proofs.Told.{fits-in, printed-in}
 use Rattle.listing.proofs.print_job.Statement.{statement}
 use Rattle.listing.proofs.print_job.Tie as tie
 
+-- The places that the answers look back to: `entry (search)` is the one behind the answer at hand.
+abbrev entry : tie.Start → tie.Start
+entry c = c
+
+abbrev printed : tie.After-print-analysis → tie.After-print-analysis
+printed c = c
+
 slice-aggregate-print-analysis : tie.Need-slice-aggregate-print-analysis
 slice-aggregate-print-analysis c = search needs
 
@@ -26,13 +33,19 @@ slice-aggregate-print-analysis-6 : tie.Need-slice-aggregate-print-analysis-6
 slice-aggregate-print-analysis-6 c = search needs
 
 print-analysis-requires : tie.Need-print-analysis-requires
-print-analysis-requires c κs = (omega (arith, c .before .before .before .before .before .before .before .before .before .before .pre .0), fits-in (jobOf (c .before .before .before .before .before .before .before .before .before .before .args .head) (c .before .before .before .before .before .before .before .before .before .before .args .starts .now) (c .before .before .before .before .before .before .before .before .before .before .args .rows .now)) (c .before .before .before .before .before .before .before .before .before .before .args .bytes .now) (c .before .before .before .before .before .before .before .before .before .before .pre .1))
+print-analysis-requires c κs = (
+  omega (arith, entry (search) .pre .0),
+  fits-in (jobOf (entry (search) .args .head) (entry (search) .args .starts .now) (entry (search) .args .rows .now))
+      (entry (search) .args .bytes .now) (entry (search) .pre .1),
+)
 
 same-length : tie.Need-same-length
 same-length c = search needs
 
 returns : tie.Need-returns
-returns c = printed-in (jobOf (c .before .before .before .before .before .before .before .before .before .before .before .before .before .before .before .before .before .before .before .args .head) (c .before .before .before .before .before .before .before .before .before .before .before .before .before .before .before .before .before .before .before .args .starts .now) (c .before .before .before .before .before .before .before .before .before .before .before .before .before .before .before .before .before .before .before .args .rows .now)) (c .before .before .before .before .before .before .before .before .before .before .before .before .before .before .before .before .before .before .before .args .bytes .now) (c .before .before .before .before .before .before .before .before .print-analysis .ensures)
+returns c =
+    printed-in (jobOf (entry (search) .args .head) (entry (search) .args .starts .now) (entry (search) .args .rows .now))
+    (entry (search) .args .bytes .now) (printed (search) .print-analysis .ensures)
 
 pub print-job-spec : {M : Type 1} → statement M
 print-job-spec =

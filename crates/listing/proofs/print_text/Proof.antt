@@ -10,6 +10,25 @@ use Rattle.listing.proofs.Told.{told-refusal, told-job, found-columns, 
 use Rattle.listing.proofs.print_text.Statement.{statement}
 use Rattle.listing.proofs.print_text.Tie as tie
 
+-- The places that the answers look back to: `entry (search)` is the one behind the answer at hand.
+abbrev entry : tie.Start → tie.Start
+entry c = c
+
+abbrev read : tie.After-read-job → tie.After-read-job
+read c = c
+
+abbrev after-head : tie.After-head → tie.After-head
+after-head c = c
+
+abbrev after-number : tie.After-number → tie.After-number
+after-number c = c
+
+abbrev written : tie.After-write-refusal → tie.After-write-refusal
+written c = c
+
+abbrev printed : tie.After-print-job → tie.After-print-job
+printed c = c
+
 slice-aggregate-read-job : tie.Need-slice-aggregate-read-job
 slice-aggregate-read-job c = search needs
 
@@ -23,40 +42,54 @@ enum-known-number : tie.Need-enum-known-number
 enum-known-number c = search needs
 
 write-refusal-requires : tie.Need-write-refusal-requires
-write-refusal-requires c κs = omega (arith, ap length (told-refusal _ (c .before .before .before .before .before .before .read-job .ensures) (c .before .before .number .given .1)), c .before .before .before .before .before .before .before .before .before .before .before .pre)
+write-refusal-requires c κs =
+    omega (arith, ap length (told-refusal _ (read (search) .read-job .ensures) (after-number (search) .number .given .1)), entry (search) .pre)
 
 same-length : tie.Need-same-length
 same-length c = search needs
 
 returns : tie.Need-returns
-returns c = written-as (told-refusal _ (c .before .before .before .before .before .before .before .before .before .read-job .ensures) (c .before .before .before .before .before .number .given .1)) (c .before .before .before .before .before .before .before .before .before .before .before .before .before .before .args .bytes .now) (c .before .before .write-refusal .ensures)
+returns c =
+    written-as (told-refusal _ (read (search) .read-job .ensures) (after-number (search) .number .given .1)) (entry (search) .args .bytes .now)
+    (written (search) .write-refusal .ensures)
 
 enum-known-head : tie.Need-enum-known-head
 enum-known-head c = search needs
 
 add-starts : tie.Need-add-starts
-add-starts c = omega (arith, found-columns (told-job (c .before .before .before .before .before .read-job .ensures) (c .before .head .given .1)))
+add-starts c = omega (arith, found-columns (told-job (read (search) .read-job .ensures) (c .before .head .given .1)))
 
 array-share-prefix-starts : tie.Need-array-share-prefix-starts
-array-share-prefix-starts c = omega (arith, found-columns (told-job (c .before .before .before .before .before .read-job .ensures) (c .before .head .given .1)))
+array-share-prefix-starts c = omega (arith, found-columns (told-job (read (search) .read-job .ensures) (c .before .head .given .1)))
 
 slice-aggregate-print-job : tie.Need-slice-aggregate-print-job
-slice-aggregate-print-job c = sym (length-take-le _ _ (starts-long (told-job (c .before .before .before .before .before .before .read-job .ensures) (c .before .before .head .given .1))))
+slice-aggregate-print-job c =
+    sym (length-take-le _ _ (starts-long (told-job (read (search) .read-job .ensures) (after-head (search) .head .given .1))))
 
 array-share-prefix-rows : tie.Need-array-share-prefix-rows
-array-share-prefix-rows c = omega (arith, found-rows (told-job (c .before .before .before .before .before .before .read-job .ensures) (c .before .before .head .given .1)))
+array-share-prefix-rows c = omega (arith, found-rows (told-job (read (search) .read-job .ensures) (after-head (search) .head .given .1)))
 
 slice-aggregate-print-job-2 : tie.Need-slice-aggregate-print-job-2
-slice-aggregate-print-job-2 c = sym (length-take-le _ _ (rows-long (told-job (c .before .before .before .before .before .before .before .read-job .ensures) (c .before .before .before .head .given .1))))
+slice-aggregate-print-job-2 c =
+    sym (length-take-le _ _ (rows-long (told-job (read (search) .read-job .ensures) (after-head (search) .head .given .1))))
 
 print-job-requires : tie.Need-print-job-requires
-print-job-requires c κs = (found-columns (told-job (c .before .before .before .before .before .before .before .before .read-job .ensures) (c .before .before .before .before .head .given .1)), omega (arith, ap length (found-printed (told-job (c .before .before .before .before .before .before .before .before .read-job .ensures) (c .before .before .before .before .head .given .1))), c .before .before .before .before .before .before .before .before .before .before .before .before .before .pre))
+print-job-requires c κs = (
+  found-columns (told-job (read (search) .read-job .ensures) (after-head (search) .head .given .1)),
+  omega (
+    arith,
+    ap length (found-printed (told-job (read (search) .read-job .ensures) (after-head (search) .head .given .1))),
+    entry (search) .pre,
+  ),
+)
 
 same-length-2 : tie.Need-same-length-2
 same-length-2 c = search needs
 
 returns-2 : tie.Need-returns-2
-returns-2 c = written-as (found-printed (told-job (c .before .before .before .before .before .before .before .before .before .before .before .read-job .ensures) (c .before .before .before .before .before .before .before .head .given .1))) (c .before .before .before .before .before .before .before .before .before .before .before .before .before .before .before .before .args .bytes .now) (c .before .before .print-job .ensures)
+returns-2 c =
+    written-as (found-printed (told-job (read (search) .read-job .ensures) (after-head (search) .head .given .1))) (entry (search) .args .bytes .now)
+    (printed (search) .print-job .ensures)
 
 pub print-text-spec : {M : Type 1} → statement M
 print-text-spec =

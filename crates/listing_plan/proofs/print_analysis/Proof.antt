@@ -11,95 +11,132 @@ use Rattle.listing_plan.proofs.Analysed.{refused-printed, done-steps, d
 use Rattle.listing_plan.proofs.print_analysis.Statement.{statement}
 use Rattle.listing_plan.proofs.print_analysis.Tie as tie
 
+-- The places that the answers look back to: `analysed (search)` is the one behind the answer at hand.
+abbrev analysed : tie.After-analyse → tie.After-analyse
+analysed c = c
+
+abbrev else1 : tie.Else1 → tie.Else1
+else1 c = c
+
+abbrev then1 : tie.Then1 → tie.Then1
+then1 c = c
+
+abbrev written : tie.After-write-refusal → tie.After-write-refusal
+written c = c
+
+abbrev printed : tie.After-print-plan → tie.After-print-plan
+printed c = c
+
+abbrev entry₁ : tie.After-analyse → tie.Start
+entry₁ c = search
+
 analyse-requires : tie.Need-analyse-requires
 analyse-requires c κs = search needs
 
 write-refusal-requires : tie.Need-write-refusal-requires
-write-refusal-requires c κs = omega (arith, ap length (refused-printed _ _ (c .before .before .before .before .before .before .before .before .before .before .before .before .before .before .before .analyse .ensures) (c .before .if1 .taken)), c .before .before .before .before .before .before .before .before .before .before .before .before .before .before .before .before .before .before .before .before .before .before .before .before .before .before .before .before .before .before .before .pre .1)
+write-refusal-requires c κs =
+    omega (arith, ap length (refused-printed _ _ (analysed (search) .analyse .ensures) (c .before .if1 .taken)), entry₁ (search) .pre .1)
 
 same-length : tie.Need-same-length
-same-length c = c .before .before .before .before .before .before .before .before .before .before .before .before .before .before .before .before .before .before .analyse .kept .1 .1 .1 .0
+same-length c = analysed (search) .analyse .kept .1 .1 .1 .0
 
 same-length-2 : tie.Need-same-length-2
-same-length-2 c = c .before .before .before .before .before .before .before .before .before .before .before .before .before .before .before .before .before .before .analyse .kept .1 .1 .1 .1 .0
+same-length-2 c = analysed (search) .analyse .kept .1 .1 .1 .1 .0
 
 same-length-3 : tie.Need-same-length-3
-same-length-3 c = c .before .before .before .before .before .before .before .before .before .before .before .before .before .before .before .before .before .before .analyse .kept .1 .1 .1 .1 .1 .0
+same-length-3 c = analysed (search) .analyse .kept .1 .1 .1 .1 .1 .0
 
 same-length-4 : tie.Need-same-length-4
-same-length-4 c = c .before .before .before .before .before .before .before .before .before .before .before .before .before .before .before .before .before .before .analyse .kept .1 .1 .1 .1 .1 .1 .0
+same-length-4 c = analysed (search) .analyse .kept .1 .1 .1 .1 .1 .1 .0
 
 same-length-5 : tie.Need-same-length-5
-same-length-5 c = c .before .before .before .before .before .before .before .before .before .before .before .before .before .before .before .before .before .before .analyse .kept .1 .1 .1 .1 .1 .1 .1 .0
+same-length-5 c = analysed (search) .analyse .kept .1 .1 .1 .1 .1 .1 .1 .0
 
 same-length-6 : tie.Need-same-length-6
-same-length-6 c = c .before .before .before .before .before .before .before .before .before .before .before .before .before .before .before .before .before .before .analyse .kept .1 .1 .1 .1 .1 .1 .1 .1 .0
+same-length-6 c = analysed (search) .analyse .kept .1 .1 .1 .1 .1 .1 .1 .1 .0
 
 same-length-7 : tie.Need-same-length-7
-same-length-7 c = c .before .before .write-refusal .kept .1 .0
+same-length-7 c = written (search) .write-refusal .kept .1 .0
 
 returns : tie.Need-returns
-returns c = written-as (refused-printed _ _ (c .before .before .before .before .before .before .before .before .before .before .before .before .before .before .before .before .before .before .analyse .ensures) (c .before .before .before .before .if1 .taken)) (c .before .before .before .before .before .before .before .before .before .before .before .before .before .before .before .before .before .before .before .before .before .before .before .before .before .before .before .before .before .before .before .before .before .before .args .bytes .now) (c .before .before .write-refusal .ensures)
+returns c =
+    written-as (refused-printed _ _ (analysed (search) .analyse .ensures) (then1 (search) .if1 .taken)) (entry₁ (search) .args .bytes .now)
+    (written (search) .write-refusal .ensures)
 
 mul-last : tie.Need-mul-last
-mul-last c = omega (arith, done-few _ _ (c .before .before .before .before .before .before .before .before .before .before .before .before .before .before .analyse .ensures) (c .if1 .left))
+mul-last c = omega (arith, done-few _ _ (analysed (search) .analyse .ensures) (c .if1 .left))
 
 slice-read-last : tie.Need-slice-read-last
-slice-read-last c = let f = done-parts _ _ (c .before .before .before .before .before .before .before .before .before .before .before .before .before .before .before .analyse .ensures) (c .before .if1 .left) .starts-long in omega arith
+slice-read-last c = let f = done-parts _ _ (analysed (search) .analyse .ensures) (c .before .if1 .left) .starts-long in omega arith
 
 slice-reshare-prefix-print-plan : tie.Need-slice-reshare-prefix-print-plan
-slice-reshare-prefix-print-plan c = done-parts _ _ (c .before .before .before .before .before .before .before .before .before .before .before .before .before .before .before .analyse .ensures) (c .before .if1 .left) .order-long
+slice-reshare-prefix-print-plan c = done-parts _ _ (analysed (search) .analyse .ensures) (c .before .if1 .left) .order-long
 
 slice-aggregate-print-plan : tie.Need-slice-aggregate-print-plan
-slice-aggregate-print-plan c = sym (length-take-le _ _ (done-parts _ _ (c .before .before .before .before .before .before .before .before .before .before .before .before .before .before .before .before .analyse .ensures) (c .before .before .if1 .left) .order-long))
+slice-aggregate-print-plan c = sym (length-take-le _ _ (done-parts _ _ (analysed (search) .analyse .ensures) (else1 (search) .if1 .left) .order-long))
 
 slice-reshare-prefix-print-plan-2 : tie.Need-slice-reshare-prefix-print-plan-2
-slice-reshare-prefix-print-plan-2 c = done-parts _ _ (c .before .before .before .before .before .before .before .before .before .before .before .before .before .before .before .before .analyse .ensures) (c .before .before .if1 .left) .pops-long
+slice-reshare-prefix-print-plan-2 c = done-parts _ _ (analysed (search) .analyse .ensures) (else1 (search) .if1 .left) .pops-long
 
 slice-aggregate-print-plan-2 : tie.Need-slice-aggregate-print-plan-2
-slice-aggregate-print-plan-2 c = sym (length-take-le _ _ (done-parts _ _ (c .before .before .before .before .before .before .before .before .before .before .before .before .before .before .before .before .before .analyse .ensures) (c .before .before .before .if1 .left) .pops-long))
+slice-aggregate-print-plan-2 c =
+    sym (length-take-le _ _ (done-parts _ _ (analysed (search) .analyse .ensures) (else1 (search) .if1 .left) .pops-long))
 
 add-print-plan : tie.Need-add-print-plan
-add-print-plan c = omega (arith, done-few _ _ (c .before .before .before .before .before .before .before .before .before .before .before .before .before .before .before .before .before .analyse .ensures) (c .before .before .before .if1 .left))
+add-print-plan c = omega (arith, done-few _ _ (analysed (search) .analyse .ensures) (else1 (search) .if1 .left))
 
 slice-reshare-prefix-print-plan-3 : tie.Need-slice-reshare-prefix-print-plan-3
-slice-reshare-prefix-print-plan-3 c = done-parts _ _ (c .before .before .before .before .before .before .before .before .before .before .before .before .before .before .before .before .before .analyse .ensures) (c .before .before .before .if1 .left) .starts-long
+slice-reshare-prefix-print-plan-3 c = done-parts _ _ (analysed (search) .analyse .ensures) (else1 (search) .if1 .left) .starts-long
 
 slice-aggregate-print-plan-3 : tie.Need-slice-aggregate-print-plan-3
-slice-aggregate-print-plan-3 c = sym (length-take-le _ _ (done-parts _ _ (c .before .before .before .before .before .before .before .before .before .before .before .before .before .before .before .before .before .before .analyse .ensures) (c .before .before .before .before .if1 .left) .starts-long))
+slice-aggregate-print-plan-3 c =
+    sym (length-take-le _ _ (done-parts _ _ (analysed (search) .analyse .ensures) (else1 (search) .if1 .left) .starts-long))
 
 slice-reshare-prefix-print-plan-4 : tie.Need-slice-reshare-prefix-print-plan-4
-slice-reshare-prefix-print-plan-4 c = done-parts _ _ (c .before .before .before .before .before .before .before .before .before .before .before .before .before .before .before .before .before .before .analyse .ensures) (c .before .before .before .before .if1 .left) .rows-long
+slice-reshare-prefix-print-plan-4 c = done-parts _ _ (analysed (search) .analyse .ensures) (else1 (search) .if1 .left) .rows-long
 
 slice-aggregate-print-plan-4 : tie.Need-slice-aggregate-print-plan-4
-slice-aggregate-print-plan-4 c = sym (length-take-le _ _ (done-parts _ _ (c .before .before .before .before .before .before .before .before .before .before .before .before .before .before .before .before .before .before .before .analyse .ensures) (c .before .before .before .before .before .if1 .left) .rows-long))
+slice-aggregate-print-plan-4 c =
+    sym (length-take-le _ _ (done-parts _ _ (analysed (search) .analyse .ensures) (else1 (search) .if1 .left) .rows-long))
 
 print-plan-requires : tie.Need-print-plan-requires
-print-plan-requires c κs = (done-printable _ _ (c .before .before .before .before .before .before .before .before .before .before .before .before .before .before .before .before .before .before .before .before .before .analyse .ensures) (c .before .before .before .before .before .before .before .if1 .left), (let k = done-steps _ _ (c .before .before .before .before .before .before .before .before .before .before .before .before .before .before .before .before .before .before .before .before .before .analyse .ensures) (c .before .before .before .before .before .before .before .if1 .left) in omega (arith, c .before .before .before .before .before .before .before .before .before .before .before .before .before .before .before .before .before .before .before .before .before .before .before .before .before .before .before .before .before .before .before .before .before .before .before .before .before .pre .0, c .before .before .before .before .before .before .before .before .before .before .before .before .before .before .before .before .before .before .before .before .before .analyse .kept .1 .1 .1 .1 .1 .1 .1 .1 .0), omega (arith, ap length (done-printed _ _ (c .before .before .before .before .before .before .before .before .before .before .before .before .before .before .before .before .before .before .before .before .before .analyse .ensures) (c .before .before .before .before .before .before .before .if1 .left)), c .before .before .before .before .before .before .before .before .before .before .before .before .before .before .before .before .before .before .before .before .before .before .before .before .before .before .before .before .before .before .before .before .before .before .before .before .before .pre .1)))
+print-plan-requires c κs = (
+  done-printable _ _ (analysed (search) .analyse .ensures) (else1 (search) .if1 .left),
+  (
+    let k = done-steps _ _ (analysed (search) .analyse .ensures) (else1 (search) .if1 .left) in omega (
+      arith,
+      entry₁ (search) .pre .0,
+      analysed (search) .analyse .kept .1 .1 .1 .1 .1 .1 .1 .1 .0,
+    ),
+    omega (arith, ap length (done-printed _ _ (analysed (search) .analyse .ensures) (else1 (search) .if1 .left)), entry₁ (search) .pre .1),
+  ),
+)
 
 same-length-8 : tie.Need-same-length-8
-same-length-8 c = c .before .before .before .before .before .before .before .before .before .before .before .before .before .before .before .before .before .before .before .before .before .before .before .before .before .before .analyse .kept .1 .1 .1 .0
+same-length-8 c = analysed (search) .analyse .kept .1 .1 .1 .0
 
 same-length-9 : tie.Need-same-length-9
-same-length-9 c = c .before .before .before .before .before .before .before .before .before .before .before .before .before .before .before .before .before .before .before .before .before .before .before .before .before .before .analyse .kept .1 .1 .1 .1 .0
+same-length-9 c = analysed (search) .analyse .kept .1 .1 .1 .1 .0
 
 same-length-10 : tie.Need-same-length-10
-same-length-10 c = c .before .before .before .before .before .before .before .before .before .before .before .before .before .before .before .before .before .before .before .before .before .before .before .before .before .before .analyse .kept .1 .1 .1 .1 .1 .0
+same-length-10 c = analysed (search) .analyse .kept .1 .1 .1 .1 .1 .0
 
 same-length-11 : tie.Need-same-length-11
-same-length-11 c = c .before .before .before .before .before .before .before .before .before .before .before .before .before .before .before .before .before .before .before .before .before .before .before .before .before .before .analyse .kept .1 .1 .1 .1 .1 .1 .0
+same-length-11 c = analysed (search) .analyse .kept .1 .1 .1 .1 .1 .1 .0
 
 same-length-12 : tie.Need-same-length-12
-same-length-12 c = c .before .before .before .before .before .before .before .before .before .before .before .before .before .before .before .before .before .before .before .before .before .before .before .before .before .before .analyse .kept .1 .1 .1 .1 .1 .1 .1 .0
+same-length-12 c = analysed (search) .analyse .kept .1 .1 .1 .1 .1 .1 .1 .0
 
 same-length-13 : tie.Need-same-length-13
-same-length-13 c = c .before .before .before .before .print-plan .kept .1 .1 .1 .1 .1 .1 .0 ∙ c .before .before .before .before .before .before .before .before .before .before .before .before .before .before .before .before .before .before .before .before .before .before .before .before .before .before .analyse .kept .1 .1 .1 .1 .1 .1 .1 .1 .0
+same-length-13 c = printed (search) .print-plan .kept .1 .1 .1 .1 .1 .1 .0 ∙ analysed (search) .analyse .kept .1 .1 .1 .1 .1 .1 .1 .1 .0
 
 same-length-14 : tie.Need-same-length-14
-same-length-14 c = c .before .before .before .before .print-plan .kept .1 .1 .1 .1 .1 .1 .1 .0
+same-length-14 c = printed (search) .print-plan .kept .1 .1 .1 .1 .1 .1 .1 .0
 
 returns-2 : tie.Need-returns-2
-returns-2 c = written-as (done-printed _ _ (c .before .before .before .before .before .before .before .before .before .before .before .before .before .before .before .before .before .before .before .before .before .before .before .before .before .before .analyse .ensures) (c .before .before .before .before .before .before .before .before .before .before .before .before .if1 .left)) (c .before .before .before .before .before .before .before .before .before .before .before .before .before .before .before .before .before .before .before .before .before .before .before .before .before .before .before .before .before .before .before .before .before .before .before .before .before .before .before .before .before .before .args .bytes .now) (c .before .before .before .before .print-plan .ensures)
+returns-2 c =
+    written-as (done-printed _ _ (analysed (search) .analyse .ensures) (else1 (search) .if1 .left)) (entry₁ (search) .args .bytes .now)
+    (printed (search) .print-plan .ensures)
 
 pub print-analysis-spec : {M : Type 1} → statement M
 print-analysis-spec =

@@ -9,11 +9,33 @@ use Rattle.listing_plan.proofs.Parts.{header-fits, lines-fit, both-writ
 use Rattle.listing_plan.proofs.print_plan.Statement.{statement}
 use Rattle.listing_plan.proofs.print_plan.Tie as tie
 
+-- The places that the answers look back to: `entry (search)` is the one behind the answer at hand.
+abbrev entry : tie.Start → tie.Start
+entry c = c
+
+abbrev after-write-header : tie.After-write-header → tie.After-write-header
+after-write-header c = c
+
+abbrev after-write-steps : tie.After-write-steps → tie.After-write-steps
+after-write-steps c = c
+
 write-header-requires : tie.Need-write-header-requires
-write-header-requires c κs = header-fits (printed wordPlan (c .before .before .before .before .before .before .before .args .head .n ∷ c .before .before .before .before .before .before .before .args .head .mark ∷ c .before .before .before .before .before .before .before .args .peak ∷ [])) (linesTo (c .before .before .before .before .before .before .before .args .order .now) (c .before .before .before .before .before .before .before .args .pops .now) (c .before .before .before .before .before .before .before .args .fstarts .now) (c .before .before .before .before .before .before .before .args .frows .now) (length (c .before .before .before .before .before .before .before .args .order .now))) (c .before .before .before .before .before .before .before .args .bytes .now) (c .before .before .before .before .before .before .before .pre .1 .1)
+write-header-requires c κs =
+    header-fits (printed wordPlan (entry (search) .args .head .n ∷ entry (search) .args .head .mark ∷ entry (search) .args .peak ∷ []))
+    (linesTo (entry (search) .args .order .now) (entry (search) .args .pops .now) (entry (search) .args .fstarts .now)
+    (entry (search) .args .frows .now) (length (entry (search) .args .order .now))) (entry (search) .args .bytes .now) (entry (search) .pre .1 .1)
 
 write-steps-requires : tie.Need-write-steps-requires
-write-steps-requires c κs = (c .before .before .before .before .before .before .before .before .before .before .before .before .pre .0, (c .before .before .before .before .before .before .before .before .before .before .before .before .pre .1 .0, lines-fit (printed wordPlan (c .before .before .before .before .before .before .before .before .before .before .before .before .args .head .n ∷ c .before .before .before .before .before .before .before .before .before .before .before .before .args .head .mark ∷ c .before .before .before .before .before .before .before .before .before .before .before .before .args .peak ∷ [])) (linesTo (c .before .before .before .before .before .before .before .before .before .before .before .before .args .order .now) (c .before .before .before .before .before .before .before .before .before .before .before .before .args .pops .now) (c .before .before .before .before .before .before .before .before .before .before .before .before .args .fstarts .now) (c .before .before .before .before .before .before .before .before .before .before .before .before .args .frows .now) (length (c .before .before .before .before .before .before .before .before .before .before .before .before .args .order .now))) (c .before .before .before .before .before .before .before .before .before .before .before .before .args .bytes .now) (c .before .before .before .before .write-header .ensures) (c .before .before .before .before .before .before .before .before .before .before .before .before .pre .1 .1)))
+write-steps-requires c κs = (
+  entry (search) .pre .0,
+  (
+    entry (search) .pre .1 .0,
+    lines-fit (printed wordPlan (entry (search) .args .head .n ∷ entry (search) .args .head .mark ∷ entry (search) .args .peak ∷ []))
+        (linesTo (entry (search) .args .order .now) (entry (search) .args .pops .now) (entry (search) .args .fstarts .now)
+        (entry (search) .args .frows .now) (length (entry (search) .args .order .now))) (entry (search) .args .bytes .now)
+        (after-write-header (search) .write-header .ensures) (entry (search) .pre .1 .1),
+  ),
+)
 
 same-length : tie.Need-same-length
 same-length c = search needs
@@ -22,7 +44,11 @@ same-length-2 : tie.Need-same-length-2
 same-length-2 c = search needs
 
 returns : tie.Need-returns
-returns c = both-written (printed wordPlan (c .before .before .before .before .before .before .before .before .before .before .before .before .before .before .before .before .before .args .head .n ∷ c .before .before .before .before .before .before .before .before .before .before .before .before .before .before .before .before .before .args .head .mark ∷ c .before .before .before .before .before .before .before .before .before .before .before .before .before .before .before .before .before .args .peak ∷ [])) (linesTo (c .before .before .before .before .before .before .before .before .before .before .before .before .before .before .before .before .before .args .order .now) (c .before .before .before .before .before .before .before .before .before .before .before .before .before .before .before .before .before .args .pops .now) (c .before .before .before .before .before .before .before .before .before .before .before .before .before .before .before .before .before .args .fstarts .now) (c .before .before .before .before .before .before .before .before .before .before .before .before .before .before .before .before .before .args .frows .now) (length (c .before .before .before .before .before .before .before .before .before .before .before .before .before .before .before .before .before .args .order .now))) (c .before .before .before .before .before .before .before .before .before .before .before .before .before .before .before .before .before .args .bytes .now) (c .before .before .before .before .before .before .before .before .before .write-header .ensures) (c .before .before .before .before .write-steps .ensures)
+returns c =
+    both-written (printed wordPlan (entry (search) .args .head .n ∷ entry (search) .args .head .mark ∷ entry (search) .args .peak ∷ []))
+    (linesTo (entry (search) .args .order .now) (entry (search) .args .pops .now) (entry (search) .args .fstarts .now)
+    (entry (search) .args .frows .now) (length (entry (search) .args .order .now))) (entry (search) .args .bytes .now)
+    (after-write-header (search) .write-header .ensures) (after-write-steps (search) .write-steps .ensures)
 
 pub print-plan-spec : {M : Type 1} → statement M
 print-plan-spec =

@@ -8,6 +8,19 @@ use Rattle.order.proofs.Peaks.{pops-asked, pops-wrote, peak-asked, peak
 use Rattle.order.proofs.order_of.Statement.{statement}
 use Rattle.order.proofs.order_of.Tie as tie
 
+-- The places that the answers look back to: `entry (search)` is the one behind the answer at hand.
+abbrev entry : tie.Start → tie.Start
+entry c = c
+
+abbrev written : tie.After-write-steps → tie.After-write-steps
+written c = c
+
+abbrev counted : tie.After-count-pops → tie.After-count-pops
+counted c = c
+
+abbrev after-peak : tie.After-peak → tie.After-peak
+after-peak c = c
+
 write-steps-requires : tie.Need-write-steps-requires
 write-steps-requires c κs = search needs
 
@@ -19,20 +32,36 @@ slice-reshare-prefix-count-pops c = search needs
 
 slice-aggregate-count-pops : tie.Need-slice-aggregate-count-pops
 slice-aggregate-count-pops c =
-    let write-steps = c .before .before .before .before .before .before .before .write-steps in
-    sym (length-take-le _ (write-steps .last .1 .1 .1 .1 .1 .0) (omega (arith, write-steps .kept .1 .1 .1 .1 .1 .0, c .before .before .before .before .before .before .before .before .before .before .before .before .before .before .before .before .pre .work-length)))
+    let write-steps = written (search) .write-steps in
+    sym (length-take-le _ (write-steps .last .1 .1 .1 .1 .1 .0) (omega (
+      arith,
+      write-steps .kept .1 .1 .1 .1 .1 .0,
+      entry (search) .pre .work-length,
+    )))
 
 count-pops-requires : tie.Need-count-pops-requires
 count-pops-requires c κs =
-    let pre = c .before .before .before .before .before .before .before .before .before .before .before .before .before .before .before .before .before .before .pre in
-    let write-steps = c .before .before .before .before .before .before .before .before .before .write-steps in
-    (pops-asked pre (write-steps .last .1 .1 .1 .1 .1 .0) (write-steps .kept .1 .1 .1 .1 .1 .0) (write-steps .ensures .1) (write-steps .ensures .0), omega (arith, write-steps .kept .1 .1 .1 .0, write-steps .kept .1 .1 .1 .1 .0, pre .order-length, pre .pops-length))
+    let pre = entry (search) .pre in
+    let write-steps = written (search) .write-steps in (
+      pops-asked pre (write-steps .last .1 .1 .1 .1 .1 .0) (write-steps .kept .1 .1 .1 .1 .1 .0) (write-steps .ensures .1) (write-steps .ensures .0),
+      omega (arith, write-steps .kept .1 .1 .1 .0, write-steps .kept .1 .1 .1 .1 .0, pre .order-length, pre .pops-length),
+    )
 
 peak-requires : tie.Need-peak-requires
 peak-requires c κs =
-    let e = c .before .before .before .before .before .before .before .before .before .before .before .before .before .before .before .write-steps .ensures .0 in
-    let q = pops-wrote (c .before .before .before .before .before .before .before .before .before .before .before .before .before .before .before .before .before .before .before .before .before .before .before .before .pre) (c .before .before .before .before .before .before .before .before .before .before .before .before .before .before .before .write-steps .last .1 .1 .1 .1 .1 .0) (c .before .before .before .before .before .before .before .before .before .before .before .before .before .before .before .write-steps .kept .1 .1 .1 .1 .1 .0) (c .before .before .before .before .before .before .before .before .before .before .before .before .before .before .before .write-steps .ensures .1) e (c .before .before .before .before .before .count-pops .ensures) in
-    (peak-asked (c .before .before .before .before .before .before .before .before .before .before .before .before .before .before .before .before .before .before .before .before .before .before .before .before .pre) e q, omega (arith, c .before .before .before .before .before .before .before .before .before .before .before .before .before .before .before .write-steps .kept .1 .1 .1 .0, c .before .before .before .before .before .before .before .before .before .before .before .before .before .before .before .write-steps .kept .1 .1 .1 .1 .1 .0, c .before .before .before .before .before .before .before .before .before .before .before .before .before .before .before .before .before .before .before .before .before .before .before .before .pre .order-length, c .before .before .before .before .before .before .before .before .before .before .before .before .before .before .before .before .before .before .before .before .before .before .before .before .pre .work-length))
+    let e = written (search) .write-steps .ensures .0 in
+    let q = pops-wrote (entry (search) .pre) (written (search) .write-steps .last .1 .1 .1 .1 .1 .0)
+    (written (search) .write-steps .kept .1 .1 .1 .1 .1 .0) (written (search) .write-steps .ensures .1) e (counted (search) .count-pops .ensures)
+    in (
+      peak-asked (entry (search) .pre) e q,
+      omega (
+        arith,
+        written (search) .write-steps .kept .1 .1 .1 .0,
+        written (search) .write-steps .kept .1 .1 .1 .1 .1 .0,
+        entry (search) .pre .order-length,
+        entry (search) .pre .work-length,
+      ),
+    )
 
 same-length : tie.Need-same-length
 same-length c = search needs
@@ -45,9 +74,11 @@ same-length-3 c = search needs
 
 returns : tie.Need-returns
 returns c =
-    let e = c .before .before .before .before .before .before .before .before .before .before .before .before .before .before .before .before .before .before .write-steps .ensures .0 in
-    let q = pops-wrote (c .before .before .before .before .before .before .before .before .before .before .before .before .before .before .before .before .before .before .before .before .before .before .before .before .before .before .before .pre) (c .before .before .before .before .before .before .before .before .before .before .before .before .before .before .before .before .before .before .write-steps .last .1 .1 .1 .1 .1 .0) (c .before .before .before .before .before .before .before .before .before .before .before .before .before .before .before .before .before .before .write-steps .kept .1 .1 .1 .1 .1 .0) (c .before .before .before .before .before .before .before .before .before .before .before .before .before .before .before .before .before .before .write-steps .ensures .1) e (c .before .before .before .before .before .before .before .before .count-pops .ensures) in
-    (e, (q, peak-found (c .before .before .before .before .before .before .before .before .before .before .before .before .before .before .before .before .before .before .before .before .before .before .before .before .before .before .before .pre) e q (c .before .before .peak .ensures)))
+    let e = written (search) .write-steps .ensures .0 in
+    let q = pops-wrote (entry (search) .pre) (written (search) .write-steps .last .1 .1 .1 .1 .1 .0)
+    (written (search) .write-steps .kept .1 .1 .1 .1 .1 .0) (written (search) .write-steps .ensures .1) e (counted (search) .count-pops .ensures)
+    in
+    (e, (q, peak-found (entry (search) .pre) e q (after-peak (search) .peak .ensures)))
 
 pub order-of-spec : {M : Type 1} → statement M
 order-of-spec =

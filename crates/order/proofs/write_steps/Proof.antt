@@ -9,36 +9,64 @@ use Rattle.order.proofs.Lying.{arrange-asked, lists-lie, starts-lie}
 use Rattle.order.proofs.write_steps.Statement.{statement}
 use Rattle.order.proofs.write_steps.Tie as tie
 
+-- The places that the answers look back to: `entry (search)` is the one behind the answer at hand.
+abbrev entry : tie.Start → tie.Start
+entry c = c
+
+abbrev laid : tie.After-lay-out → tie.After-lay-out
+laid c = c
+
+abbrev arranged : tie.After-arrange → tie.After-arrange
+arranged c = c
+
+abbrev after-steps : tie.After-steps → tie.After-steps
+after-steps c = c
+
+abbrev entry₁ : tie.After-lay-out → tie.Start
+entry₁ c = search
+
 add-m : tie.Need-add-m
-add-m c = omega (arith, c .before .before .before .before .before .pre .columns)
+add-m c = omega (arith, entry (search) .pre .columns)
 
 add-w : tie.Need-add-w
-add-w c = omega (arith, c .before .before .before .before .before .pre .columns)
+add-w c = omega (arith, entry (search) .pre .columns)
 
 add-w-2 : tie.Need-add-w-2
-add-w-2 c = omega (arith, c .before .before .before .before .before .pre .columns)
+add-w-2 c = omega (arith, entry (search) .pre .columns)
 
 add-k : tie.Need-add-k
-add-k c = omega (arith, c .before .before .before .before .before .pre .columns)
+add-k c = omega (arith, entry (search) .pre .columns)
 
 add-k-2 : tie.Need-add-k-2
-add-k-2 c = omega (arith, c .before .before .before .before .before .pre .columns)
+add-k-2 c = omega (arith, entry (search) .pre .columns)
 
 lay-out-requires : tie.Need-lay-out-requires
-lay-out-requires c κs = (c .before .before .before .before .before .before .before .pre .rowed .tree, (c .before .before .before .before .before .before .before .pre .pops-length, omega (arith, c .before .before .before .before .before .before .before .pre .columns), omega (arith, c .before .before .before .before .before .before .before .pre .work-length)))
+lay-out-requires c κs = (
+  entry (search) .pre .rowed .tree,
+  (
+    entry (search) .pre .pops-length,
+    omega (arith, entry (search) .pre .columns),
+    omega (arith, entry (search) .pre .work-length),
+  ),
+)
 
 arrange-requires : tie.Need-arrange-requires
 arrange-requires c κs =
-    let lay-out = c .before .before .before .before .before .before .before .lay-out in
-    arrange-asked (c .before .before .before .before .before .before .before .before .before .before .before .before .before .before .before .pre) (lay-out .ensures) (lay-out .kept .1 .0) (lay-out .kept .1 .1 .0)
+    let lay-out = laid (search) .lay-out in
+    arrange-asked (entry (search) .pre) (lay-out .ensures) (lay-out .kept .1 .0) (lay-out .kept .1 .1 .0)
 
 slice-aggregate-steps : tie.Need-slice-aggregate-steps
 slice-aggregate-steps c =
-    let arrange = c .before .before .before .before .before .before .before .before .arrange in
-    sym (length-take-le _ (arrange .last .1 .1 .1 .1 .0) (omega (arith, arrange .kept .1 .1 .1 .1 .0, c .before .before .before .before .before .before .before .before .before .before .before .before .before .before .before .before .lay-out .kept .1 .1 .0, c .before .before .before .before .before .before .before .before .before .before .before .before .before .before .before .before .before .before .before .before .before .before .before .before .pre .work-length)))
+    let arrange = arranged (search) .arrange in
+    sym (length-take-le _ (arrange .last .1 .1 .1 .1 .0) (omega (
+      arith,
+      arrange .kept .1 .1 .1 .1 .0,
+      laid (search) .lay-out .kept .1 .1 .0,
+      entry (search) .pre .work-length,
+    )))
 
 mul-steps : tie.Need-mul-steps
-mul-steps c = omega (arith, c .before .before .before .before .before .before .before .before .before .before .before .before .before .before .before .before .before .before .before .before .before .before .before .before .before .pre .columns)
+mul-steps c = omega (arith, entry (search) .pre .columns)
 
 sub-steps : tie.Need-sub-steps
 sub-steps c = omega arith
@@ -51,26 +79,30 @@ part-steps-end c = search needs
 
 steps-requires : tie.Need-steps-requires
 steps-requires c κs =
-    let pre = c .before .before .before .before .before .before .before .before .before .before .before .before .before .before .before .before .before .before .before .before .before .before .before .before .before .before .before .pre in
-    let lay-out = c .before .before .before .before .before .before .before .before .before .before .before .before .before .before .before .before .before .before .before .lay-out in
-    let arrange = c .before .before .before .before .before .before .before .before .before .before .before .arrange in
-    walk-asked (lists-lie pre (lay-out .ensures) (lay-out .kept .1 .0) (lay-out .kept .1 .1 .0) (arrange .ensures) (arrange .kept .1 .1 .0)) _ (arrange .kept .1 .1 .1 .0 ∙ pre .order-length)
+    let pre = entry (search) .pre in
+    let lay-out = laid (search) .lay-out in
+    let arrange = arranged (search) .arrange in
+    walk-asked (lists-lie pre (lay-out .ensures) (lay-out .kept .1 .0) (lay-out .kept .1 .1 .0) (arrange .ensures) (arrange .kept .1 .1 .0)) _
+    (arrange .kept .1 .1 .1 .0 ∙ pre .order-length)
 
 same-length : tie.Need-same-length
-same-length c = c .before .before .steps .kept .1 .1 .1 .1 .0 ∙ c .before .before .before .before .before .before .before .before .before .before .before .before .before .before .arrange .kept .1 .1 .1 .0
+same-length c = after-steps (search) .steps .kept .1 .1 .1 .1 .0 ∙ arranged (search) .arrange .kept .1 .1 .1 .0
 
 same-length-2 : tie.Need-same-length-2
-same-length-2 c = c .before .before .before .before .before .before .before .before .before .before .before .before .before .before .arrange .kept .1 .1 .0 ∙ c .before .before .before .before .before .before .before .before .before .before .before .before .before .before .before .before .before .before .before .before .before .before .lay-out .kept .1 .0
+same-length-2 c = arranged (search) .arrange .kept .1 .1 .0 ∙ laid (search) .lay-out .kept .1 .0
 
 same-length-3 : tie.Need-same-length-3
-same-length-3 c = c .before .before .before .before .before .before .before .before .before .before .before .before .before .before .arrange .kept .1 .1 .1 .1 .0 ∙ c .before .before .before .before .before .before .before .before .before .before .before .before .before .before .before .before .before .before .before .before .before .before .lay-out .kept .1 .1 .0
+same-length-3 c = arranged (search) .arrange .kept .1 .1 .1 .1 .0 ∙ laid (search) .lay-out .kept .1 .1 .0
 
 returns : tie.Need-returns
 returns c =
-    let pre = c .before .before .before .before .before .before .before .before .before .before .before .before .before .before .before .before .before .before .before .before .before .before .before .before .before .before .before .before .before .before .pre in
-    let lay-out = c .before .before .before .before .before .before .before .before .before .before .before .before .before .before .before .before .before .before .before .before .before .before .lay-out in
-    let arrange = c .before .before .before .before .before .before .before .before .before .before .before .before .before .before .arrange in
-    (walk-wrote (lists-lie pre (lay-out .ensures) (lay-out .kept .1 .0) (lay-out .kept .1 .1 .0) (arrange .ensures) (arrange .kept .1 .1 .0)) (arrange .last .1 .1 .1 .0) (arrange .kept .1 .1 .1 .0 ∙ pre .order-length) (c .before .before .steps .ensures), starts-lie pre (lay-out .ensures) (lay-out .kept .1 .0) (lay-out .kept .1 .1 .0) (arrange .ensures) (arrange .kept .1 .1 .0))
+    let pre = entry₁ (search) .pre in
+    let lay-out = laid (search) .lay-out in
+    let arrange = arranged (search) .arrange in (
+      walk-wrote (lists-lie pre (lay-out .ensures) (lay-out .kept .1 .0) (lay-out .kept .1 .1 .0) (arrange .ensures) (arrange .kept .1 .1 .0))
+          (arrange .last .1 .1 .1 .0) (arrange .kept .1 .1 .1 .0 ∙ pre .order-length) (after-steps (search) .steps .ensures),
+      starts-lie pre (lay-out .ensures) (lay-out .kept .1 .0) (lay-out .kept .1 .1 .0) (arrange .ensures) (arrange .kept .1 .1 .0),
+    )
 
 pub write-steps-spec : {M : Type 1} → statement M
 write-steps-spec =

@@ -7,6 +7,10 @@ use borrow.Author.Needs.{needs}
 use Rattle.plan.proofs.main.Statement.{statement}
 use Rattle.plan.proofs.main.Tie as tie
 
+-- The places that the answers look back to: `after-listing (search)` is the one behind the answer at hand.
+abbrev after-listing : tie.After-listing → tie.After-listing
+after-listing c = c
+
 slice-aggregate-read-full : tie.Need-slice-aggregate-read-full
 slice-aggregate-read-full c = search needs
 
@@ -35,7 +39,8 @@ array-share-prefix-output : tie.Need-array-share-prefix-output
 array-share-prefix-output c = search needs
 
 slice-aggregate-write-all : tie.Need-slice-aggregate-write-all
-slice-aggregate-write-all c = let h = c .before .if1 .taken in let k = c .before .before .before .listing .kept .1 .1 .0 in sym (length-take-le _ _ (omega arith))
+slice-aggregate-write-all c =
+    let h = c .before .if1 .taken in let k = after-listing (search) .listing .kept .1 .1 .0 in sym (length-take-le _ _ (omega arith))
 
 write-all-requires : tie.Need-write-all-requires
 write-all-requires c κs = search needs

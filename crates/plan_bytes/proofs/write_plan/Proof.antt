@@ -6,6 +6,25 @@ use Rattle.plan_bytes.proofs.Handed.{done-in-front, done-stored}
 use Rattle.plan_bytes.proofs.write_plan.Statement.{statement}
 use Rattle.plan_bytes.proofs.write_plan.Tie as tie
 
+-- The places that the answers look back to: `analysed (search)` is the one behind the answer at hand.
+abbrev analysed : tie.After-analyse → tie.After-analyse
+analysed c = c
+
+abbrev else1 : tie.Else1 → tie.Else1
+else1 c = c
+
+abbrev then1 : tie.Then1 → tie.Then1
+then1 c = c
+
+abbrev cleared : tie.After-clear-late → tie.After-clear-late
+cleared c = c
+
+abbrev stored : tie.After-store-beside → tie.After-store-beside
+stored c = c
+
+abbrev analysed₁ : tie.Else1 → tie.After-analyse
+analysed₁ c = search
+
 analyse-requires : tie.Need-analyse-requires
 analyse-requires c κs = tt
 
@@ -13,55 +32,67 @@ clear-late-requires : tie.Need-clear-late-requires
 clear-late-requires c κs = tt
 
 same-length : tie.Need-same-length
-same-length c = c .before .before .before .before .before .before .before .before .before .before .before .before .before .before .before .before .before .before .analyse .kept .1 .1 .1 .0
+same-length c = analysed (search) .analyse .kept .1 .1 .1 .0
 
 same-length-2 : tie.Need-same-length-2
-same-length-2 c = c .before .before .before .before .before .before .before .before .before .before .before .before .before .before .before .before .before .before .analyse .kept .1 .1 .1 .1 .0
+same-length-2 c = analysed (search) .analyse .kept .1 .1 .1 .1 .0
 
 same-length-3 : tie.Need-same-length-3
-same-length-3 c = c .before .before .before .before .before .before .before .before .before .before .before .before .before .before .before .before .before .before .analyse .kept .1 .1 .1 .1 .1 .0
+same-length-3 c = analysed (search) .analyse .kept .1 .1 .1 .1 .1 .0
 
 same-length-4 : tie.Need-same-length-4
-same-length-4 c = c .before .before .before .before .before .before .before .before .before .before .before .before .before .before .before .before .before .before .analyse .kept .1 .1 .1 .1 .1 .1 .0
+same-length-4 c = analysed (search) .analyse .kept .1 .1 .1 .1 .1 .1 .0
 
 same-length-5 : tie.Need-same-length-5
-same-length-5 c = c .before .before .before .before .before .before .before .before .before .before .before .before .before .before .before .before .before .before .analyse .kept .1 .1 .1 .1 .1 .1 .1 .0
+same-length-5 c = analysed (search) .analyse .kept .1 .1 .1 .1 .1 .1 .1 .0
 
 same-length-6 : tie.Need-same-length-6
-same-length-6 c = c .before .before .before .before .before .before .before .before .before .before .before .before .before .before .before .before .before .before .analyse .kept .1 .1 .1 .1 .1 .1 .1 .1 .0
+same-length-6 c = analysed (search) .analyse .kept .1 .1 .1 .1 .1 .1 .1 .1 .0
 
 same-length-7 : tie.Need-same-length-7
-same-length-7 c = c .before .before .clear-late .kept .1 .0
+same-length-7 c = cleared (search) .clear-late .kept .1 .0
 
 returns : tie.Need-returns
-returns c = way-refused _ _ (c .before .before .before .before .before .before .before .before .before .before .before .before .before .before .before .before .before .before .analyse .ensures) (c .before .before .before .before .if1 .taken) (c .before .before .clear-late .ensures .0) (c .before .before .clear-late .ensures .1)
+returns c =
+    way-refused _ _ (analysed (search) .analyse .ensures) (then1 (search) .if1 .taken) (cleared (search) .clear-late .ensures .0)
+    (cleared (search) .clear-late .ensures .1)
 
 store-beside-requires : tie.Need-store-beside-requires
-store-beside-requires c κs = done-in-front _ _ (c .before .before .before .before .before .before .before .before .before .before .before .before .before .before .before .before .before .before .before .before .before .analyse .ensures) (c .before .before .before .before .before .before .before .if1 .left)
+store-beside-requires c κs = done-in-front _ _ (analysed (search) .analyse .ensures) (else1 (search) .if1 .left)
 
 same-length-8 : tie.Need-same-length-8
-same-length-8 c = c .before .before .before .before .before .before .before .before .before .before .before .before .before .before .store-beside .kept .1 .1 .1 .0 ∙ c .before .before .before .before .before .before .before .before .before .before .before .before .before .before .before .before .before .before .before .before .before .before .before .before .before .before .before .before .before .before .before .before .before .before .before .before .analyse .kept .1 .1 .1 .0
+same-length-8 c = stored (search) .store-beside .kept .1 .1 .1 .0 ∙ analysed₁ (search) .analyse .kept .1 .1 .1 .0
 
 same-length-9 : tie.Need-same-length-9
-same-length-9 c = c .before .before .before .before .before .before .before .before .before .before .before .before .before .before .store-beside .kept .1 .1 .1 .1 .0 ∙ c .before .before .before .before .before .before .before .before .before .before .before .before .before .before .before .before .before .before .before .before .before .before .before .before .before .before .before .before .before .before .before .before .before .before .before .before .analyse .kept .1 .1 .1 .1 .0
+same-length-9 c = stored (search) .store-beside .kept .1 .1 .1 .1 .0 ∙ analysed₁ (search) .analyse .kept .1 .1 .1 .1 .0
 
 same-length-10 : tie.Need-same-length-10
-same-length-10 c = c .before .before .before .before .before .before .before .before .before .before .before .before .before .before .store-beside .kept .1 .1 .1 .1 .1 .0 ∙ c .before .before .before .before .before .before .before .before .before .before .before .before .before .before .before .before .before .before .before .before .before .before .before .before .before .before .before .before .before .before .before .before .before .before .before .before .analyse .kept .1 .1 .1 .1 .1 .0
+same-length-10 c = stored (search) .store-beside .kept .1 .1 .1 .1 .1 .0 ∙ analysed₁ (search) .analyse .kept .1 .1 .1 .1 .1 .0
 
 same-length-11 : tie.Need-same-length-11
-same-length-11 c = c .before .before .before .before .before .before .before .before .before .before .before .before .before .before .store-beside .kept .1 .1 .1 .1 .1 .1 .0 ∙ c .before .before .before .before .before .before .before .before .before .before .before .before .before .before .before .before .before .before .before .before .before .before .before .before .before .before .before .before .before .before .before .before .before .before .before .before .analyse .kept .1 .1 .1 .1 .1 .1 .0
+same-length-11 c = stored (search) .store-beside .kept .1 .1 .1 .1 .1 .1 .0 ∙ analysed₁ (search) .analyse .kept .1 .1 .1 .1 .1 .1 .0
 
 same-length-12 : tie.Need-same-length-12
-same-length-12 c = c .before .before .before .before .before .before .before .before .before .before .before .before .before .before .store-beside .kept .1 .1 .1 .1 .1 .1 .1 .0 ∙ c .before .before .before .before .before .before .before .before .before .before .before .before .before .before .before .before .before .before .before .before .before .before .before .before .before .before .before .before .before .before .before .before .before .before .before .before .analyse .kept .1 .1 .1 .1 .1 .1 .1 .0
+same-length-12 c = stored (search) .store-beside .kept .1 .1 .1 .1 .1 .1 .1 .0 ∙ analysed₁ (search) .analyse .kept .1 .1 .1 .1 .1 .1 .1 .0
 
 same-length-13 : tie.Need-same-length-13
-same-length-13 c = c .before .before .before .before .before .before .before .before .before .before .before .before .before .before .store-beside .kept .1 .1 .1 .1 .1 .1 .1 .1 .0 ∙ c .before .before .before .before .before .before .before .before .before .before .before .before .before .before .before .before .before .before .before .before .before .before .before .before .before .before .before .before .before .before .before .before .before .before .before .before .analyse .kept .1 .1 .1 .1 .1 .1 .1 .1 .0
+same-length-13 c = stored (search) .store-beside .kept .1 .1 .1 .1 .1 .1 .1 .1 .0 ∙ analysed₁ (search) .analyse .kept .1 .1 .1 .1 .1 .1 .1 .1 .0
 
 same-length-14 : tie.Need-same-length-14
-same-length-14 c = c .before .before .before .before .before .before .before .before .before .before .before .before .before .before .store-beside .kept .1 .1 .1 .1 .1 .1 .1 .1 .1 .1 .0
+same-length-14 c = stored (search) .store-beside .kept .1 .1 .1 .1 .1 .1 .1 .1 .1 .1 .0
 
 returns-2 : tie.Need-returns-2
-returns-2 c = done-stored _ _ (c .before .before .before .before .before .before .before .before .before .before .before .before .before .before .before .before .before .before .before .before .before .before .before .before .before .before .before .before .before .before .before .before .before .before .before .before .analyse .ensures) (c .before .before .before .before .before .before .before .before .before .before .before .before .before .before .before .before .before .before .before .before .before .before .if1 .left) (record { parents = c .before .before .before .before .before .before .before .before .before .before .before .before .before .before .before .before .before .before .before .before .before .before .before .before .before .before .before .before .before .before .before .before .before .before .before .before .analyse .kept .1 .1 .1 .0; order = c .before .before .before .before .before .before .before .before .before .before .before .before .before .before .before .before .before .before .before .before .before .before .before .before .before .before .before .before .before .before .before .before .before .before .before .before .analyse .kept .1 .1 .1 .1 .0; pops = c .before .before .before .before .before .before .before .before .before .before .before .before .before .before .before .before .before .before .before .before .before .before .before .before .before .before .before .before .before .before .before .before .before .before .before .before .analyse .kept .1 .1 .1 .1 .1 .0; starts = c .before .before .before .before .before .before .before .before .before .before .before .before .before .before .before .before .before .before .before .before .before .before .before .before .before .before .before .before .before .before .before .before .before .before .before .before .analyse .kept .1 .1 .1 .1 .1 .1 .0; rows = c .before .before .before .before .before .before .before .before .before .before .before .before .before .before .before .before .before .before .before .before .before .before .before .before .before .before .before .before .before .before .before .before .before .before .before .before .analyse .kept .1 .1 .1 .1 .1 .1 .1 .0; work = c .before .before .before .before .before .before .before .before .before .before .before .before .before .before .before .before .before .before .before .before .before .before .before .before .before .before .before .before .before .before .before .before .before .before .before .before .analyse .kept .1 .1 .1 .1 .1 .1 .1 .1 .0 }) (c .before .before .before .before .before .before .before .before .before .before .before .before .before .before .store-beside .ensures)
+returns-2 c =
+    done-stored _ _ (analysed₁ (search) .analyse .ensures) (else1 (search) .if1 .left)
+    (record {
+      parents = analysed₁ (search) .analyse .kept .1 .1 .1 .0;
+      order = analysed₁ (search) .analyse .kept .1 .1 .1 .1 .0;
+      pops = analysed₁ (search) .analyse .kept .1 .1 .1 .1 .1 .0;
+      starts = analysed₁ (search) .analyse .kept .1 .1 .1 .1 .1 .1 .0;
+      rows = analysed₁ (search) .analyse .kept .1 .1 .1 .1 .1 .1 .1 .0;
+      work = analysed₁ (search) .analyse .kept .1 .1 .1 .1 .1 .1 .1 .1 .0;
+    })
+    (stored (search) .store-beside .ensures)
 
 pub write-plan-spec : {M : Type 1} → statement M
 write-plan-spec =

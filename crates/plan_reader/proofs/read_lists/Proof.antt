@@ -17,32 +17,45 @@ Inv-loop plan at n starts₀ rows₀ k₀ j₀ total₀ starts rows k j total = 
 abbrev μ-loop : tie.MeasureT-loop
 μ-loop plan at n starts₀ rows₀ k₀ j₀ total₀ starts rows k j total = n + 1 - j
 
+-- The places that the answers look back to: `entry (search)` is the one behind the answer at hand.
+abbrev entry : tie.Start Inv-loop μ-loop → tie.Start Inv-loop μ-loop
+entry c = c
+
+abbrev at-loop : tie.At-loop Inv-loop μ-loop → tie.At-loop Inv-loop μ-loop
+at-loop c = c
+
+abbrev in-loop : tie.In-loop Inv-loop μ-loop → tie.In-loop Inv-loop μ-loop
+in-loop c = c
+
+abbrev read : tie.After-read-list Inv-loop μ-loop → tie.After-read-list Inv-loop μ-loop
+read c = c
+
 slice-write-starts : tie.Need-slice-write-starts Inv-loop μ-loop
 slice-write-starts c = search needs
 
 loop-holds : tie.Need-loop-holds Inv-loop μ-loop
-loop-holds c = lists-start _ _ _ (now (c .before .before .before .args .starts)) _ (c .before .before .before .pre .0)
+loop-holds c = lists-start _ _ _ (now (entry (search) .args .starts)) _ (entry (search) .pre .0)
 
 read-list-requires : tie.Need-read-list-requires Inv-loop μ-loop
 read-list-requires c κs =
-    let l = c .before .before .loop .inv in
-    (l .inside, c .before .before .before .before .before .before .pre .1, c .before .loop-test .taken, l .paced)
+    let l = at-loop (search) .loop .inv in
+    (l .inside, entry (search) .pre .1, c .before .loop-test .taken, l .paced)
 
 enum-known-number : tie.Need-enum-known-number Inv-loop μ-loop
 enum-known-number c = search needs
 
 same-length : tie.Need-same-length Inv-loop μ-loop
 same-length c =
-    let starts = now (c .before .before .before .before .before .before .before .before .before .before .before .before .args .starts) in
-    lists-long (c .before .before .before .before .before .before .before .before .loop .inv) .0 ∙ length-set starts 0 0
+    let starts = now (entry (search) .args .starts) in
+    lists-long (at-loop (search) .loop .inv) .0 ∙ length-set starts 0 0
 
 same-length-2 : tie.Need-same-length-2 Inv-loop μ-loop
-same-length-2 c = c .before .before .before .before .before .read-list .kept .1 .1 .1 .1 .1 .0 ∙ lists-long (c .before .before .before .before .before .before .before .before .loop .inv) .1
+same-length-2 c = read (search) .read-list .kept .1 .1 .1 .1 .1 .0 ∙ lists-long (at-loop (search) .loop .inv) .1
 
 returns : tie.Need-returns Inv-loop μ-loop
 returns c =
-    let l = c .before .before .before .before .before .before .before .before .loop .inv in
-    refuses _ _ (lists-fault l (c .before .before .before .before .before .before .before .loop-test .taken) (c .before .before .before .before .before .read-list .ensures) (c .before .number .given .1)) refl
+    let l = at-loop (search) .loop .inv in
+    refuses _ _ (lists-fault l (in-loop (search) .loop-test .taken) (read (search) .read-list .ensures) (c .before .number .given .1)) refl
 
 enum-known-value : tie.Need-enum-known-value Inv-loop μ-loop
 enum-known-value c = search needs
@@ -52,9 +65,9 @@ mul-starts c = search needs
 
 slice-write-starts-2 : tie.Need-slice-write-starts-2 Inv-loop μ-loop
 slice-write-starts-2 c =
-    let starts = now (c .before .before .before .before .before .before .before .before .before .before .before .before .args .starts) in
-    let long = lists-long (c .before .before .before .before .before .before .before .before .loop .inv) .0 ∙ length-set starts 0 0 in
-    let next = c .before .before .before .before .before .before .before .loop-test .taken in
+    let starts = now (entry (search) .args .starts) in
+    let long = lists-long (at-loop (search) .loop .inv) .0 ∙ length-set starts 0 0 in
+    let next = in-loop (search) .loop-test .taken in
     omega arith
 
 add-j : tie.Need-add-j Inv-loop μ-loop
@@ -65,17 +78,17 @@ loop-less c = search needs
 
 loop-again : tie.Need-loop-again Inv-loop μ-loop
 loop-again c =
-    let l = c .before .before .before .before .before .before .before .before .loop .inv in
-    lists-turn l (c .before .before .before .before .before .before .before .loop-test .taken) (c .before .before .before .before .before .read-list .ensures) (c .before .value .given .1) refl
+    let l = at-loop (search) .loop .inv in
+    lists-turn l (in-loop (search) .loop-test .taken) (read (search) .read-list .ensures) (c .before .value .given .1) refl
 
 same-length-3 : tie.Need-same-length-3 Inv-loop μ-loop
-same-length-3 c = lists-long (c .before .loop .inv) .0 ∙ length-set (now (c .before .before .before .before .before .args .starts)) 0 0
+same-length-3 c = lists-long (c .before .loop .inv) .0 ∙ length-set (now (entry (search) .args .starts)) 0 0
 
 same-length-4 : tie.Need-same-length-4 Inv-loop μ-loop
 same-length-4 c = lists-long (c .before .loop .inv) .1
 
 returns-2 : tie.Need-returns-2 Inv-loop μ-loop
-returns-2 c = lists-stop (c .before .loop .inv) (now (c .before .before .before .before .before .args .starts)) refl (c .loop-test .left)
+returns-2 c = lists-stop (c .before .loop .inv) (now (entry (search) .args .starts)) refl (c .loop-test .left)
 
 pub read-lists-spec : {M : Type 1} → statement M
 read-lists-spec =

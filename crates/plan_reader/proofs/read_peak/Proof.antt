@@ -6,6 +6,13 @@ use Rattle.plan_reader.proofs.Wholes.{no-peak, bytes-after, at-the-end}
 use Rattle.plan_reader.proofs.read_peak.Statement.{statement}
 use Rattle.plan_reader.proofs.read_peak.Tie as tie
 
+-- The places that the answers look back to: `read (search)` is the one behind the answer at hand.
+abbrev read : tie.After-read-long → tie.After-read-long
+read c = c
+
+abbrev after-peak : tie.After-peak → tie.After-peak
+after-peak c = c
+
 read-long-requires : tie.Need-read-long-requires
 read-long-requires c κs = search needs
 
@@ -13,7 +20,7 @@ enum-known-number : tie.Need-enum-known-number
 enum-known-number c = search needs
 
 returns : tie.Need-returns
-returns c = no-peak _ _ _ (field-refused _ _ _ _ (c .before .before .before .read-long .ensures) (c .before .number .given .1))
+returns c = no-peak _ _ _ (field-refused _ _ _ _ (read (search) .read-long .ensures) (c .before .number .given .1))
 
 enum-known-peak : tie.Need-enum-known-peak
 enum-known-peak c = search needs
@@ -22,10 +29,10 @@ add-t12 : tie.Need-add-t12
 add-t12 c = search needs
 
 returns-2 : tie.Need-returns-2
-returns-2 c = bytes-after _ _ _ (field-found _ _ _ _ (c .before .before .before .before .read-long .ensures) (c .before .before .peak .given .1) .0) (c .if1 .taken)
+returns-2 c = bytes-after _ _ _ (field-found _ _ _ _ (read (search) .read-long .ensures) (after-peak (search) .peak .given .1) .0) (c .if1 .taken)
 
 returns-3 : tie.Need-returns-3
-returns-3 c = at-the-end _ _ _ (field-found _ _ _ _ (c .before .before .before .before .read-long .ensures) (c .before .before .peak .given .1) .0) (c .if1 .left)
+returns-3 c = at-the-end _ _ _ (field-found _ _ _ _ (read (search) .read-long .ensures) (after-peak (search) .peak .given .1) .0) (c .if1 .left)
 
 pub read-peak-spec : {M : Type 1} → statement M
 read-peak-spec =

@@ -7,6 +7,22 @@ use Rattle.plan_reader.proofs.Wholes.{no-steps, no-lists, plan-faulty, 
 use Rattle.plan_reader.proofs.read_plan.Statement.{statement}
 use Rattle.plan_reader.proofs.read_plan.Tie as tie
 
+-- The places that the answers look back to: `entry (search)` is the one behind the answer at hand.
+abbrev entry : tie.Start → tie.Start
+entry c = c
+
+abbrev after-read-steps : tie.After-read-steps → tie.After-read-steps
+after-read-steps c = c
+
+abbrev after-behind : tie.After-behind → tie.After-behind
+after-behind c = c
+
+abbrev after-read-lists : tie.After-read-lists → tie.After-read-lists
+after-read-lists c = c
+
+abbrev after-total : tie.After-total → tie.After-total
+after-total c = c
+
 read-steps-requires : tie.Need-read-steps-requires
 read-steps-requires c κs = search needs
 
@@ -14,68 +30,68 @@ enum-known-number : tie.Need-enum-known-number
 enum-known-number c = search needs
 
 same-length : tie.Need-same-length
-same-length c = c .before .before .before .before .before .before .before .read-steps .kept .1 .1 .1 .0
+same-length c = after-read-steps (search) .read-steps .kept .1 .1 .1 .0
 
 same-length-2 : tie.Need-same-length-2
-same-length-2 c = c .before .before .before .before .before .before .before .read-steps .kept .1 .1 .1 .1 .0
+same-length-2 c = after-read-steps (search) .read-steps .kept .1 .1 .1 .1 .0
 
 returns : tie.Need-returns
-returns c = plan-faulty (no-steps _ _ _ (told-refused (c .before .before .before .before .before .before .before .read-steps .ensures) (c .before .number .given .1)))
+returns c = plan-faulty (no-steps _ _ _ (told-refused (after-read-steps (search) .read-steps .ensures) (c .before .number .given .1)))
 
 enum-known-behind : tie.Need-enum-known-behind
 enum-known-behind c = search needs
 
 read-lists-requires : tie.Need-read-lists-requires
 read-lists-requires c κs =
-    let steps = told-found (c .before .before .before .before .before .before .before .before .before .read-steps .ensures) (c .before .before .before .behind .given .1) in
-    let (few, inside, order, pops, starts) = c .before .before .before .before .before .before .before .before .before .before .before .before .before .before .before .before .before .pre in
+    let steps = told-found (after-read-steps (search) .read-steps .ensures) (after-behind (search) .behind .given .1) in
+    let (few, inside, order, pops, starts) = entry (search) .pre in
     (steps-reach _ _ _ _ _ _ (steps .1) .1 .inside inside, few, starts)
 
 enum-known-number-2 : tie.Need-enum-known-number-2
 enum-known-number-2 c = search needs
 
 same-length-3 : tie.Need-same-length-3
-same-length-3 c = c .before .before .before .before .before .before .before .before .before .before .before .before .before .before .before .before .before .read-steps .kept .1 .1 .1 .0
+same-length-3 c = after-read-steps (search) .read-steps .kept .1 .1 .1 .0
 
 same-length-4 : tie.Need-same-length-4
-same-length-4 c = c .before .before .before .before .before .before .before .before .before .before .before .before .before .before .before .before .before .read-steps .kept .1 .1 .1 .1 .0
+same-length-4 c = after-read-steps (search) .read-steps .kept .1 .1 .1 .1 .0
 
 same-length-5 : tie.Need-same-length-5
-same-length-5 c = c .before .before .before .before .before .before .before .read-lists .kept .1 .1 .1 .0
+same-length-5 c = after-read-lists (search) .read-lists .kept .1 .1 .1 .0
 
 same-length-6 : tie.Need-same-length-6
-same-length-6 c = c .before .before .before .before .before .before .before .read-lists .kept .1 .1 .1 .1 .0
+same-length-6 c = after-read-lists (search) .read-lists .kept .1 .1 .1 .1 .0
 
 returns-2 : tie.Need-returns-2
 returns-2 c =
-    let steps = told-found (c .before .before .before .before .before .before .before .before .before .before .before .before .before .before .before .before .before .read-steps .ensures) (c .before .before .before .before .before .before .before .before .before .before .before .behind .given .1) in
-    plan-faulty (no-lists _ _ _ (steps .1) (told-refused (c .before .before .before .before .before .before .before .read-lists .ensures) (c .before .number2 .given .1)))
+    let steps = told-found (after-read-steps (search) .read-steps .ensures) (after-behind (search) .behind .given .1) in
+    plan-faulty (no-lists _ _ _ (steps .1) (told-refused (after-read-lists (search) .read-lists .ensures) (c .before .number2 .given .1)))
 
 enum-known-total : tie.Need-enum-known-total
 enum-known-total c = search needs
 
 read-peak-requires : tie.Need-read-peak-requires
 read-peak-requires c κs =
-    let steps = told-found (c .before .before .before .before .before .before .before .before .before .before .before .before .before .before .before .before .before .read-steps .ensures) (c .before .before .before .before .before .before .before .before .before .before .before .behind .given .1) in
-    let lists = told-found (c .before .before .before .before .before .before .before .read-lists .ensures) (c .before .total .given .1) in
-    lists-reach _ _ _ _ _ _ _ (lists .1) .1 .inside (steps-reach _ _ _ _ _ _ (steps .1) .1 .inside (c .before .before .before .before .before .before .before .before .before .before .before .before .before .before .before .before .before .before .before .before .before .before .before .before .before .pre .1))
+    let steps = told-found (after-read-steps (search) .read-steps .ensures) (after-behind (search) .behind .given .1) in
+    let lists = told-found (after-read-lists (search) .read-lists .ensures) (c .before .total .given .1) in
+    lists-reach _ _ _ _ _ _ _ (lists .1) .1 .inside (steps-reach _ _ _ _ _ _ (steps .1) .1 .inside (entry (search) .pre .1))
 
 same-length-7 : tie.Need-same-length-7
-same-length-7 c = c .before .before .before .before .before .before .before .before .before .before .before .before .before .before .before .before .before .before .read-steps .kept .1 .1 .1 .0
+same-length-7 c = after-read-steps (search) .read-steps .kept .1 .1 .1 .0
 
 same-length-8 : tie.Need-same-length-8
-same-length-8 c = c .before .before .before .before .before .before .before .before .before .before .before .before .before .before .before .before .before .before .read-steps .kept .1 .1 .1 .1 .0
+same-length-8 c = after-read-steps (search) .read-steps .kept .1 .1 .1 .1 .0
 
 same-length-9 : tie.Need-same-length-9
-same-length-9 c = c .before .before .before .before .before .before .before .before .read-lists .kept .1 .1 .1 .0
+same-length-9 c = after-read-lists (search) .read-lists .kept .1 .1 .1 .0
 
 same-length-10 : tie.Need-same-length-10
-same-length-10 c = c .before .before .before .before .before .before .before .before .read-lists .kept .1 .1 .1 .1 .0
+same-length-10 c = after-read-lists (search) .read-lists .kept .1 .1 .1 .1 .0
 
 returns-3 : tie.Need-returns-3
 returns-3 c =
-    let steps = told-found (c .before .before .before .before .before .before .before .before .before .before .before .before .before .before .before .before .before .before .read-steps .ensures) (c .before .before .before .before .before .before .before .before .before .before .before .before .behind .given .1) in
-    let lists = told-found (c .before .before .before .before .before .before .before .before .read-lists .ensures) (c .before .before .total .given .1) in
+    let steps = told-found (after-read-steps (search) .read-steps .ensures) (after-behind (search) .behind .given .1) in
+    let lists = told-found (after-read-lists (search) .read-lists .ensures) (after-total (search) .total .given .1) in
     plan-whole _ _ _ (steps .1) (steps .3) (lists .1) (lists .2) (lists .3) (c .read-peak .ensures)
 
 pub read-plan-spec : {M : Type 1} → statement M

@@ -10,6 +10,22 @@ use Rattle.plan_reader.proofs.Steps.{column-narrow, pops-narrow, step-n
 use Rattle.plan_reader.proofs.read_step.Statement.{statement}
 use Rattle.plan_reader.proofs.read_step.Tie as tie
 
+-- The places that the answers look back to: `entry (search)` is the one behind the answer at hand.
+abbrev entry : tie.Start → tie.Start
+entry c = c
+
+abbrev after-read-field : tie.After-read-field → tie.After-read-field
+after-read-field c = c
+
+abbrev after-column : tie.After-column → tie.After-column
+after-column c = c
+
+abbrev after-read-field2 : tie.After-read-field2 → tie.After-read-field2
+after-read-field2 c = c
+
+abbrev after-popped : tie.After-popped → tie.After-popped
+after-popped c = c
+
 read-field-requires : tie.Need-read-field-requires
 read-field-requires c κs = search needs
 
@@ -17,7 +33,8 @@ enum-known-number : tie.Need-enum-known-number
 enum-known-number c = search needs
 
 returns : tie.Need-returns
-returns c = refuses _ _ (step-no-column _ _ _ (field-refused _ _ _ _ (c .before .before .before .read-field .ensures) (c .before .number .given .1))) refl
+returns c =
+    refuses _ _ (step-no-column _ _ _ (field-refused _ _ _ _ (after-read-field (search) .read-field .ensures) (c .before .number .given .1))) refl
 
 enum-known-column : tie.Need-enum-known-column
 enum-known-column c = search needs
@@ -26,23 +43,24 @@ sub-read-field : tie.Need-sub-read-field
 sub-read-field c = search needs
 
 read-field-requires-2 : tie.Need-read-field-requires-2
-read-field-requires-2 c κs = field-found _ _ _ _ (c .before .before .before .read-field .ensures) (c .before .column .given .1) .1 .inside
+read-field-requires-2 c κs = field-found _ _ _ _ (after-read-field (search) .read-field .ensures) (c .before .column .given .1) .1 .inside
 
 enum-known-number-2 : tie.Need-enum-known-number-2
 enum-known-number-2 c = search needs
 
 returns-2 : tie.Need-returns-2
 returns-2 c =
-    let column = field-found _ _ _ _ (c .before .before .before .before .before .before .before .read-field .ensures) (c .before .before .before .before .before .column .given .1) .0 in
-    refuses _ _ (step-no-pops _ _ _ column (field-refused _ _ _ _ (c .before .before .before .read-field2 .ensures) (c .before .number2 .given .1))) refl
+    let column = field-found _ _ _ _ (after-read-field (search) .read-field .ensures) (after-column (search) .column .given .1) .0 in
+    refuses _ _ (step-no-pops _ _ _ column (field-refused _ _ _ _ (after-read-field2 (search) .read-field2 .ensures) (c .before .number2 .given .1)))
+    refl
 
 enum-known-popped : tie.Need-enum-known-popped
 enum-known-popped c = search needs
 
 narrow32-requires : tie.Need-narrow32-requires
 narrow32-requires c κs =
-    let column = field-found _ _ _ _ (c .before .before .before .before .before .before .before .read-field .ensures) (c .before .before .before .before .before .column .given .1) .1 in
-    column-narrow (c .before .before .before .before .before .before .before .before .before .before .before .pre .1) (column .high)
+    let column = field-found _ _ _ _ (after-read-field (search) .read-field .ensures) (after-column (search) .column .given .1) .1 in
+    column-narrow (entry (search) .pre .1) (column .high)
 
 mul-order : tie.Need-mul-order
 mul-order c = search needs
@@ -52,8 +70,8 @@ slice-write-order c = search needs
 
 narrow32-requires-2 : tie.Need-narrow32-requires-2
 narrow32-requires-2 c κs =
-    let popped = field-found _ _ _ _ (c .before .before .before .before .read-field2 .ensures) (c .before .before .popped .given .1) .1 in
-    pops-narrow (c .before .before .before .before .before .before .before .before .before .before .before .before .pre .1) (popped .high)
+    let popped = field-found _ _ _ _ (after-read-field2 (search) .read-field2 .ensures) (after-popped (search) .popped .given .1) .1 in
+    pops-narrow (entry (search) .pre .1) (popped .high)
 
 mul-pops : tie.Need-mul-pops
 mul-pops c = search needs
@@ -62,17 +80,20 @@ slice-write-pops : tie.Need-slice-write-pops
 slice-write-pops c = search needs
 
 same-length : tie.Need-same-length
-same-length c = let lent = c .before .before .before .before .before .before .before .before .before .before .before .before .before .args in length-set (now (lent .order)) (lent .i) _
+same-length c = let lent = entry (search) .args in length-set (now (lent .order)) (lent .i) _
 
 same-length-2 : tie.Need-same-length-2
-same-length-2 c = let lent = c .before .before .before .before .before .before .before .before .before .before .before .before .before .args in length-set (now (lent .pops)) (lent .i) _
+same-length-2 c = let lent = entry (search) .args in length-set (now (lent .pops)) (lent .i) _
 
 returns-3 : tie.Need-returns-3
 returns-3 c =
-    let lent = c .before .before .before .before .before .before .before .before .before .before .before .before .before .args in
-    let column = field-found _ _ _ _ (c .before .before .before .before .before .before .before .before .before .read-field .ensures) (c .before .before .before .before .before .before .before .column .given .1) .0 in
-    let popped = field-found _ _ _ _ (c .before .before .before .before .before .read-field2 .ensures) (c .before .before .before .popped .given .1) .0 in
-    finds _ _ (step-got _ _ _ column popped) refl (ap (set (now (lent .order)) (lent .i)) (c .before .narrow32 .ensures), ap (set (now (lent .pops)) (lent .i)) (c .narrow322 .ensures))
+    let lent = entry (search) .args in
+    let column = field-found _ _ _ _ (after-read-field (search) .read-field .ensures) (after-column (search) .column .given .1) .0 in
+    let popped = field-found _ _ _ _ (after-read-field2 (search) .read-field2 .ensures) (after-popped (search) .popped .given .1) .0 in
+    finds _ _ (step-got _ _ _ column popped) refl (
+      ap (set (now (lent .order)) (lent .i)) (c .before .narrow32 .ensures),
+      ap (set (now (lent .pops)) (lent .i)) (c .narrow322 .ensures),
+    )
 
 pub read-step-spec : {M : Type 1} → statement M
 read-step-spec =

@@ -15,29 +15,42 @@ Inv-loop plan at n order₀ pops₀ k₀ i₀ order pops k i = Steps n plan at o
 abbrev μ-loop : tie.MeasureT-loop
 μ-loop plan at n order₀ pops₀ k₀ i₀ order pops k i = n - i
 
+-- The places that the answers look back to: `entry (search)` is the one behind the answer at hand.
+abbrev entry : tie.Start Inv-loop μ-loop → tie.Start Inv-loop μ-loop
+entry c = c
+
+abbrev at-loop : tie.At-loop Inv-loop μ-loop → tie.At-loop Inv-loop μ-loop
+at-loop c = c
+
+abbrev in-loop : tie.In-loop Inv-loop μ-loop → tie.In-loop Inv-loop μ-loop
+in-loop c = c
+
+abbrev read : tie.After-read-step Inv-loop μ-loop → tie.After-read-step Inv-loop μ-loop
+read c = c
+
 loop-holds : tie.Need-loop-holds Inv-loop μ-loop
-loop-holds c = steps-start _ _ _ _ _ (c .before .before .before .pre .0)
+loop-holds c = steps-start _ _ _ _ _ (entry (search) .pre .0)
 
 read-step-requires : tie.Need-read-step-requires Inv-loop μ-loop
 read-step-requires c κs =
-    let l = c .before .before .before .loop .inv in
+    let l = at-loop (search) .loop .inv in
     let (order, pops) = steps-long l in
-    let p = c .before .before .before .before .before .before .before .pre in
-    (l .inside, p .1, c .before .before .loop-test .taken, omega arith, omega arith)
+    let p = entry (search) .pre in
+    (l .inside, p .1, in-loop (search) .loop-test .taken, omega arith, omega arith)
 
 enum-known-number : tie.Need-enum-known-number Inv-loop μ-loop
 enum-known-number c = search needs
 
 same-length : tie.Need-same-length Inv-loop μ-loop
-same-length c = c .before .before .before .before .before .before .before .read-step .kept .1 .1 .1 .1 .0 ∙ steps-long (c .before .before .before .before .before .before .before .before .before .before .before .loop .inv) .0
+same-length c = read (search) .read-step .kept .1 .1 .1 .1 .0 ∙ steps-long (at-loop (search) .loop .inv) .0
 
 same-length-2 : tie.Need-same-length-2 Inv-loop μ-loop
-same-length-2 c = c .before .before .before .before .before .before .before .read-step .kept .1 .1 .1 .1 .1 .0 ∙ steps-long (c .before .before .before .before .before .before .before .before .before .before .before .loop .inv) .1
+same-length-2 c = read (search) .read-step .kept .1 .1 .1 .1 .1 .0 ∙ steps-long (at-loop (search) .loop .inv) .1
 
 returns : tie.Need-returns Inv-loop μ-loop
 returns c =
-    let l = c .before .before .before .before .before .before .before .before .before .before .before .loop .inv in
-    refuses _ _ (steps-fault l (c .before .before .before .before .before .before .before .before .before .before .loop-test .taken) (c .before .before .before .before .before .before .before .read-step .ensures) (c .before .number .given .1)) refl
+    let l = at-loop (search) .loop .inv in
+    refuses _ _ (steps-fault l (in-loop (search) .loop-test .taken) (read (search) .read-step .ensures) (c .before .number .given .1)) refl
 
 enum-known-next : tie.Need-enum-known-next Inv-loop μ-loop
 enum-known-next c = search needs
@@ -50,8 +63,8 @@ loop-less c = search needs
 
 loop-again : tie.Need-loop-again Inv-loop μ-loop
 loop-again c =
-    let l = c .before .before .before .before .before .before .before .before .before .before .before .loop .inv in
-    steps-turn l (c .before .before .before .before .before .before .before .before .before .before .loop-test .taken) (c .before .before .before .before .before .before .before .read-step .ensures) (c .before .next .given .1)
+    let l = at-loop (search) .loop .inv in
+    steps-turn l (in-loop (search) .loop-test .taken) (read (search) .read-step .ensures) (c .before .next .given .1)
 
 same-length-3 : tie.Need-same-length-3 Inv-loop μ-loop
 same-length-3 c = steps-long (c .before .loop .inv) .0

@@ -8,68 +8,86 @@ use Rattle.plan_store.proofs.Besides.{refused-beside, done-beside}
 use Rattle.plan_store.proofs.store_beside.Statement.{statement}
 use Rattle.plan_store.proofs.store_beside.Tie as tie
 
+-- The places that the answers look back to: `entry (search)` is the one behind the answer at hand.
+abbrev entry : tie.Start → tie.Start
+entry c = c
+
+abbrev stored : tie.After-store-plan → tie.After-store-plan
+stored c = c
+
+abbrev then1 : tie.Then1 → tie.Then1
+then1 c = c
+
+abbrev cleared : tie.After-clear-all → tie.After-clear-all
+cleared c = c
+
+abbrev entry₁ : tie.After-store-plan → tie.Start
+entry₁ c = search
+
 mul-last : tie.Need-mul-last
-mul-last c = omega (arith, few (c .before .before .before .before .before .before .before .before .before .pre .writable))
+mul-last c = omega (arith, few (entry (search) .pre .writable))
 
 slice-read-last : tie.Need-slice-read-last
-slice-read-last c = let h = c .before .before .before .before .before .before .before .before .before .before .pre .starts-long in omega arith
+slice-read-last c = let h = entry (search) .pre .starts-long in omega arith
 
 slice-reshare-prefix-store-plan : tie.Need-slice-reshare-prefix-store-plan
-slice-reshare-prefix-store-plan c = c .before .before .before .before .before .before .before .before .before .before .pre .order-long
+slice-reshare-prefix-store-plan c = entry (search) .pre .order-long
 
 slice-aggregate-store-plan : tie.Need-slice-aggregate-store-plan
-slice-aggregate-store-plan c = sym (length-take-le _ _ (c .before .before .before .before .before .before .before .before .before .before .before .pre .order-long))
+slice-aggregate-store-plan c = sym (length-take-le _ _ (entry (search) .pre .order-long))
 
 slice-reshare-prefix-store-plan-2 : tie.Need-slice-reshare-prefix-store-plan-2
-slice-reshare-prefix-store-plan-2 c = c .before .before .before .before .before .before .before .before .before .before .before .pre .pops-long
+slice-reshare-prefix-store-plan-2 c = entry (search) .pre .pops-long
 
 slice-aggregate-store-plan-2 : tie.Need-slice-aggregate-store-plan-2
-slice-aggregate-store-plan-2 c = sym (length-take-le _ _ (c .before .before .before .before .before .before .before .before .before .before .before .before .pre .pops-long))
+slice-aggregate-store-plan-2 c = sym (length-take-le _ _ (entry (search) .pre .pops-long))
 
 add-store-plan : tie.Need-add-store-plan
-add-store-plan c = omega (arith, few (c .before .before .before .before .before .before .before .before .before .before .before .before .pre .writable))
+add-store-plan c = omega (arith, few (entry (search) .pre .writable))
 
 slice-reshare-prefix-store-plan-3 : tie.Need-slice-reshare-prefix-store-plan-3
-slice-reshare-prefix-store-plan-3 c = c .before .before .before .before .before .before .before .before .before .before .before .before .pre .starts-long
+slice-reshare-prefix-store-plan-3 c = entry (search) .pre .starts-long
 
 slice-aggregate-store-plan-3 : tie.Need-slice-aggregate-store-plan-3
-slice-aggregate-store-plan-3 c = sym (length-take-le _ _ (c .before .before .before .before .before .before .before .before .before .before .before .before .before .pre .starts-long))
+slice-aggregate-store-plan-3 c = sym (length-take-le _ _ (entry (search) .pre .starts-long))
 
 slice-reshare-prefix-store-plan-4 : tie.Need-slice-reshare-prefix-store-plan-4
-slice-reshare-prefix-store-plan-4 c = c .before .before .before .before .before .before .before .before .before .before .before .before .before .pre .rows-long
+slice-reshare-prefix-store-plan-4 c = entry (search) .pre .rows-long
 
 slice-aggregate-store-plan-4 : tie.Need-slice-aggregate-store-plan-4
-slice-aggregate-store-plan-4 c = sym (length-take-le _ _ (c .before .before .before .before .before .before .before .before .before .before .before .before .before .before .pre .rows-long))
+slice-aggregate-store-plan-4 c = sym (length-take-le _ _ (entry (search) .pre .rows-long))
 
 store-plan-requires : tie.Need-store-plan-requires
-store-plan-requires c κs = c .before .before .before .before .before .before .before .before .before .before .before .before .before .before .before .pre .writable
+store-plan-requires c κs = entry (search) .pre .writable
 
 clear-all-requires : tie.Need-clear-all-requires
 clear-all-requires c κs = tt
 
 same-length : tie.Need-same-length
-same-length c = c .before .before .before .before .before .before .before .before .before .before .before .before .clear-all .kept .0
+same-length c = cleared (search) .clear-all .kept .0
 
 same-length-2 : tie.Need-same-length-2
-same-length-2 c = c .before .before .before .before .before .before .before .before .before .before .before .before .clear-all .kept .1 .0
+same-length-2 c = cleared (search) .clear-all .kept .1 .0
 
 same-length-3 : tie.Need-same-length-3
-same-length-3 c = c .before .before .before .before .before .before .before .before .before .before .before .before .clear-all .kept .1 .1 .0
+same-length-3 c = cleared (search) .clear-all .kept .1 .1 .0
 
 same-length-4 : tie.Need-same-length-4
-same-length-4 c = c .before .before .before .before .before .before .before .before .before .before .before .before .clear-all .kept .1 .1 .1 .0
+same-length-4 c = cleared (search) .clear-all .kept .1 .1 .1 .0
 
 same-length-5 : tie.Need-same-length-5
-same-length-5 c = c .before .before .before .before .before .before .before .before .before .before .before .before .clear-all .kept .1 .1 .1 .1 .0
+same-length-5 c = cleared (search) .clear-all .kept .1 .1 .1 .1 .0
 
 same-length-6 : tie.Need-same-length-6
-same-length-6 c = c .before .before .before .before .before .before .before .before .before .before .before .before .clear-all .kept .1 .1 .1 .1 .1 .0
+same-length-6 c = cleared (search) .clear-all .kept .1 .1 .1 .1 .1 .0
 
 same-length-7 : tie.Need-same-length-7
-same-length-7 c = c .before .before .before .before .before .before .before .before .before .before .before .before .before .before .before .before .before .before .before .before .before .before .before .store-plan .kept .1 .1 .1 .1 .1 .1 .1 .1 .0
+same-length-7 c = stored (search) .store-plan .kept .1 .1 .1 .1 .1 .1 .1 .1 .0
 
 returns : tie.Need-returns
-returns c = refused-beside _ _ (rw (c .before .before .before .before .before .before .before .before .before .before .before .before .before .before .before .before .before .before .before .before .before .before .before .before .before .before .before .before .before .before .before .before .before .before .before .before .before .before .before .pre .planned) at (c .before .before .before .before .before .before .before .before .before .before .before .before .before .before .before .before .before .before .before .before .before .before .before .store-plan .ensures)) (c .before .before .before .before .before .before .before .before .before .before .before .before .before .before .before .before .before .before .before .if1 .taken) (c .before .before .before .before .before .before .before .before .before .before .before .before .clear-all .ensures)
+returns c =
+    refused-beside _ _ (rw (entry₁ (search) .pre .planned) at (stored (search) .store-plan .ensures)) (then1 (search) .if1 .taken)
+    (cleared (search) .clear-all .ensures)
 
 same-length-8 : tie.Need-same-length-8
 same-length-8 c = refl
@@ -84,10 +102,10 @@ same-length-11 : tie.Need-same-length-11
 same-length-11 c = refl
 
 same-length-12 : tie.Need-same-length-12
-same-length-12 c = c .before .before .before .before .store-plan .kept .1 .1 .1 .1 .1 .1 .1 .1 .0
+same-length-12 c = stored (search) .store-plan .kept .1 .1 .1 .1 .1 .1 .1 .1 .0
 
 returns-2 : tie.Need-returns-2
-returns-2 c = done-beside _ _ (rw (c .before .before .before .before .before .before .before .before .before .before .before .before .before .before .before .before .before .before .before .before .pre .planned) at (c .before .before .before .before .store-plan .ensures)) (c .if1 .left)
+returns-2 c = done-beside _ _ (rw (entry (search) .pre .planned) at (stored (search) .store-plan .ensures)) (c .if1 .left)
 
 pub store-beside-spec : {M : Type 1} → statement M
 store-beside-spec =

@@ -6,33 +6,65 @@ use Rattle.plan_writer.proofs.Planned.{few, place-near, behind-key, beh
 use Rattle.plan_writer.proofs.put_plan.Statement.{statement}
 use Rattle.plan_writer.proofs.put_plan.Tie as tie
 
+-- The places that the answers look back to: `start (search)` is the one behind the answer at hand.
+abbrev start : tie.Start → tie.Start
+start c = c
+
+abbrev after-put-key : tie.After-put-key → tie.After-put-key
+after-put-key c = c
+
+abbrev after-write-steps : tie.After-write-steps → tie.After-write-steps
+after-write-steps c = c
+
+abbrev after-write-lists : tie.After-write-lists → tie.After-write-lists
+after-write-lists c = c
+
+abbrev after-put : tie.After-put → tie.After-put
+after-put c = c
+
 put-key-requires : tie.Need-put-key-requires
-put-key-requires c κs = c .before .before .before .before .before .before .before .before .pre .passes
+put-key-requires c κs = start (search) .pre .passes
 
 write-steps-requires : tie.Need-write-steps-requires
 write-steps-requires c κs =
-    let entry = c .before .before .before .before .before .before .before .before .before .before .before .before in
-    let w = entry .pre in
-    (omega (arith, w .all-steps, w .all-pops), (omega (arith, w .all-steps, few w), place-near w (behind-key _ _ _ _ _ _ _ (c .before .before .before .put-key .ensures))))
+    let w = start (search) .pre in (
+      omega (arith, w .all-steps, w .all-pops),
+      (omega (arith, w .all-steps, few w), place-near w (behind-key _ _ _ _ _ _ _ (after-put-key (search) .put-key .ensures))),
+    )
 
 write-lists-requires : tie.Need-write-lists-requires
 write-lists-requires c κs =
-    let entry = c .before .before .before .before .before .before .before .before .before .before .before .before .before .before .before .before in
-    let w = entry .pre in
-    (few w, (w .starts-pass, (w .rows-pass, omega (arith, place-near w (behind-steps _ _ _ _ _ _ _ (c .before .before .before .before .before .before .before .put-key .ensures) (c .before .before .before .write-steps .ensures))))))
+    let w = start (search) .pre in (
+      few w,
+      (
+        w .starts-pass,
+        (
+          w .rows-pass,
+          omega (
+            arith,
+            place-near w (behind-steps _ _ _ _ _ _ _ (after-put-key (search) .put-key .ensures) (after-write-steps (search) .write-steps .ensures)),
+          ),
+        ),
+      ),
+    )
 
 put-requires : tie.Need-put-requires
-put-requires c κs =
-    let entry = c .before .before .before .before .before .before .before .before .before .before .before .before .before .before .before .before .before .before .before .before in (
-      omega (arith, entry .pre .declared),
-      omega (arith, place-near (entry .pre) (behind-lists _ _ _ _ _ _ _ (c .before .before .before .before .before .before .before .before .before .before .before .put-key .ensures) (c .before .before .before .before .before .before .before .write-steps .ensures) (c .before .before .before .write-lists .ensures))),
-    )
+put-requires c κs = (
+  omega (arith, start (search) .pre .declared),
+  omega (
+    arith,
+    place-near (start (search) .pre) (behind-lists _ _ _ _ _ _ _ (after-put-key (search) .put-key .ensures)
+        (after-write-steps (search) .write-steps .ensures) (after-write-lists (search) .write-lists .ensures)),
+  ),
+)
 
 same-length : tie.Need-same-length
 same-length c = search needs
 
 returns : tie.Need-returns
-returns c = plan-put _ _ _ _ _ _ _ (c .before .before .before .before .before .before .before .before .before .before .before .before .before .before .put-key .ensures) (c .before .before .before .before .before .before .before .before .before .before .write-steps .ensures) (c .before .before .before .before .before .before .write-lists .ensures) (c .before .before .put .ensures)
+returns c =
+    plan-put _ _ _ _ _ _ _ (after-put-key (search) .put-key .ensures) (after-write-steps (search) .write-steps .ensures)
+    (after-write-lists (search) .write-lists .ensures) (after-put (search) .put .ensures)
 
 pub put-plan-spec : {M : Type 1} → statement M
 put-plan-spec =

@@ -4,6 +4,16 @@ use borrow.Author.Needs.{needs}
 use Rattle.plan_writer.proofs.store_plan.Statement.{statement}
 use Rattle.plan_writer.proofs.store_plan.Tie as tie
 
+-- The places that the answers look back to: `entry (search)` is the one behind the answer at hand.
+abbrev entry : tie.Start → tie.Start
+entry c = c
+
+abbrev after-put-plan : tie.After-put-plan → tie.After-put-plan
+after-put-plan c = c
+
+abbrev after-finish : tie.After-finish → tie.After-finish
+after-finish c = c
+
 put-plan-requires : tie.Need-put-plan-requires
 put-plan-requires c κs = search needs
 
@@ -15,8 +25,8 @@ same-length c = search needs
 
 returns : tie.Need-returns
 returns c =
-    let put = c .before .before .before .before .before .before .put-plan .ensures in
-    c .before .before .finish .ensures _ (c .before .before .before .before .before .before .before .before .before .before .before .before .before .before .before .args .bytes .now) (put .0) (put .1)
+    let put = after-put-plan (search) .put-plan .ensures in
+    after-finish (search) .finish .ensures _ (entry (search) .args .bytes .now) (put .0) (put .1)
 
 pub store-plan-spec : {M : Type 1} → statement M
 store-plan-spec = tie.close (tie.spec put-plan-requires finish-requires same-length returns)

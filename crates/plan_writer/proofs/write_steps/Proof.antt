@@ -15,8 +15,24 @@ Inv-loop order pops bytes₀ at next₀ done₀ bytes next done = WritesSteps or
 abbrev μ-loop : tie.MeasureT-loop
 μ-loop order pops bytes₀ at next₀ done₀ bytes next done = length order - done
 
+-- The places that the answers look back to: `entry (search)` is the one behind the answer at hand.
+abbrev entry : tie.Start Inv-loop μ-loop → tie.Start Inv-loop μ-loop
+entry c = c
+
+abbrev at-loop : tie.At-loop Inv-loop μ-loop → tie.At-loop Inv-loop μ-loop
+at-loop c = c
+
+abbrev in-loop : tie.In-loop Inv-loop μ-loop → tie.In-loop Inv-loop μ-loop
+in-loop c = c
+
+abbrev after-put : tie.After-put Inv-loop μ-loop → tie.After-put Inv-loop μ-loop
+after-put c = c
+
+abbrev after-put2 : tie.After-put2 Inv-loop μ-loop → tie.After-put2 Inv-loop μ-loop
+after-put2 c = c
+
 loop-holds : tie.Need-loop-holds Inv-loop μ-loop
-loop-holds c = record { paired = c .before .before .before .pre .0; written = writes-all; few = c .before .before .before .pre .1 .0 }
+loop-holds c = record { paired = entry (search) .pre .0; written = writes-all; few = entry (search) .pre .1 .0 }
 
 mul-put : tie.Need-mul-put Inv-loop μ-loop
 mul-put c = search needs
@@ -25,12 +41,12 @@ shared-slice-read-put : tie.Need-shared-slice-read-put Inv-loop μ-loop
 shared-slice-read-put c = search needs
 
 cast-put : tie.Need-cast-put Inv-loop μ-loop
-cast-put c = omega (arith, c .shared-slice-known3 .given (c .before .before .before .loop .done))
+cast-put c = omega (arith, c .shared-slice-known3 .given (at-loop (search) .loop .done))
 
 put-requires : tie.Need-put-requires Inv-loop μ-loop
 put-requires c κs =
-    let loop = c .before .before .before .loop in
-    (omega (arith, c .shared-slice-known3 .given (loop .done)), omega (arith, column-near (loop .inv), c .before .before .before .before .before .before .before .pre .1 .1))
+    let loop = at-loop (search) .loop in
+    (omega (arith, c .shared-slice-known3 .given (loop .done)), omega (arith, column-near (loop .inv), entry (search) .pre .1 .1))
 
 mul-put-2 : tie.Need-mul-put-2 Inv-loop μ-loop
 mul-put-2 c = search needs
@@ -39,14 +55,14 @@ shared-slice-read-put-2 : tie.Need-shared-slice-read-put-2 Inv-loop μ-loop
 shared-slice-read-put-2 c = search needs
 
 cast-put-2 : tie.Need-cast-put-2 Inv-loop μ-loop
-cast-put-2 c = omega (arith, c .shared-slice-known4 .given (c .before .before .before .before .before .before .before .before .loop .done))
+cast-put-2 c = omega (arith, c .shared-slice-known4 .given (at-loop (search) .loop .done))
 
 put-requires-2 : tie.Need-put-requires-2 Inv-loop μ-loop
 put-requires-2 c κs =
-    let loop = c .before .before .before .before .before .before .before .before .loop in
-    let column = c .before .before .before .before .put in (
+    let loop = at-loop (search) .loop in
+    let column = after-put (search) .put in (
       omega (arith, c .shared-slice-known4 .given (loop .done)),
-      omega (arith, pops-near (loop .inv) (c .before .before .before .before .before .before .before .loop-test .taken) (column .ensures .0) (column .ensures .1), c .before .before .before .before .before .before .before .before .before .before .before .before .pre .1 .1),
+      omega (arith, pops-near (loop .inv) (in-loop (search) .loop-test .taken) (column .ensures .0) (column .ensures .1), entry (search) .pre .1 .1),
     )
 
 add-done : tie.Need-add-done Inv-loop μ-loop
@@ -57,10 +73,10 @@ loop-less c = search needs
 
 loop-again : tie.Need-loop-again Inv-loop μ-loop
 loop-again c =
-    let column = c .before .before .before .before .before .before .before .put in
-    let taken = c .before .before .put2 in
-    let there = c .before .before .before .before .before .before .before .before .before .before .loop-test .taken in
-    let inv = c .before .before .before .before .before .before .before .before .before .before .before .loop .inv in
+    let column = after-put (search) .put in
+    let taken = after-put2 (search) .put2 in
+    let there = in-loop (search) .loop-test .taken in
+    let inv = at-loop (search) .loop .inv in
     write-turn inv there (column .ensures .0) (column .ensures .1) (taken .ensures .0) (taken .ensures .1)
 
 same-length : tie.Need-same-length Inv-loop μ-loop

@@ -16,22 +16,30 @@ module _ (a : Answer) where
   unfolding refusalLine
   line-fits h = h
 
-  line-written : (d₀ : List ℕ) {d : List ℕ} {k : ℕ} → (k ≡ length (printed wordRefused (a .number ∷ a .place ∷ a .count ∷ []))) × (d ≡ sets d₀ 0 (printed wordRefused (a .number ∷ a .place ∷ a .count ∷ [])))
+  line-written : (d₀ : List ℕ) {d : List ℕ} {k : ℕ} → (k ≡ length (printed wordRefused (a .number ∷ a .place ∷ a .count ∷ []))) ×
+      (d ≡ sets d₀ 0 (printed wordRefused (a .number ∷ a .place ∷ a .count ∷ [])))
       → (k ≡ length (refusalLine a)) × (d ≡ sets d₀ 0 (refusalLine a))
   unfolding refusalLine
   line-written d₀ p = p
+
+-- The places that the answers look back to: `entry (search)` is the one behind the answer at hand.
+abbrev entry : tie.Start → tie.Start
+entry c = c
+
+abbrev written : tie.After-write-line → tie.After-write-line
+written c = c
 
 slice-aggregate-write-line : tie.Need-slice-aggregate-write-line
 slice-aggregate-write-line c = search needs
 
 write-line-requires : tie.Need-write-line-requires
-write-line-requires c κs = line-fits (c .before .before .before .args .answer) (c .before .before .before .pre)
+write-line-requires c κs = line-fits (entry (search) .args .answer) (entry (search) .pre)
 
 same-length : tie.Need-same-length
 same-length c = search needs
 
 returns : tie.Need-returns
-returns c = let e = c .before .before .before .before .before .before in line-written (e .args .answer) (e .args .bytes .now) (c .before .before .write-line .ensures)
+returns c = line-written (entry (search) .args .answer) (entry (search) .args .bytes .now) (written (search) .write-line .ensures)
 
 pub write-refusal-spec : {M : Type 1} → statement M
 write-refusal-spec =

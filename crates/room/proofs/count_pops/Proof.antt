@@ -31,7 +31,14 @@ module _ {starts order pops₀ pops : List ℕ} {k : ℕ} (inv : Writing starts 
 
   writing-turn : k < length order → {v : ℕ} → v ≡ countAt starts (getD order k 0) → Writing starts order pops₀ (set pops k v) (k + 1)
   writing-turn h {v} e = record {
-    done = rw (add-one, take-suc-set pops k v (omega (arith, inv .same)), take-suc order k 0 h, map-append (countAt starts) (take k order) (getD order k 0 ∷ []), inv .done, e);
+    done = rw (
+      add-one,
+      take-suc-set pops k v (omega (arith, inv .same)),
+      take-suc order k 0 h,
+      map-append (countAt starts) (take k order) (getD order k 0 ∷ []),
+      inv .done,
+      e,
+    );
     seen = omega arith;
     same = length-set pops k v ∙ inv .same;
     long = length-set pops k v ∙ inv .long;
@@ -43,8 +50,18 @@ Inv-loop starts order pops₀ k₀ pops k = Writing starts order pops₀ pops k
 abbrev μ-loop : tie.MeasureT-loop
 μ-loop starts order pops₀ k₀ pops k = length order - k
 
+-- The places that the answers look back to: `entry (search)` is the one behind the answer at hand.
+abbrev entry : tie.Start Inv-loop μ-loop → tie.Start Inv-loop μ-loop
+entry c = c
+
+abbrev at-loop : tie.At-loop Inv-loop μ-loop → tie.At-loop Inv-loop μ-loop
+at-loop c = c
+
+abbrev in-loop : tie.In-loop Inv-loop μ-loop → tie.In-loop Inv-loop μ-loop
+in-loop c = c
+
 loop-holds : tie.Need-loop-holds Inv-loop μ-loop
-loop-holds c = writing-start _ _ _ (c .before .before .before .pre .1)
+loop-holds c = writing-start _ _ _ (entry (search) .pre .1)
 
 mul-count-at : tie.Need-mul-count-at Inv-loop μ-loop
 mul-count-at c = search needs
@@ -53,13 +70,15 @@ shared-slice-read-count-at : tie.Need-shared-slice-read-count-at Inv-loop μ-loo
 shared-slice-read-count-at c = search needs
 
 cast-count-at : tie.Need-cast-count-at Inv-loop μ-loop
-cast-count-at c = omega (arith, c .shared-slice-known3 .given (c .before .before .loop .k))
+cast-count-at c = omega (arith, c .shared-slice-known3 .given (at-loop (search) .loop .k))
 
 count-at-requires : tie.Need-count-at-requires Inv-loop μ-loop
-count-at-requires c κs = let h = c .before .before .before .before .before .before .pre .0 (c .before .before .loop .k) (omega (arith, c .before .loop-test .taken)) in (h .0, h .1)
+count-at-requires c κs = let h = entry (search) .pre .0 (at-loop (search) .loop .k) (omega (arith, c .before .loop-test .taken)) in (h .0, h .1)
 
 cast-pops : tie.Need-cast-pops Inv-loop μ-loop
-cast-pops c = let h = c .before .before .before .before .before .before .before .pre .0 (c .before .before .before .loop .k) (omega (arith, c .before .before .loop-test .taken)) in omega (arith, c .count-at .ensures)
+cast-pops c =
+    let h = entry (search) .pre .0 (at-loop (search) .loop .k) (omega (arith, in-loop (search) .loop-test .taken)) in
+    omega (arith, c .count-at .ensures)
 
 mul-pops : tie.Need-mul-pops Inv-loop μ-loop
 mul-pops c = search needs
@@ -74,7 +93,7 @@ loop-less : tie.Need-loop-less Inv-loop μ-loop
 loop-less c = search needs
 
 loop-again : tie.Need-loop-again Inv-loop μ-loop
-loop-again c = writing-turn (c .before .before .before .loop .inv) (omega (arith, c .before .before .loop-test .taken)) (c .count-at .ensures)
+loop-again c = writing-turn (at-loop (search) .loop .inv) (omega (arith, in-loop (search) .loop-test .taken)) (c .count-at .ensures)
 
 same-length : tie.Need-same-length Inv-loop μ-loop
 same-length c = search needs

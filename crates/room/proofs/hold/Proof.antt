@@ -9,6 +9,10 @@ use Rattle.room.proofs.Entries.{entries-fit}
 use Rattle.room.proofs.hold.Statement.{statement}
 use Rattle.room.proofs.hold.Tie as tie
 
+-- The places that the answers look back to: `entry (search)` is the one behind the answer at hand.
+abbrev entry : tie.Start → tie.Start
+entry c = c
+
 sub-left : tie.Need-sub-left
 sub-left c = search needs
 
@@ -22,7 +26,13 @@ entries-requires : tie.Need-entries-requires
 entries-requires c κs = search needs
 
 add-below : tie.Need-add-below
-add-below c = let e = c .before .before .before in omega (arith, e .pre .light (e .args .depth - e .args .pops) (omega arith), c .entries .ensures, entries-fit (e .args .rows) (omega (arith, e .pre .few)))
+add-below c =
+    omega (
+      arith,
+      entry (search) .pre .light (entry (search) .args .depth - entry (search) .args .pops) (omega arith),
+      c .entries .ensures,
+      entries-fit (entry (search) .args .rows) (omega (arith, entry (search) .pre .few)),
+    )
 
 add-below-2 : tie.Need-add-below-2
 add-below-2 c = search needs
@@ -43,9 +53,12 @@ same-length : tie.Need-same-length
 same-length c = search needs
 
 returns : tie.Need-returns
-returns c = let e = c .before .before .before .before .args in
-    let left = e .depth - e .pops in
-    (omega (arith, c .at-most-one .ensures), ap (λ (v : ℕ). set (e .below .now) (left + 1) (getD (e .below .now) left 0 + v)) (c .before .entries .ensures))
+returns c = let e = entry (search) .args in
+    let left = e .depth - e .pops in (
+      omega (arith, c .at-most-one .ensures),
+      ap (λ (v : ℕ). set (e .below .now) (left + 1) (getD (e .below .now) left 0 + v))
+          (c .before .entries .ensures),
+    )
 
 pub hold-spec : {M : Type 1} → statement M
 hold-spec =

@@ -11,8 +11,16 @@ use Rattle.room.proofs.Entries.{entries-fit}
 use Rattle.room.proofs.in_use.Statement.{statement}
 use Rattle.room.proofs.in_use.Tie as tie
 
-room-is : (below : List ℕ) (depth pops rows : ℕ) {x u : ℕ} → x ≡ min pops 1 → u ≡ t (rows + 1) → getD below (depth - x) 0 + u ≡ getD below (depth - min pops 1) 0 + t (rows + 1)
+room-is : (below : List ℕ) (depth pops rows : ℕ) {x u : ℕ} → x ≡ min pops 1 → u ≡ t (rows + 1) → getD below (depth - x) 0 + u ≡ getD below
+    (depth - min pops 1) 0 + t (rows + 1)
 room-is below depth pops rows e f = rw (e, f)
+
+-- The places that the answers look back to: `entry (search)` is the one behind the answer at hand.
+abbrev entry : tie.Start → tie.Start
+entry c = c
+
+abbrev after-at-most-one : tie.After-at-most-one → tie.After-at-most-one
+after-at-most-one c = c
 
 at-most-one-requires : tie.Need-at-most-one-requires
 at-most-one-requires c κs = search needs
@@ -33,10 +41,18 @@ entries-requires : tie.Need-entries-requires
 entries-requires c κs = search needs
 
 add-result : tie.Need-add-result
-add-result c = let e = c .before .before .before .before in omega (arith, e .pre .light (e .args .depth - c .before .before .at-most-one .result) (omega arith), c .entries .ensures, entries-fit (e .args .rows + 1) (omega (arith, e .pre .few)))
+add-result c =
+    omega (
+      arith,
+      entry (search) .pre .light (entry (search) .args .depth - after-at-most-one (search) .at-most-one .result) (omega arith),
+      c .entries .ensures,
+      entries-fit (entry (search) .args .rows + 1) (omega (arith, entry (search) .pre .few)),
+    )
 
 returns : tie.Need-returns
-returns c = let e = c .before .before .before .before .args in room-is (e .below .now) (e .depth) (e .pops) (e .rows) (c .before .before .at-most-one .ensures) (c .entries .ensures)
+returns c =
+    let e = entry (search) .args in
+    room-is (e .below .now) (e .depth) (e .pops) (e .rows) (after-at-most-one (search) .at-most-one .ensures) (c .entries .ensures)
 
 pub in-use-spec : {M : Type 1} → statement M
 in-use-spec =

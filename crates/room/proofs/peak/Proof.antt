@@ -16,11 +16,33 @@ Inv-loop factor order pops below₀ depth₀ most₀ k₀ below depth most k = P
 abbrev μ-loop : tie.MeasureT-loop
 μ-loop factor order pops below₀ depth₀ most₀ k₀ below depth most k = length order - k
 
+-- The places that the answers look back to: `entry (search)` is the one behind the answer at hand.
+abbrev entry : tie.Start Inv-loop μ-loop → tie.Start Inv-loop μ-loop
+entry c = c
+
+abbrev at-loop : tie.At-loop Inv-loop μ-loop → tie.At-loop Inv-loop μ-loop
+at-loop c = c
+
+abbrev in-loop : tie.In-loop Inv-loop μ-loop → tie.In-loop Inv-loop μ-loop
+in-loop c = c
+
+abbrev after-rows-of : tie.After-rows-of Inv-loop μ-loop → tie.After-rows-of Inv-loop μ-loop
+after-rows-of c = c
+
+abbrev after-in-use : tie.After-in-use Inv-loop μ-loop → tie.After-in-use Inv-loop μ-loop
+after-in-use c = c
+
+abbrev after-greater : tie.After-greater Inv-loop μ-loop → tie.After-greater Inv-loop μ-loop
+after-greater c = c
+
+abbrev held : tie.After-hold Inv-loop μ-loop → tie.After-hold Inv-loop μ-loop
+held c = c
+
 slice-write-below : tie.Need-slice-write-below Inv-loop μ-loop
 slice-write-below c = search needs
 
 loop-holds : tie.Need-loop-holds Inv-loop μ-loop
-loop-holds c = peaked-start _ _ _ (c .before .before .before .before .args .below .now) (c .before .before .before .before .pre .1)
+loop-holds c = peaked-start _ _ _ (entry (search) .args .below .now) (entry (search) .pre .1)
 
 mul-p : tie.Need-mul-p Inv-loop μ-loop
 mul-p c = search needs
@@ -29,7 +51,7 @@ shared-slice-read-p : tie.Need-shared-slice-read-p Inv-loop μ-loop
 shared-slice-read-p c = search needs
 
 cast-p : tie.Need-cast-p Inv-loop μ-loop
-cast-p c = omega (arith, c .shared-slice-known4 .given (c .before .before .loop .k))
+cast-p c = omega (arith, c .shared-slice-known4 .given (at-loop (search) .loop .k))
 
 mul-rows-of : tie.Need-mul-rows-of Inv-loop μ-loop
 mul-rows-of c = search needs
@@ -38,19 +60,23 @@ shared-slice-read-rows-of : tie.Need-shared-slice-read-rows-of Inv-loop μ-loop
 shared-slice-read-rows-of c = search needs
 
 cast-rows-of : tie.Need-cast-rows-of Inv-loop μ-loop
-cast-rows-of c = omega (arith, c .shared-slice-known5 .given (c .before .before .before .loop .k))
+cast-rows-of c = omega (arith, c .shared-slice-known5 .given (at-loop (search) .loop .k))
 
 rows-of-requires : tie.Need-rows-of-requires Inv-loop μ-loop
-rows-of-requires c κs = c .before .before .before .before .before .before .before .before .pre .0 .column (c .before .before .before .loop .k) (c .before .before .loop-test .taken)
+rows-of-requires c κs = entry (search) .pre .0 .column (at-loop (search) .loop .k) (in-loop (search) .loop-test .taken)
 
 in-use-requires : tie.Need-in-use-requires Inv-loop μ-loop
-in-use-requires c κs = stacked-over _ _ _ (c .before .before .before .before .before .loop .inv .stacked) (c .before .before .before .before .before .before .before .before .before .before .pre .0) (c .before .before .before .before .loop-test .taken) (c .before .rows-of .ensures)
+in-use-requires c κs =
+    stacked-over _ _ _ (at-loop (search) .loop .inv .stacked) (entry (search) .pre .0) (in-loop (search) .loop-test .taken)
+    (c .before .rows-of .ensures)
 
 greater-requires : tie.Need-greater-requires Inv-loop μ-loop
 greater-requires c κs = search needs
 
 hold-requires : tie.Need-hold-requires Inv-loop μ-loop
-hold-requires c κs = stacked-over _ _ _ (c .before .before .before .before .before .before .before .before .loop .inv .stacked) (c .before .before .before .before .before .before .before .before .before .before .before .before .before .pre .0) (c .before .before .before .before .before .before .before .loop-test .taken) (c .before .before .before .before .rows-of .ensures)
+hold-requires c κs =
+    stacked-over _ _ _ (at-loop (search) .loop .inv .stacked) (entry (search) .pre .0) (in-loop (search) .loop-test .taken)
+    (after-rows-of (search) .rows-of .ensures)
 
 add-k : tie.Need-add-k Inv-loop μ-loop
 add-k c = search needs
@@ -59,10 +85,13 @@ loop-less : tie.Need-loop-less Inv-loop μ-loop
 loop-less c = search needs
 
 loop-again : tie.Need-loop-again Inv-loop μ-loop
-loop-again c = peaked-turn _ _ _ (c .before .before .before .before .before .before .before .before .before .before .before .loop .inv) (c .before .before .before .before .before .before .before .before .before .before .before .before .before .before .before .before .pre .0) (c .before .before .before .before .before .before .before .before .before .before .loop-test .taken) (c .before .before .before .before .before .before .before .rows-of .ensures) (c .before .before .before .before .before .in-use .ensures) (c .before .before .before .before .greater .ensures) (c .before .before .hold .ensures .0) (c .before .before .hold .ensures .1)
+loop-again c =
+    peaked-turn _ _ _ (at-loop (search) .loop .inv) (entry (search) .pre .0) (in-loop (search) .loop-test .taken)
+    (after-rows-of (search) .rows-of .ensures) (after-in-use (search) .in-use .ensures) (after-greater (search) .greater .ensures)
+    (held (search) .hold .ensures .0) (held (search) .hold .ensures .1)
 
 same-length : tie.Need-same-length Inv-loop μ-loop
-same-length c = c .before .loop .inv .stacked .long ∙ length-set (c .before .before .before .before .before .before .args .below .now) 0 0
+same-length c = c .before .loop .inv .stacked .long ∙ length-set (entry (search) .args .below .now) 0 0
 
 returns : tie.Need-returns Inv-loop μ-loop
 returns c = peaked-stop _ _ _ (c .before .loop .inv) (c .loop-test .left)

@@ -7,6 +7,10 @@ use Rattle.room.specs.Rows.{rowsIn}
 use Rattle.room.proofs.rows_of.Statement.{statement}
 use Rattle.room.proofs.rows_of.Tie as tie
 
+-- The places that the answers look back to: `entry (search)` is the one behind the answer at hand.
+abbrev entry : tie.Start → tie.Start
+entry c = c
+
 mul-result : tie.Need-mul-result
 mul-result c = search needs
 
@@ -27,7 +31,7 @@ sub-result-2 c = search needs
 
 returns : tie.Need-returns
 unfolding rowsIn
-returns c = (refl, omega (arith, c .before .before .pre .few))
+returns c = (refl, omega (arith, entry (search) .pre .few))
 
 pub rows-of-spec : {M : Type 1} → statement M
 rows-of-spec =

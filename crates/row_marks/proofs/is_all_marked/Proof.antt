@@ -7,26 +7,45 @@ use Rattle.row_marks.proofs.Judging.{not-as-many, as-many}
 use Rattle.row_marks.proofs.is_all_marked.Statement.{statement}
 use Rattle.row_marks.proofs.is_all_marked.Tie as tie
 
+-- The places that the answers look back to: `entry (search)` is the one behind the answer at hand.
+abbrev entry : tie.Start → tie.Start
+entry c = c
+
+abbrev marked : tie.After-mark-column → tie.After-mark-column
+marked c = c
+
+abbrev else1 : tie.Else1 → tie.Else1
+else1 c = c
+
 mark-column-requires : tie.Need-mark-column-requires
-mark-column-requires c κs = (c .before .before .before .before .before .before .before .pre .0, (c .before .before .before .before .before .before .before .pre .1 .0, c .before .before .before .before .before .before .before .pre .1 .1 .0))
+mark-column-requires c κs = (entry (search) .pre .0, (entry (search) .pre .1 .0, entry (search) .pre .1 .1 .0))
 
 same-length : tie.Need-same-length
 same-length c = omega arith
 
 returns : tie.Need-returns
-returns c = (not-as-many (c .before .before .before .mark-column .ensures) _ (c .if1 .taken), c .before .before .before .mark-column .ensures .changed)
+returns c = (not-as-many (marked (search) .mark-column .ensures) _ (c .if1 .taken), marked (search) .mark-column .ensures .changed)
 
 add-covered : tie.Need-add-covered
 add-covered c = omega arith
 
 covered-requires : tie.Need-covered-requires
-covered-requires c κs = record { most = c .before .before .before .before .before .before .before .before .before .before .before .before .pre .1 .1 .1 .1; long = rw (c .before .before .before .before .mark-column .kept .1 .1 .1 .1 .1 .1 .0) (c .before .before .before .before .before .before .before .before .before .before .before .before .pre .1 .1 .0 .work-long) }
+covered-requires c κs =
+    record {
+      most = entry (search) .pre .1 .1 .1 .1;
+      long = rw (marked (search) .mark-column .kept .1 .1 .1 .1 .1 .1 .0)
+          (entry (search) .pre .1 .1 .0 .work-long);
+    }
 
 same-length-2 : tie.Need-same-length-2
 same-length-2 c = omega arith
 
 returns-2 : tie.Need-returns-2
-returns-2 c = (c .covered .ensures ∙ as-many (c .before .before .before .before .before .mark-column .ensures) _ (tested-below (c .before .before .before .before .before .before .before .before .before .before .before .before .before .pre .0)) (c .before .before .before .before .before .before .before .before .before .before .before .before .before .pre .1 .1 .1) (c .before .before .if1 .left), c .before .before .before .before .before .mark-column .ensures .changed)
+returns-2 c = (
+  c .covered .ensures ∙ as-many (marked (search) .mark-column .ensures) _ (tested-below (entry (search) .pre .0)) (entry (search) .pre .1 .1 .1)
+      (else1 (search) .if1 .left),
+  marked (search) .mark-column .ensures .changed,
+)
 
 pub is-all-marked-spec : {M : Type 1} → statement M
 is-all-marked-spec =

@@ -5,7 +5,8 @@ use native.Mathlib.Omega.{arith}
 use Rattle.papers.specs.Job.{columnOf}
 use Rattle.column_laws.proofs.Columns.{tested-below}
 use Rattle.column_list.proofs.Begins.{part-of}
-use Rattle.row_marks.proofs.Counting.{Counting, own-once, own-markable, own-change, count-begin, count-few, child-at, link, more-once, more-markable, falls, count-turn, count-stop}
+use Rattle.row_marks.proofs.Counting.{Counting, own-once, own-markable, own-change, count-begin, count-few, child-at, link}
+use Rattle.row_marks.proofs.Counting.{more-once, more-markable, falls, count-turn, count-stop}
 use Rattle.row_marks.proofs.mark_column.Statement.{statement}
 use Rattle.row_marks.proofs.mark_column.Tie as tie
 
@@ -15,14 +16,40 @@ Inv-loop n m starts rows fstarts frows work₀ count₀ c₀ work count c = Coun
 abbrev μ-loop : tie.MeasureT-loop
 μ-loop n m starts rows fstarts frows work₀ count₀ c₀ work count c = c
 
+-- The places that the answers look back to: `entry (search)` is the one behind the answer at hand.
+abbrev entry : tie.Start Inv-loop μ-loop → tie.Start Inv-loop μ-loop
+entry c = c
+
+abbrev after-pattern-rows : tie.After-pattern-rows Inv-loop μ-loop → tie.After-pattern-rows Inv-loop μ-loop
+after-pattern-rows c = c
+
+abbrev after-mark-new : tie.After-mark-new Inv-loop μ-loop → tie.After-mark-new Inv-loop μ-loop
+after-mark-new c = c
+
+abbrev at-loop : tie.At-loop Inv-loop μ-loop → tie.At-loop Inv-loop μ-loop
+at-loop c = c
+
+abbrev in-loop : tie.In-loop Inv-loop μ-loop → tie.In-loop Inv-loop μ-loop
+in-loop c = c
+
+abbrev after-handed-on : tie.After-handed-on Inv-loop μ-loop → tie.After-handed-on Inv-loop μ-loop
+after-handed-on c = c
+
+abbrev after-mark-new2 : tie.After-mark-new2 Inv-loop μ-loop → tie.After-mark-new2 Inv-loop μ-loop
+after-mark-new2 c = c
+
 add-mark-new : tie.Need-add-mark-new Inv-loop μ-loop
 add-mark-new c = omega arith
 
 pattern-rows-requires : tie.Need-pattern-rows-requires Inv-loop μ-loop
-pattern-rows-requires c κs = part-of (c .before .before .before .before .before .pre .0) (c .before .before .before .before .before .pre .1 .0)
+pattern-rows-requires c κs = part-of (entry (search) .pre .0) (entry (search) .pre .1 .0)
 
 mark-new-requires : tie.Need-mark-new-requires Inv-loop μ-loop
-mark-new-requires c κs = (own-once (tested-below (c .before .before .before .before .before .before .before .pre .0)) (c .before .before .before .before .before .before .before .pre .1 .0) (c .before .before .before .before .before .before .before .pre .1 .1) _ (c .before .pattern-rows .ensures), own-markable (tested-below (c .before .before .before .before .before .before .before .pre .0)) (c .before .before .before .before .before .before .before .pre .1 .0) (c .before .before .before .before .before .before .before .pre .1 .1) _ (c .before .pattern-rows .ensures))
+mark-new-requires c κs = (
+  own-once (tested-below (entry (search) .pre .0)) (entry (search) .pre .1 .0) (entry (search) .pre .1 .1) _ (c .before .pattern-rows .ensures),
+  own-markable (tested-below (entry (search) .pre .0)) (entry (search) .pre .1 .0) (entry (search) .pre .1 .1) _
+      (c .before .pattern-rows .ensures),
+)
 
 add-c : tie.Need-add-c Inv-loop μ-loop
 add-c c = omega arith
@@ -34,40 +61,69 @@ slice-read-c : tie.Need-slice-read-c Inv-loop μ-loop
 slice-read-c c = omega arith
 
 loop-holds : tie.Need-loop-holds Inv-loop μ-loop
-loop-holds c = count-begin (tested-below (c .before .before .before .before .before .before .before .before .before .before .before .pre .0)) (c .before .before .before .before .before .before .before .before .before .before .before .pre .1 .0) (c .before .before .before .before .before .before .before .before .before .before .before .pre .1 .1) _ (c .before .before .before .before .before .pattern-rows .ensures) _ _ (c .before .before .before .mark-new .ensures) (c .before .before .before .mark-new .kept .1 .1 .1 .0)
+loop-holds c =
+    count-begin (tested-below (entry (search) .pre .0)) (entry (search) .pre .1 .0) (entry (search) .pre .1 .1) _
+    (after-pattern-rows (search) .pattern-rows .ensures) _ _ (after-mark-new (search) .mark-new .ensures)
+    (after-mark-new (search) .mark-new .kept .1 .1 .1 .0)
 
 add-mark-new-2 : tie.Need-add-mark-new-2 Inv-loop μ-loop
 add-mark-new-2 c = omega arith
 
 handed-on-requires : tie.Need-handed-on-requires Inv-loop μ-loop
-handed-on-requires c κs = child-at (tested-below (c .before .before .before .before .before .before .before .before .before .before .before .before .before .pre .0)) (c .before .loop .inv) (c .loop-test .taken)
+handed-on-requires c κs = child-at (tested-below (entry (search) .pre .0)) (c .before .loop .inv) (c .loop-test .taken)
 
 mark-new-requires-2 : tie.Need-mark-new-requires-2 Inv-loop μ-loop
-mark-new-requires-2 c κs = (more-once (tested-below (c .before .before .before .before .before .before .before .before .before .before .before .before .before .before .before .pre .0)) (c .before .before .before .loop .inv) (c .before .before .loop-test .taken) _ (c .before .handed-on .ensures), more-markable (tested-below (c .before .before .before .before .before .before .before .before .before .before .before .before .before .before .before .pre .0)) (c .before .before .before .loop .inv) (c .before .before .loop-test .taken) _ (c .before .handed-on .ensures))
+mark-new-requires-2 c κs = (
+  more-once (tested-below (entry (search) .pre .0)) (at-loop (search) .loop .inv) (in-loop (search) .loop-test .taken) _
+      (c .before .handed-on .ensures),
+  more-markable (tested-below (entry (search) .pre .0)) (at-loop (search) .loop .inv)
+      (in-loop (search) .loop-test .taken) _ (c .before .handed-on .ensures),
+)
 
 add-count : tie.Need-add-count Inv-loop μ-loop
-add-count c = let l = count-few (tested-below (c .before .before .before .before .before .before .before .before .before .before .before .before .before .before .before .before .before .before .pre .0)) (count-turn (tested-below (c .before .before .before .before .before .before .before .before .before .before .before .before .before .before .before .before .before .before .pre .0)) (c .before .before .before .before .before .before .loop .inv) (c .before .before .before .before .before .loop-test .taken) _ (c .before .before .before .before .handed-on .ensures) _ _ (c .before .before .mark-new2 .ensures) (c .before .before .mark-new2 .kept .1 .1 .1 .0)) in let f = c .before .before .before .before .before .before .before .before .before .before .before .before .before .before .before .before .before .before .pre .0 .few in omega arith
+add-count c =
+    let l = count-few (tested-below (entry (search) .pre .0)) (count-turn (tested-below (entry (search) .pre .0)) (at-loop (search) .loop .inv)
+    (in-loop (search) .loop-test .taken) _ (after-handed-on (search) .handed-on .ensures) _ _ (after-mark-new2 (search) .mark-new2 .ensures)
+    (after-mark-new2 (search) .mark-new2 .kept .1 .1 .1 .0)) in
+    let f = entry (search) .pre .0 .few in omega arith
 
 add-c-2 : tie.Need-add-c-2 Inv-loop μ-loop
-add-c-2 c = let l = link (tested-below (c .before .before .before .before .before .before .before .before .before .before .before .before .before .before .before .before .before .before .pre .0)) (c .before .before .before .before .before .before .loop .inv) (c .before .before .before .before .before .loop-test .taken) in let e = c .before .before .before .before .before .before .loop .inv .long in let k = c .before .before .before .before .before .before .before .before .before .before .mark-new .kept .1 .1 .1 .0 in let g = c .before .before .before .before .before .before .before .before .before .before .before .before .before .before .before .before .before .before .good .1 .1 .1 .1 .1 .1 .0 in omega arith
+add-c-2 c =
+    let l = link (tested-below (entry (search) .pre .0)) (at-loop (search) .loop .inv) (in-loop (search) .loop-test .taken) in
+    let e = at-loop (search) .loop .inv .long in
+    let k = after-mark-new (search) .mark-new .kept .1 .1 .1 .0 in let g = entry (search) .good .1 .1 .1 .1 .1 .1 .0 in omega arith
 
 mul-c-2 : tie.Need-mul-c-2 Inv-loop μ-loop
-mul-c-2 c = let l = link (tested-below (c .before .before .before .before .before .before .before .before .before .before .before .before .before .before .before .before .before .before .pre .0)) (c .before .before .before .before .before .before .loop .inv) (c .before .before .before .before .before .loop-test .taken) in let e = c .before .before .before .before .before .before .loop .inv .long in let k = c .before .before .before .before .before .before .before .before .before .before .mark-new .kept .1 .1 .1 .0 in let g = c .before .before .before .before .before .before .before .before .before .before .before .before .before .before .before .before .before .before .good .1 .1 .1 .1 .1 .1 .0 in omega arith
+mul-c-2 c =
+    let l = link (tested-below (entry (search) .pre .0)) (at-loop (search) .loop .inv) (in-loop (search) .loop-test .taken) in
+    let e = at-loop (search) .loop .inv .long in
+    let k = after-mark-new (search) .mark-new .kept .1 .1 .1 .0 in let g = entry (search) .good .1 .1 .1 .1 .1 .1 .0 in omega arith
 
 slice-read-c-2 : tie.Need-slice-read-c-2 Inv-loop μ-loop
-slice-read-c-2 c = rw (c .before .before .before .mark-new2 .kept .1 .1 .1 .0) (link (tested-below (c .before .before .before .before .before .before .before .before .before .before .before .before .before .before .before .before .before .before .before .pre .0)) (c .before .before .before .before .before .before .before .loop .inv) (c .before .before .before .before .before .before .loop-test .taken))
+slice-read-c-2 c =
+    rw (after-mark-new2 (search) .mark-new2 .kept .1 .1 .1 .0) (link (tested-below (entry (search) .pre .0)) (at-loop (search) .loop .inv)
+    (in-loop (search) .loop-test .taken))
 
 loop-less : tie.Need-loop-less Inv-loop μ-loop
-loop-less c = falls (tested-below (c .before .before .before .before .before .before .before .before .before .before .before .before .before .before .before .before .before .before .before .pre .0)) (c .before .before .before .before .before .before .before .loop .inv) (c .before .before .before .before .before .before .loop-test .taken) _ (c .before .before .before .before .before .handed-on .ensures) _ _ (c .before .before .before .mark-new2 .ensures) (c .before .before .before .mark-new2 .kept .1 .1 .1 .0)
+loop-less c =
+    falls (tested-below (entry (search) .pre .0)) (at-loop (search) .loop .inv) (in-loop (search) .loop-test .taken) _
+    (after-handed-on (search) .handed-on .ensures) _ _ (after-mark-new2 (search) .mark-new2 .ensures)
+    (after-mark-new2 (search) .mark-new2 .kept .1 .1 .1 .0)
 
 loop-again : tie.Need-loop-again Inv-loop μ-loop
-loop-again c = count-turn (tested-below (c .before .before .before .before .before .before .before .before .before .before .before .before .before .before .before .before .before .before .before .pre .0)) (c .before .before .before .before .before .before .before .loop .inv) (c .before .before .before .before .before .before .loop-test .taken) _ (c .before .before .before .before .before .handed-on .ensures) _ _ (c .before .before .before .mark-new2 .ensures) (c .before .before .before .mark-new2 .kept .1 .1 .1 .0)
+loop-again c =
+    count-turn (tested-below (entry (search) .pre .0)) (at-loop (search) .loop .inv) (in-loop (search) .loop-test .taken) _
+    (after-handed-on (search) .handed-on .ensures) _ _ (after-mark-new2 (search) .mark-new2 .ensures)
+    (after-mark-new2 (search) .mark-new2 .kept .1 .1 .1 .0)
 
 same-length : tie.Need-same-length Inv-loop μ-loop
 same-length c = omega arith
 
 returns : tie.Need-returns Inv-loop μ-loop
-returns c = count-stop (tested-below (c .before .before .before .before .before .before .before .before .before .before .before .before .before .pre .0)) (c .before .loop .inv) (own-change (tested-below (c .before .before .before .before .before .before .before .before .before .before .before .before .before .pre .0)) (c .before .before .before .before .before .before .before .before .before .before .before .before .before .pre .1 .0) (c .before .before .before .before .before .before .before .before .before .before .before .before .before .pre .1 .1) _ (c .before .before .before .before .before .before .before .pattern-rows .ensures) _ (c .before .before .before .before .before .mark-new .ensures .1)) (c .loop-test .left)
+returns c =
+    count-stop (tested-below (entry (search) .pre .0)) (c .before .loop .inv) (own-change (tested-below (entry (search) .pre .0))
+    (entry (search) .pre .1 .0) (entry (search) .pre .1 .1) _ (after-pattern-rows (search) .pattern-rows .ensures) _
+    (after-mark-new (search) .mark-new .ensures .1)) (c .loop-test .left)
 
 pub mark-column-spec : {M : Type 1} → statement M
 mark-column-spec =

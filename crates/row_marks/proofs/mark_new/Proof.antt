@@ -14,6 +14,16 @@ Inv-loop n j list work₀ count₀ k₀ work count k = Newly n j list work₀ wo
 abbrev μ-loop : tie.MeasureT-loop
 μ-loop n j list work₀ count₀ k₀ work count k = length list - k
 
+-- The places that the answers look back to: `entry (search)` is the one behind the answer at hand.
+abbrev entry : tie.Start Inv-loop μ-loop → tie.Start Inv-loop μ-loop
+entry c = c
+
+abbrev at-loop : tie.At-loop Inv-loop μ-loop → tie.At-loop Inv-loop μ-loop
+at-loop c = c
+
+abbrev in-loop : tie.In-loop Inv-loop μ-loop → tie.In-loop Inv-loop μ-loop
+in-loop c = c
+
 loop-holds : tie.Need-loop-holds Inv-loop μ-loop
 loop-holds c = new-begin _ _ _ _ (c .pre .0)
 
@@ -27,22 +37,27 @@ shared-slice-read-p : tie.Need-shared-slice-read-p Inv-loop μ-loop
 shared-slice-read-p c = omega arith
 
 cast-p : tie.Need-cast-p Inv-loop μ-loop
-cast-p c = omega (arith, c .shared-slice-known .given (c .before .before .loop .k))
+cast-p c = omega (arith, c .shared-slice-known .given (at-loop (search) .loop .k))
 
 add-p-2 : tie.Need-add-p-2 Inv-loop μ-loop
-add-p-2 c = let h = mark-place (c .before .before .before .pre .1) _ (c .before .loop-test .taken) in let g = c .before .before .before .good .1 .1 .1 .0 in omega arith
+add-p-2 c = let h = mark-place (entry (search) .pre .1) _ (c .before .loop-test .taken) in let g = entry (search) .good .1 .1 .1 .0 in omega arith
 
 mul-old : tie.Need-mul-old Inv-loop μ-loop
-mul-old c = let h = mark-place (c .before .before .before .pre .1) _ (c .before .loop-test .taken) in let g = c .before .before .before .good .1 .1 .1 .0 in omega arith
+mul-old c = let h = mark-place (entry (search) .pre .1) _ (c .before .loop-test .taken) in let g = entry (search) .good .1 .1 .1 .0 in omega arith
 
 slice-read-old : tie.Need-slice-read-old Inv-loop μ-loop
-slice-read-old c = let h = mark-place (c .before .before .before .before .pre .1) _ (c .before .before .loop-test .taken) in let l = c .before .before .before .loop .inv .marking .long in omega arith
+slice-read-old c =
+    let h = mark-place (entry (search) .pre .1) _ (in-loop (search) .loop-test .taken) in
+    let l = at-loop (search) .loop .inv .marking .long in omega arith
 
 mul-work : tie.Need-mul-work Inv-loop μ-loop
-mul-work c = let h = mark-place (c .before .before .before .before .pre .1) _ (c .before .before .loop-test .taken) in let g = c .before .before .before .before .good .1 .1 .1 .0 in omega arith
+mul-work c =
+    let h = mark-place (entry (search) .pre .1) _ (in-loop (search) .loop-test .taken) in let g = entry (search) .good .1 .1 .1 .0 in omega arith
 
 slice-write-work : tie.Need-slice-write-work Inv-loop μ-loop
-slice-write-work c = let h = mark-place (c .before .before .before .before .pre .1) _ (c .before .before .loop-test .taken) in let l = c .before .before .before .loop .inv .marking .long in omega arith
+slice-write-work c =
+    let h = mark-place (entry (search) .pre .1) _ (in-loop (search) .loop-test .taken) in
+    let l = at-loop (search) .loop .inv .marking .long in omega arith
 
 add-k : tie.Need-add-k Inv-loop μ-loop
 add-k c = omega arith
@@ -51,10 +66,10 @@ loop-less : tie.Need-loop-less Inv-loop μ-loop
 loop-less c = omega arith
 
 loop-again : tie.Need-loop-again Inv-loop μ-loop
-loop-again c = new-old (c .before .before .before .before .loop .inv) (c .before .before .before .loop-test .taken) (c .if1 .taken)
+loop-again c = new-old (at-loop (search) .loop .inv) (in-loop (search) .loop-test .taken) (c .if1 .taken)
 
 add-count : tie.Need-add-count Inv-loop μ-loop
-add-count c = let f = c .before .before .before .before .loop .inv .few in omega arith
+add-count c = let f = at-loop (search) .loop .inv .few in omega arith
 
 add-k-2 : tie.Need-add-k-2 Inv-loop μ-loop
 add-k-2 c = omega arith
@@ -63,7 +78,7 @@ loop-less-2 : tie.Need-loop-less-2 Inv-loop μ-loop
 loop-less-2 c = omega arith
 
 loop-again-2 : tie.Need-loop-again-2 Inv-loop μ-loop
-loop-again-2 c = new-mark (c .before .before .before .before .loop .inv) (c .before .before .before .loop-test .taken) (c .if1 .left)
+loop-again-2 c = new-mark (at-loop (search) .loop .inv) (in-loop (search) .loop-test .taken) (c .if1 .left)
 
 same-length : tie.Need-same-length Inv-loop μ-loop
 same-length c = let l = c .before .loop .inv .marking .long in omega arith

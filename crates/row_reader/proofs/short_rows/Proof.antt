@@ -17,57 +17,86 @@ Inv-loop plan at b left t rows₀ most i₀ last₀ rows i last = ShortRead plan
 abbrev μ-loop : tie.MeasureT-loop
 μ-loop plan at b left t rows₀ most i₀ last₀ rows i last = most - i
 
+-- The places that the answers look back to: `entry (search)` is the one behind the answer at hand.
+abbrev entry : tie.Start Inv-loop μ-loop → tie.Start Inv-loop μ-loop
+entry c = c
+
+abbrev after-most-short : tie.After-most-short Inv-loop μ-loop → tie.After-most-short Inv-loop μ-loop
+after-most-short c = c
+
+abbrev at-loop : tie.At-loop Inv-loop μ-loop → tie.At-loop Inv-loop μ-loop
+at-loop c = c
+
+abbrev in-loop : tie.In-loop Inv-loop μ-loop → tie.In-loop Inv-loop μ-loop
+in-loop c = c
+
+abbrev after-wide8 : tie.After-wide8 Inv-loop μ-loop → tie.After-wide8 Inv-loop μ-loop
+after-wide8 c = c
+
+abbrev else1 : tie.Else1 Inv-loop μ-loop → tie.Else1 Inv-loop μ-loop
+else1 c = c
+
 sub-most-short : tie.Need-sub-most-short Inv-loop μ-loop
-sub-most-short c = c .before .before .pre .0
+sub-most-short c = entry (search) .pre .0
 
 most-short-requires : tie.Need-most-short-requires Inv-loop μ-loop
 most-short-requires c κs = search needs
 
 loop-holds : tie.Need-loop-holds Inv-loop μ-loop
-loop-holds c = short-start _ _ _ _ _ _ (c .before .before .before .pre .0)
+loop-holds c = short-start _ _ _ _ _ _ (entry (search) .pre .0)
 
 add-wide8 : tie.Need-add-wide8 Inv-loop μ-loop
-add-wide8 c = inside-fits (c .before .before .before .before .before .good .0 .0) (le-of-lt (before-end _ (c .loop-test .taken) (c .before .before .most-short .ensures .1)))
+add-wide8 c =
+    inside-fits (entry (search) .good .0 .0) (le-of-lt (before-end _ (c .loop-test .taken) (after-most-short (search) .most-short .ensures .1)))
 
 shared-slice-read-wide8 : tie.Need-shared-slice-read-wide8 Inv-loop μ-loop
-shared-slice-read-wide8 c = before-end _ (c .before .loop-test .taken) (c .before .before .before .most-short .ensures .1)
+shared-slice-read-wide8 c = before-end _ (c .before .loop-test .taken) (after-most-short (search) .most-short .ensures .1)
 
 wide8-requires : tie.Need-wide8-requires Inv-loop μ-loop
 wide8-requires c κs = search needs
 
 same-length : tie.Need-same-length Inv-loop μ-loop
-same-length c = short-long (c .before .before .before .before .loop .inv)
+same-length c = short-long (at-loop (search) .loop .inv)
 
 returns : tie.Need-returns Inv-loop μ-loop
-returns c = c .before .before .before .before .loop .inv
+returns c = at-loop (search) .loop .inv
 
 add-last : tie.Need-add-last Inv-loop μ-loop
-add-last c = let p = c .before .before .before .before .before .before .before .before .before .pre in fits-bits 32 tt (short-narrow (c .before .before .before .before .before .loop .inv) (p .1) (p .2) (c .before .before .wide8 .ensures .1))
+add-last c =
+    let p = entry (search) .pre in
+    fits-bits 32 tt (short-narrow (at-loop (search) .loop .inv) (p .1) (p .2) (after-wide8 (search) .wide8 .ensures .1))
 
 narrow32-requires : tie.Need-narrow32-requires Inv-loop μ-loop
-narrow32-requires c κs = let p = c .before .before .before .before .before .before .before .before .before .pre in short-narrow (c .before .before .before .before .before .loop .inv) (p .1) (p .2) (c .before .before .wide8 .ensures .1)
+narrow32-requires c κs =
+    let p = entry (search) .pre in short-narrow (at-loop (search) .loop .inv) (p .1) (p .2) (after-wide8 (search) .wide8 .ensures .1)
 
 add-rows : tie.Need-add-rows Inv-loop μ-loop
-add-rows c = inside-fits (c .before .before .before .before .before .before .before .before .before .before .good .1 .1 .1 .1 .1 .0 .0) (le-of-lt (before-end _ (c .before .before .before .before .before .loop-test .taken) (c .before .before .before .before .before .before .before .most-short .ensures .2)))
+add-rows c =
+    inside-fits (entry (search) .good .1 .1 .1 .1 .1 .0 .0)
+    (le-of-lt (before-end _ (in-loop (search) .loop-test .taken) (after-most-short (search) .most-short .ensures .2)))
 
 mul-rows : tie.Need-mul-rows Inv-loop μ-loop
-mul-rows c = bytes-fit (before-end _ (c .before .before .before .before .before .loop-test .taken) (c .before .before .before .before .before .before .before .most-short .ensures .2)) (c .before .before .before .before .before .before .before .before .before .before .good .1 .1 .1 .1 .1 .0 .1)
+mul-rows c =
+    bytes-fit (before-end _ (in-loop (search) .loop-test .taken) (after-most-short (search) .most-short .ensures .2))
+    (entry (search) .good .1 .1 .1 .1 .1 .0 .1)
 
 slice-write-rows : tie.Need-slice-write-rows Inv-loop μ-loop
-slice-write-rows c = short-place (c .before .before .before .before .before .before .loop .inv) (c .before .before .before .before .before .loop-test .taken) (c .before .before .before .before .before .before .before .most-short .ensures .2)
+slice-write-rows c =
+    short-place (at-loop (search) .loop .inv) (in-loop (search) .loop-test .taken) (after-most-short (search) .most-short .ensures .2)
 
 add-i : tie.Need-add-i Inv-loop μ-loop
-add-i c = count-fits _ (c .before .before .before .before .before .loop-test .taken) (c .before .before .before .before .before .before .before .most-short .ensures .1) (c .before .before .before .before .before .before .before .before .before .before .good .0 .0)
+add-i c = count-fits _ (in-loop (search) .loop-test .taken) (after-most-short (search) .most-short .ensures .1) (entry (search) .good .0 .0)
 
 loop-less : tie.Need-loop-less Inv-loop μ-loop
-loop-less c = nearer (c .before .before .before .before .before .loop-test .taken)
+loop-less c = nearer (in-loop (search) .loop-test .taken)
 
 loop-again : tie.Need-loop-again Inv-loop μ-loop
 loop-again c =
-    let (few, there, room) = c .before .before .before .before .before .before .before .most-short .ensures in
-    let next = c .before .before .before .before .before .loop-test .taken in
-    let gap = c .before .before .before .wide8 in
-    short-turn (c .before .before .before .before .before .before .loop .inv) (lt-of-lt-of-le next few) (before-end _ next there) (gap .ensures .0) (pos-of-ne-zero (c .before .before .if1 .left)) (short-gap (c .before .if2 .left)) (c .narrow32 .ensures)
+    let (few, there, room) = after-most-short (search) .most-short .ensures in
+    let next = in-loop (search) .loop-test .taken in
+    let gap = after-wide8 (search) .wide8 in
+    short-turn (at-loop (search) .loop .inv) (lt-of-lt-of-le next few) (before-end _ next there) (gap .ensures .0)
+    (pos-of-ne-zero (else1 (search) .if1 .left)) (short-gap (c .before .if2 .left)) (c .narrow32 .ensures)
 
 same-length-2 : tie.Need-same-length-2 Inv-loop μ-loop
 same-length-2 c = short-long (c .before .loop .inv)

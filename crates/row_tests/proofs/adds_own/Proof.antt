@@ -8,6 +8,19 @@ use Rattle.row_tests.proofs.Comparing.{not-both, then-other, rest-part,
 use Rattle.row_tests.proofs.adds_own.Statement.{statement}
 use Rattle.row_tests.proofs.adds_own.Tie as tie
 
+-- The places that the answers look back to: `entry (search)` is the one behind the answer at hand.
+abbrev entry : tie.Start → tie.Start
+entry c = c
+
+abbrev marked : tie.After-mark → tie.After-mark
+marked c = c
+
+abbrev counted : tie.After-count-marked → tie.After-count-marked
+counted c = c
+
+abbrev else1 : tie.Else1 → tie.Else1
+else1 c = c
+
 mark-requires : tie.Need-mark-requires
 mark-requires c κs = search needs
 
@@ -18,7 +31,7 @@ same-length : tie.Need-same-length
 same-length c = search needs
 
 returns : tie.Need-returns
-returns c = (not-both _ _ _ (λ e. c .if1 .taken (c .before .count-marked .ensures ∙ e)), c .before .before .before .before .before .mark .ensures)
+returns c = (not-both _ _ _ (λ e. c .if1 .taken (c .before .count-marked .ensures ∙ e)), marked (search) .mark .ensures)
 
 mul-covered : tie.Need-mul-covered
 mul-covered c = search needs
@@ -33,13 +46,17 @@ part-covered-end : tie.Need-part-covered-end
 part-covered-end c = search needs
 
 covered-requires : tie.Need-covered-requires
-covered-requires c κs = rest-markable _ (c .before .before .before .before .before .before .before .before .before .before .before .before .pre .1 .0) (c .before .before .before .before .before .before .before .mark .kept .1 .1 .1 .0)
+covered-requires c κs = rest-markable _ (entry (search) .pre .1 .0) (marked (search) .mark .kept .1 .1 .1 .0)
 
 same-length-2 : tie.Need-same-length-2
 same-length-2 c = search needs
 
 returns-2 : tie.Need-returns-2
-returns-2 c = (c .covered .ensures ∙ ap (every _) (rest-part (now (c .before .before .before .before .before .before .before .before .before .before .before .before .before .args .list)) (c .before .before .before .before .before .before .before .before .before .before .before .before .before .args .p)) ∙ then-other _ _ _ (sym (c .before .before .before .before .count-marked .ensures) ∙ c .before .before .before .if1 .left), c .before .before .before .before .before .before .before .before .mark .ensures)
+returns-2 c = (
+  c .covered .ensures ∙ ap (every _) (rest-part (now (entry (search) .args .list)) (entry (search) .args .p)) ∙ then-other _ _ _
+      (sym (counted (search) .count-marked .ensures) ∙ else1 (search) .if1 .left),
+  marked (search) .mark .ensures,
+)
 
 pub adds-own-spec : {M : Type 1} → statement M
 adds-own-spec =

@@ -8,6 +8,10 @@ use Rattle.list_laws.proofs.Members.{same-true}
 use Rattle.row_tests.proofs.begins_with.Statement.{statement}
 use Rattle.row_tests.proofs.begins_with.Tie as tie
 
+-- The places that the answers look back to: `else1 (search)` is the one behind the answer at hand.
+abbrev else1 : tie.Else1 → tie.Else1
+else1 c = c
+
 returns : tie.Need-returns
 returns c = λ e. absurd (true-false e refl)
 
@@ -18,7 +22,7 @@ same-rows-requires : tie.Need-same-rows-requires
 same-rows-requires c κs = search needs
 
 returns-2 : tie.Need-returns-2
-returns-2 c = λ e. (c .before .before .if1 .left, same-true _ _ (sym (c .same-rows .ensures) ∙ e))
+returns-2 c = λ e. (else1 (search) .if1 .left, same-true _ _ (sym (c .same-rows .ensures) ∙ e))
 
 pub begins-with-spec : {M : Type 1} → statement M
 begins-with-spec =

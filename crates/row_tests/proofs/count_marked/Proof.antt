@@ -17,6 +17,16 @@ Inv-loop n j list work count₀ k₀ count k = Counts (isMarked n j work) list c
 abbrev μ-loop : tie.MeasureT-loop
 μ-loop n j list work count₀ k₀ count k = length list - k
 
+-- The places that the answers look back to: `entry (search)` is the one behind the answer at hand.
+abbrev entry : tie.Start Inv-loop μ-loop → tie.Start Inv-loop μ-loop
+entry c = c
+
+abbrev at-loop : tie.At-loop Inv-loop μ-loop → tie.At-loop Inv-loop μ-loop
+at-loop c = c
+
+abbrev in-loop : tie.In-loop Inv-loop μ-loop → tie.In-loop Inv-loop μ-loop
+in-loop c = c
+
 loop-holds : tie.Need-loop-holds Inv-loop μ-loop
 loop-holds c = counts-begin _ _
 
@@ -30,16 +40,16 @@ shared-slice-read-if1 : tie.Need-shared-slice-read-if1 Inv-loop μ-loop
 shared-slice-read-if1 c = search needs
 
 cast-if1 : tie.Need-cast-if1 Inv-loop μ-loop
-cast-if1 c = omega (arith, c .shared-slice-known .given (c .before .before .loop .k))
+cast-if1 c = omega (arith, c .shared-slice-known .given (at-loop (search) .loop .k))
 
 add-if1-2 : tie.Need-add-if1-2 Inv-loop μ-loop
-add-if1-2 c = let h = mark-place (c .before .before .before .pre) _ (c .before .loop-test .taken) in let g = c .before .before .before .good .1 .1 .1 .0 in omega arith
+add-if1-2 c = let h = mark-place (entry (search) .pre) _ (c .before .loop-test .taken) in let g = entry (search) .good .1 .1 .1 .0 in omega arith
 
 mul-if1-2 : tie.Need-mul-if1-2 Inv-loop μ-loop
-mul-if1-2 c = let h = mark-place (c .before .before .before .pre) _ (c .before .loop-test .taken) in let g = c .before .before .before .good .1 .1 .1 .0 in omega arith
+mul-if1-2 c = let h = mark-place (entry (search) .pre) _ (c .before .loop-test .taken) in let g = entry (search) .good .1 .1 .1 .0 in omega arith
 
 shared-slice-read-if1-2 : tie.Need-shared-slice-read-if1-2 Inv-loop μ-loop
-shared-slice-read-if1-2 c = mark-place (c .before .before .before .before .pre) _ (c .before .before .loop-test .taken)
+shared-slice-read-if1-2 c = mark-place (entry (search) .pre) _ (in-loop (search) .loop-test .taken)
 
 add-count : tie.Need-add-count Inv-loop μ-loop
 add-count c = search needs
@@ -51,7 +61,7 @@ loop-less : tie.Need-loop-less Inv-loop μ-loop
 loop-less c = search needs
 
 loop-again : tie.Need-loop-again Inv-loop μ-loop
-loop-again c = counts-one (c .before .before .before .before .loop .inv) (c .before .before .before .loop-test .taken) (eq-eqb _ _ (c .if1 .taken))
+loop-again c = counts-one (at-loop (search) .loop .inv) (in-loop (search) .loop-test .taken) (eq-eqb _ _ (c .if1 .taken))
 
 add-k-2 : tie.Need-add-k-2 Inv-loop μ-loop
 add-k-2 c = search needs
@@ -60,7 +70,7 @@ loop-less-2 : tie.Need-loop-less-2 Inv-loop μ-loop
 loop-less-2 c = search needs
 
 loop-again-2 : tie.Need-loop-again-2 Inv-loop μ-loop
-loop-again-2 c = counts-none (c .before .before .before .before .loop .inv) (c .before .before .before .loop-test .taken) (ne-eqb _ _ (c .if1 .left))
+loop-again-2 c = counts-none (at-loop (search) .loop .inv) (in-loop (search) .loop-test .taken) (ne-eqb _ _ (c .if1 .left))
 
 returns : tie.Need-returns Inv-loop μ-loop
 returns c = counts-end (c .before .loop .inv) (c .loop-test .left)

@@ -14,6 +14,13 @@ Inv-loop a b alike₀ k₀ alike k = Comparing a b alike k
 abbrev μ-loop : tie.MeasureT-loop
 μ-loop a b alike₀ k₀ alike k = length a - k
 
+-- The places that the answers look back to: `at-loop (search)` is the one behind the answer at hand.
+abbrev at-loop : tie.At-loop Inv-loop μ-loop → tie.At-loop Inv-loop μ-loop
+at-loop c = c
+
+abbrev in-loop : tie.In-loop Inv-loop μ-loop → tie.In-loop Inv-loop μ-loop
+in-loop c = c
+
 returns : tie.Need-returns Inv-loop μ-loop
 returns c = other-length _ _ (c .if1 .taken)
 
@@ -39,7 +46,7 @@ loop-less : tie.Need-loop-less Inv-loop μ-loop
 loop-less c = search needs
 
 loop-again : tie.Need-loop-again Inv-loop μ-loop
-loop-again c = compare-alike (c .before .before .before .before .loop .inv) (c .before .before .before .loop-test .taken) (omega arith) (c .if2 .taken)
+loop-again c = compare-alike (at-loop (search) .loop .inv) (in-loop (search) .loop-test .taken) (omega arith) (c .if2 .taken)
 
 add-k-2 : tie.Need-add-k-2 Inv-loop μ-loop
 add-k-2 c = search needs
@@ -48,7 +55,7 @@ loop-less-2 : tie.Need-loop-less-2 Inv-loop μ-loop
 loop-less-2 c = search needs
 
 loop-again-2 : tie.Need-loop-again-2 Inv-loop μ-loop
-loop-again-2 c = compare-other (c .before .before .before .before .loop .inv) (c .before .before .before .loop-test .taken) (omega arith) (c .if2 .left)
+loop-again-2 c = compare-other (at-loop (search) .loop .inv) (in-loop (search) .loop-test .taken) (omega arith) (c .if2 .left)
 
 returns-2 : tie.Need-returns-2 Inv-loop μ-loop
 returns-2 c = compare-end (c .before .loop .inv) (c .loop-test .left) (omega arith)

@@ -9,6 +9,13 @@ use Rattle.rows_needed.proofs.Stores.{filed-some, filed-none, pushed-is
 use Rattle.rows_needed.proofs.file.Statement.{statement}
 use Rattle.rows_needed.proofs.file.Tie as tie
 
+-- The places that the answers look back to: `entry (search)` is the one behind the answer at hand.
+abbrev entry : tie.Start → tie.Start
+entry c = c
+
+abbrev then1 : tie.Then1 → tie.Then1
+then1 c = c
+
 add-work : tie.Need-add-work
 add-work c = let l = c .pre .long in let u = c .pre .column in let g = c .good .1 .1 .1 .1 .1 .0 in omega arith
 
@@ -31,55 +38,72 @@ shared-slice-read-if1 : tie.Need-shared-slice-read-if1
 shared-slice-read-if1 c = c .before .pre .started
 
 mul-r : tie.Need-mul-r
-mul-r c = let f = c .before .before .pre .row (c .if1 .taken) in let g = c .before .before .good .1 .1 .1 .1 .0 in omega arith
+mul-r c = let f = entry (search) .pre .row (c .if1 .taken) in let g = entry (search) .good .1 .1 .1 .1 .0 in omega arith
 
 shared-slice-read-r : tie.Need-shared-slice-read-r
-shared-slice-read-r c = c .before .before .before .pre .row (c .before .if1 .taken) .0
+shared-slice-read-r c = entry (search) .pre .row (c .before .if1 .taken) .0
 
 cast-r : tie.Need-cast-r
-cast-r c = omega (arith, c .shared-slice-known2 .given (c .before .before .before .args .q))
+cast-r c = omega (arith, c .shared-slice-known2 .given (entry (search) .args .q))
 
 add-work-4 : tie.Need-add-work-4
-add-work-4 c = let f = c .before .before .before .pre .row (c .before .if1 .taken) in let l = c .before .before .before .pre .long in let g = c .before .before .before .good .1 .1 .1 .1 .1 .0 in omega arith
+add-work-4 c =
+    let f = entry (search) .pre .row (c .before .if1 .taken) in
+    let l = entry (search) .pre .long in let g = entry (search) .good .1 .1 .1 .1 .1 .0 in omega arith
 
 mul-work-2 : tie.Need-mul-work-2
-mul-work-2 c = let f = c .before .before .before .pre .row (c .before .if1 .taken) in let l = c .before .before .before .pre .long in let g = c .before .before .before .good .1 .1 .1 .1 .1 .0 in omega arith
+mul-work-2 c =
+    let f = entry (search) .pre .row (c .before .if1 .taken) in
+    let l = entry (search) .pre .long in let g = entry (search) .good .1 .1 .1 .1 .1 .0 in omega arith
 
 slice-read-work : tie.Need-slice-read-work
-slice-read-work c = let f = c .before .before .before .before .pre .row (c .before .before .if1 .taken) in let l = c .before .before .before .before .pre .long in rw length-set (omega arith)
+slice-read-work c = let f = entry (search) .pre .row (then1 (search) .if1 .taken) in let l = entry (search) .pre .long in rw length-set (omega arith)
 
 add-work-5 : tie.Need-add-work-5
-add-work-5 c = let l = c .before .before .before .before .pre .long in let u = c .before .before .before .before .pre .column in let g = c .before .before .before .before .good .1 .1 .1 .1 .1 .0 in omega arith
+add-work-5 c =
+    let l = entry (search) .pre .long in let u = entry (search) .pre .column in let g = entry (search) .good .1 .1 .1 .1 .1 .0 in omega arith
 
 add-work-6 : tie.Need-add-work-6
-add-work-6 c = let l = c .before .before .before .before .pre .long in let u = c .before .before .before .before .pre .column in let g = c .before .before .before .before .good .1 .1 .1 .1 .1 .0 in omega arith
+add-work-6 c =
+    let l = entry (search) .pre .long in let u = entry (search) .pre .column in let g = entry (search) .good .1 .1 .1 .1 .1 .0 in omega arith
 
 mul-work-3 : tie.Need-mul-work-3
-mul-work-3 c = let l = c .before .before .before .before .pre .long in let u = c .before .before .before .before .pre .column in let g = c .before .before .before .before .good .1 .1 .1 .1 .1 .0 in omega arith
+mul-work-3 c =
+    let l = entry (search) .pre .long in let u = entry (search) .pre .column in let g = entry (search) .good .1 .1 .1 .1 .1 .0 in omega arith
 
 slice-write-work-2 : tie.Need-slice-write-work-2
-slice-write-work-2 c = let l = c .before .before .before .before .pre .long in let u = c .before .before .before .before .pre .column in rw length-set (omega arith)
+slice-write-work-2 c = let l = entry (search) .pre .long in let u = entry (search) .pre .column in rw length-set (omega arith)
 
 add-work-7 : tie.Need-add-work-7
-add-work-7 c = let f = c .before .before .before .before .pre .row (c .before .before .if1 .taken) in let l = c .before .before .before .before .pre .long in let g = c .before .before .before .before .good .1 .1 .1 .1 .1 .0 in omega arith
+add-work-7 c =
+    let f = entry (search) .pre .row (then1 (search) .if1 .taken) in
+    let l = entry (search) .pre .long in let g = entry (search) .good .1 .1 .1 .1 .1 .0 in omega arith
 
 mul-work-4 : tie.Need-mul-work-4
-mul-work-4 c = let f = c .before .before .before .before .pre .row (c .before .before .if1 .taken) in let l = c .before .before .before .before .pre .long in let g = c .before .before .before .before .good .1 .1 .1 .1 .1 .0 in omega arith
+mul-work-4 c =
+    let f = entry (search) .pre .row (then1 (search) .if1 .taken) in
+    let l = entry (search) .pre .long in let g = entry (search) .good .1 .1 .1 .1 .1 .0 in omega arith
 
 slice-write-work-3 : tie.Need-slice-write-work-3
-slice-write-work-3 c = let f = c .before .before .before .before .pre .row (c .before .before .if1 .taken) in let l = c .before .before .before .before .pre .long in rw (length-set, length-set) (omega arith)
+slice-write-work-3 c =
+    let f = entry (search) .pre .row (then1 (search) .if1 .taken) in let l = entry (search) .pre .long in rw (length-set, length-set) (omega arith)
 
 same-length : tie.Need-same-length
 same-length c = search needs
 
 returns : tie.Need-returns
-returns c = sym (filed-some (c .before .before .before .before .args .n) (c .before .before .before .before .args .c) (c .before .before .before .before .args .q) (now (c .before .before .before .before .args .starts)) (now (c .before .before .before .before .args .rows)) (now (c .before .before .before .before .args .work)) (c .before .before .if1 .taken) ∙ pushed-is (c .before .before .before .before .args .n) _ (c .before .before .before .before .args .c) _)
+returns c =
+    sym (filed-some (entry (search) .args .n) (entry (search) .args .c) (entry (search) .args .q) (now (entry (search) .args .starts))
+    (now (entry (search) .args .rows)) (now (entry (search) .args .work)) (then1 (search) .if1 .taken) ∙ pushed-is (entry (search) .args .n) _
+    (entry (search) .args .c) _)
 
 same-length-2 : tie.Need-same-length-2
 same-length-2 c = search needs
 
 returns-2 : tie.Need-returns-2
-returns-2 c = sym (filed-none (c .before .before .args .n) (c .before .before .args .c) (c .before .before .args .q) (now (c .before .before .args .starts)) (now (c .before .before .args .rows)) (now (c .before .before .args .work)) (c .if1 .left))
+returns-2 c =
+    sym (filed-none (entry (search) .args .n) (entry (search) .args .c) (entry (search) .args .q) (now (entry (search) .args .starts))
+    (now (entry (search) .args .rows)) (now (entry (search) .args .work)) (c .if1 .left))
 
 pub file-spec : {M : Type 1} → statement M
 file-spec =

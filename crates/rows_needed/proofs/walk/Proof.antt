@@ -9,64 +9,121 @@ use Rattle.rows_needed.proofs.walk.Statement.{statement}
 use Rattle.rows_needed.proofs.walk.Tie as tie
 
 abbrev Inv-loop : tie.InvT-loop
-Inv-loop n i count starts rows parents₀ work₀ c₀ t₀ parents work c t = Walk n i starts rows parents work t c × ((length parents ≡ length parents₀) × (length work ≡ length work₀))
+Inv-loop n i count starts rows parents₀ work₀ c₀ t₀ parents work c t =
+    Walk n i starts rows parents work t c × ((length parents ≡ length parents₀) × (length work ≡ length work₀))
 
 abbrev μ-loop : tie.MeasureT-loop
 μ-loop n i count starts rows parents₀ work₀ c₀ t₀ parents work c t = ahead n starts work
 
+-- The places that the answers look back to: `entry (search)` is the one behind the answer at hand.
+abbrev entry : tie.Start Inv-loop μ-loop → tie.Start Inv-loop μ-loop
+entry c = c
+
+abbrev at-loop : tie.At-loop Inv-loop μ-loop → tie.At-loop Inv-loop μ-loop
+at-loop c = c
+
+abbrev in-loop : tie.In-loop Inv-loop μ-loop → tie.In-loop Inv-loop μ-loop
+in-loop c = c
+
+abbrev climbed : tie.After-climb Inv-loop μ-loop → tie.After-climb Inv-loop μ-loop
+climbed c = c
+
+abbrev after-file : tie.After-file Inv-loop μ-loop → tie.After-file Inv-loop μ-loop
+after-file c = c
+
 add-c : tie.Need-add-c Inv-loop μ-loop
-add-c c = let l = c .before .before .before .before .pre .buckets .long in let h = c .before .before .before .before .pre .high in let g = c .before .before .before .before .good .1 .1 .1 .1 .1 .1 .0 in omega arith
+add-c c =
+    let l = entry (search) .pre .buckets .long in
+    let h = entry (search) .pre .high in let g = entry (search) .good .1 .1 .1 .1 .1 .1 .0 in omega arith
 
 mul-c : tie.Need-mul-c Inv-loop μ-loop
-mul-c c = let l = c .before .before .before .before .pre .buckets .long in let h = c .before .before .before .before .pre .high in let g = c .before .before .before .before .good .1 .1 .1 .1 .1 .1 .0 in omega arith
+mul-c c =
+    let l = entry (search) .pre .buckets .long in
+    let h = entry (search) .pre .high in let g = entry (search) .good .1 .1 .1 .1 .1 .1 .0 in omega arith
 
 slice-read-c : tie.Need-slice-read-c Inv-loop μ-loop
-slice-read-c c = let l = c .before .before .before .before .before .pre .buckets .long in let h = c .before .before .before .before .before .pre .high in omega arith
+slice-read-c c = let l = entry (search) .pre .buckets .long in let h = entry (search) .pre .high in omega arith
 
 loop-holds : tie.Need-loop-holds Inv-loop μ-loop
-loop-holds c = (c .before .before .before .before .before .pre, (refl, refl))
+loop-holds c = (entry (search) .pre, (refl, refl))
 
 add-next : tie.Need-add-next Inv-loop μ-loop
-add-next c = let l = c .before .loop .inv .0 .buckets .long in let e = c .before .loop .inv .1 .1 in let g = c .before .before .before .before .before .before .before .good .1 .1 .1 .1 .1 .1 .0 in omega arith
+add-next c =
+    let l = c .before .loop .inv .0 .buckets .long in
+    let e = c .before .loop .inv .1 .1 in let g = entry (search) .good .1 .1 .1 .1 .1 .1 .0 in omega arith
 
 add-next-2 : tie.Need-add-next-2 Inv-loop μ-loop
-add-next-2 c = let u = column (c .before .loop .inv .0) (c .loop-test .taken) in let l = c .before .loop .inv .0 .buckets .long in let e = c .before .loop .inv .1 .1 in let g = c .before .before .before .before .before .before .before .good .1 .1 .1 .1 .1 .1 .0 in omega arith
+add-next-2 c =
+    let u = column (c .before .loop .inv .0) (c .loop-test .taken) in
+    let l = c .before .loop .inv .0 .buckets .long in
+    let e = c .before .loop .inv .1 .1 in let g = entry (search) .good .1 .1 .1 .1 .1 .1 .0 in omega arith
 
 mul-next : tie.Need-mul-next Inv-loop μ-loop
-mul-next c = let u = column (c .before .loop .inv .0) (c .loop-test .taken) in let l = c .before .loop .inv .0 .buckets .long in let e = c .before .loop .inv .1 .1 in let g = c .before .before .before .before .before .before .before .good .1 .1 .1 .1 .1 .1 .0 in omega arith
+mul-next c =
+    let u = column (c .before .loop .inv .0) (c .loop-test .taken) in
+    let l = c .before .loop .inv .0 .buckets .long in
+    let e = c .before .loop .inv .1 .1 in let g = entry (search) .good .1 .1 .1 .1 .1 .1 .0 in omega arith
 
 slice-read-next : tie.Need-slice-read-next Inv-loop μ-loop
-slice-read-next c = let u = column (c .before .before .loop .inv .0) (c .before .loop-test .taken) in let l = c .before .before .loop .inv .0 .buckets .long in omega arith
+slice-read-next c =
+    let u = column (at-loop (search) .loop .inv .0) (c .before .loop-test .taken) in
+    let l = at-loop (search) .loop .inv .0 .buckets .long in omega arith
 
 climb-requires : tie.Need-climb-requires Inv-loop μ-loop
-climb-requires c κs = climbing (c .before .before .before .before .loop .inv .0) (c .before .before .before .loop-test .taken)
+climb-requires c κs = climbing (at-loop (search) .loop .inv .0) (in-loop (search) .loop-test .taken)
 
 add-q : tie.Need-add-q Inv-loop μ-loop
-add-q c = let l = c .before .before .before .before .before .before .before .before .before .loop .inv .0 .buckets .long in let e = c .before .before .before .before .before .before .before .before .before .loop .inv .1 .1 in let g = c .before .before .before .before .before .before .before .before .before .before .before .before .before .before .before .good .1 .1 .1 .1 .1 .1 .0 in omega arith
+add-q c =
+    let l = at-loop (search) .loop .inv .0 .buckets .long in
+    let e = at-loop (search) .loop .inv .1 .1 in let g = entry (search) .good .1 .1 .1 .1 .1 .1 .0 in omega arith
 
 add-q-2 : tie.Need-add-q-2 Inv-loop μ-loop
-add-q-2 c = let l = c .before .before .before .before .before .before .before .before .before .loop .inv .0 .buckets .long in let e = c .before .before .before .before .before .before .before .before .before .loop .inv .1 .1 in let g = c .before .before .before .before .before .before .before .before .before .before .before .before .before .before .before .good .1 .1 .1 .1 .1 .1 .0 in omega arith
+add-q-2 c =
+    let l = at-loop (search) .loop .inv .0 .buckets .long in
+    let e = at-loop (search) .loop .inv .1 .1 in let g = entry (search) .good .1 .1 .1 .1 .1 .1 .0 in omega arith
 
 add-q-3 : tie.Need-add-q-3 Inv-loop μ-loop
-add-q-3 c = let u = column (c .before .before .before .before .before .before .before .before .before .loop .inv .0) (c .before .before .before .before .before .before .before .before .loop-test .taken) in let l = c .before .before .before .before .before .before .before .before .before .loop .inv .0 .buckets .long in let e = c .before .before .before .before .before .before .before .before .before .loop .inv .1 .1 in let g = c .before .before .before .before .before .before .before .before .before .before .before .before .before .before .before .good .1 .1 .1 .1 .1 .1 .0 in omega arith
+add-q-3 c =
+    let u = column (at-loop (search) .loop .inv .0) (in-loop (search) .loop-test .taken) in
+    let l = at-loop (search) .loop .inv .0 .buckets .long in
+    let e = at-loop (search) .loop .inv .1 .1 in let g = entry (search) .good .1 .1 .1 .1 .1 .1 .0 in omega arith
 
 mul-q : tie.Need-mul-q Inv-loop μ-loop
-mul-q c = let u = column (c .before .before .before .before .before .before .before .before .before .loop .inv .0) (c .before .before .before .before .before .before .before .before .loop-test .taken) in let l = c .before .before .before .before .before .before .before .before .before .loop .inv .0 .buckets .long in let e = c .before .before .before .before .before .before .before .before .before .loop .inv .1 .1 in let g = c .before .before .before .before .before .before .before .before .before .before .before .before .before .before .before .good .1 .1 .1 .1 .1 .1 .0 in omega arith
+mul-q c =
+    let u = column (at-loop (search) .loop .inv .0) (in-loop (search) .loop-test .taken) in
+    let l = at-loop (search) .loop .inv .0 .buckets .long in
+    let e = at-loop (search) .loop .inv .1 .1 in let g = entry (search) .good .1 .1 .1 .1 .1 .1 .0 in omega arith
 
 slice-read-q : tie.Need-slice-read-q Inv-loop μ-loop
-slice-read-q c = let u = column (c .before .before .before .before .before .before .before .before .before .before .loop .inv .0) (c .before .before .before .before .before .before .before .before .before .loop-test .taken) in let l = c .before .before .before .before .before .before .before .before .before .before .loop .inv .0 .buckets .long in let k = c .before .before .before .before .before .climb .kept .1 .1 .1 .1 .0 in omega arith
+slice-read-q c =
+    let u = column (at-loop (search) .loop .inv .0) (in-loop (search) .loop-test .taken) in
+    let l = at-loop (search) .loop .inv .0 .buckets .long in let k = climbed (search) .climb .kept .1 .1 .1 .1 .0 in omega arith
 
 add-q-4 : tie.Need-add-q-4 Inv-loop μ-loop
-add-q-4 c = let s = step-fits (c .before .before .before .before .before .before .before .before .before .before .loop .inv .0) (c .before .before .before .before .before .before .before .before .before .loop-test .taken) (c .before .before .before .before .before .climb .ensures) (c .before .before .before .before .before .climb .kept .1 .1 .1 .0) (c .before .before .before .before .before .climb .kept .1 .1 .1 .1 .0) in let g = c .before .before .before .before .before .before .before .before .before .before .before .before .before .before .before .before .good .1 .1 .1 .1 .0 in omega arith
+add-q-4 c =
+    let s = step-fits (at-loop (search) .loop .inv .0) (in-loop (search) .loop-test .taken) (climbed (search) .climb .ensures)
+    (climbed (search) .climb .kept .1 .1 .1 .0) (climbed (search) .climb .kept .1 .1 .1 .1 .0) in
+    let g = entry (search) .good .1 .1 .1 .1 .0 in omega arith
 
 file-requires : tie.Need-file-requires Inv-loop μ-loop
-file-requires c κs = filing (c .before .before .before .before .before .before .before .before .before .before .before .loop .inv .0) (c .before .before .before .before .before .before .before .before .before .before .loop-test .taken) (c .before .before .before .before .before .before .climb .ensures) (c .before .before .before .before .before .before .climb .kept .1 .1 .1 .0) (c .before .before .before .before .before .before .climb .kept .1 .1 .1 .1 .0)
+file-requires c κs =
+    filing (at-loop (search) .loop .inv .0) (in-loop (search) .loop-test .taken) (climbed (search) .climb .ensures)
+    (climbed (search) .climb .kept .1 .1 .1 .0) (climbed (search) .climb .kept .1 .1 .1 .1 .0)
 
 loop-less : tie.Need-loop-less Inv-loop μ-loop
-loop-less c = falls (c .before .before .before .before .before .before .before .before .before .before .before .before .before .before .loop .inv .0) (c .before .before .before .before .before .before .before .before .before .before .before .before .before .loop-test .taken) (c .before .before .before .before .before .before .before .before .before .climb .ensures) (c .before .before .before .before .before .before .before .before .before .climb .kept .1 .1 .1 .0) (c .before .before .before .before .before .before .before .before .before .climb .kept .1 .1 .1 .1 .0) _ (c .before .before .file .ensures)
+loop-less c =
+    falls (at-loop (search) .loop .inv .0) (in-loop (search) .loop-test .taken) (climbed (search) .climb .ensures)
+    (climbed (search) .climb .kept .1 .1 .1 .0) (climbed (search) .climb .kept .1 .1 .1 .1 .0) _ (after-file (search) .file .ensures)
 
 loop-again : tie.Need-loop-again Inv-loop μ-loop
-loop-again c = (walked (c .before .before .before .before .before .before .before .before .before .before .before .before .before .before .loop .inv .0) (c .before .before .before .before .before .before .before .before .before .before .before .before .before .loop-test .taken) (c .before .before .before .before .before .before .before .before .before .climb .ensures) (c .before .before .before .before .before .before .before .before .before .climb .kept .1 .1 .1 .0) (c .before .before .before .before .before .before .before .before .before .climb .kept .1 .1 .1 .1 .0) _ (c .before .before .file .ensures), (c .before .before .before .before .before .before .before .before .before .climb .kept .1 .1 .1 .0 ∙ c .before .before .before .before .before .before .before .before .before .before .before .before .before .before .loop .inv .1 .0, c .before .before .file .kept .1 .1 .1 .1 .1 .0 ∙ c .before .before .before .before .before .before .before .before .before .climb .kept .1 .1 .1 .1 .0 ∙ c .before .before .before .before .before .before .before .before .before .before .before .before .before .before .loop .inv .1 .1))
+loop-again c = (
+  walked (at-loop (search) .loop .inv .0) (in-loop (search) .loop-test .taken) (climbed (search) .climb .ensures)
+      (climbed (search) .climb .kept .1 .1 .1 .0) (climbed (search) .climb .kept .1 .1 .1 .1 .0) _ (after-file (search) .file .ensures),
+  (
+    climbed (search) .climb .kept .1 .1 .1 .0 ∙ at-loop (search) .loop .inv .1 .0,
+    after-file (search) .file .kept .1 .1 .1 .1 .1 .0 ∙ climbed (search) .climb .kept .1 .1 .1 .1 .0 ∙ at-loop (search) .loop .inv .1 .1,
+  ),
+)
 
 same-length : tie.Need-same-length Inv-loop μ-loop
 same-length c = c .before .loop .inv .1 .0

@@ -14,11 +14,34 @@ Inv-loop n starts rows columns pops room stack₀ held₀ done₀ stack held don
 abbrev μ-loop : tie.MeasureT-loop
 μ-loop n starts rows columns pops room stack₀ held₀ done₀ stack held done = n - done
 
+-- The places that the answers look back to: `entry (search)` is the one behind the answer at hand.
+abbrev entry : tie.Start Inv-loop μ-loop → tie.Start Inv-loop μ-loop
+entry c = c
+
+abbrev at-loop : tie.At-loop Inv-loop μ-loop → tie.At-loop Inv-loop μ-loop
+at-loop c = c
+
+abbrev after-loop : tie.After-loop Inv-loop μ-loop → tie.After-loop Inv-loop μ-loop
+after-loop c = c
+
+abbrev in-loop : tie.In-loop Inv-loop μ-loop → tie.In-loop Inv-loop μ-loop
+in-loop c = c
+
+abbrev after-step-fault : tie.After-step-fault Inv-loop μ-loop → tie.After-step-fault Inv-loop μ-loop
+after-step-fault c = c
+
+abbrev else1 : tie.Else1 Inv-loop μ-loop → tie.Else1 Inv-loop μ-loop
+else1 c = c
+
+abbrev taken : tie.After-take-step Inv-loop μ-loop → tie.After-take-step Inv-loop μ-loop
+taken c = c
+
 loop-holds : tie.Need-loop-holds Inv-loop μ-loop
-loop-holds c = running-start _ _ _ _ _ _ _ (c .before .before .before .before .before .pre .1 .1 .1)
+loop-holds c = running-start _ _ _ _ _ _ _ (entry (search) .pre .1 .1 .1)
 
 step-fault-requires : tie.Need-step-fault-requires Inv-loop μ-loop
-step-fault-requires c κs = let few = c .before .before .loop .inv .within in (c .before .before .before .before .before .before .before .before .pre .0, (c .before .before .loop .inv .kept, (omega arith, omega arith)))
+step-fault-requires c κs =
+    let few = at-loop (search) .loop .inv .within in (entry (search) .pre .0, (at-loop (search) .loop .inv .kept, (omega arith, omega arith)))
 
 add-answered : tie.Need-add-answered Inv-loop μ-loop
 add-answered c = search needs
@@ -27,15 +50,18 @@ answered-requires : tie.Need-answered-requires Inv-loop μ-loop
 answered-requires c κs = search needs
 
 same-length : tie.Need-same-length Inv-loop μ-loop
-same-length c = c .before .before .before .before .before .loop .inv .long
+same-length c = at-loop (search) .loop .inv .long
 
 returns : tie.Need-returns Inv-loop μ-loop
-returns c = c .answered .ensures ∙ answers-fault _ _ _ _ _ _ _ (c .before .before .before .before .before .loop .inv) (c .before .before .before .before .loop-test .taken) (c .before .before .step-fault .ensures) (c .before .if1 .taken)
+returns c =
+    c .answered .ensures ∙ answers-fault _ _ _ _ _ _ _ (at-loop (search) .loop .inv) (in-loop (search) .loop-test .taken)
+    (after-step-fault (search) .step-fault .ensures) (c .before .if1 .taken)
 
 take-step-requires : tie.Need-take-step-requires Inv-loop μ-loop
 take-step-requires c κs =
-    let pre = c .before .before .before .before .before .before .before .before .before .before .before .pre in
-    ready _ _ _ _ _ _ _ (c .before .before .before .before .before .loop .inv) (c .before .before .before .before .loop-test .taken) (c .before .before .step-fault .ensures) (pre .0) (pre .1 .0) (pre .1 .1 .0) (c .before .if1 .left)
+    let pre = entry (search) .pre in
+    ready _ _ _ _ _ _ _ (at-loop (search) .loop .inv) (in-loop (search) .loop-test .taken) (after-step-fault (search) .step-fault .ensures) (pre .0)
+    (pre .1 .0) (pre .1 .1 .0) (c .before .if1 .left)
 
 add-done : tie.Need-add-done Inv-loop μ-loop
 add-done c = search needs
@@ -44,25 +70,29 @@ loop-less : tie.Need-loop-less Inv-loop μ-loop
 loop-less c = search needs
 
 loop-again : tie.Need-loop-again Inv-loop μ-loop
-loop-again c = running-next _ _ _ _ _ _ _ (c .before .before .before .before .before .before .before .before .loop .inv) (c .before .before .before .before .before .before .before .loop-test .taken) (c .before .before .before .before .before .step-fault .ensures) (c .before .before .before .before .if1 .left) (c .before .before .take-step .kept .1 .1 .1 .1 .1 .0) (c .before .before .take-step .ensures)
+loop-again c =
+    running-next _ _ _ _ _ _ _ (at-loop (search) .loop .inv) (in-loop (search) .loop-test .taken) (after-step-fault (search) .step-fault .ensures)
+    (else1 (search) .if1 .left) (taken (search) .take-step .kept .1 .1 .1 .1 .1 .0) (taken (search) .take-step .ensures)
 
 answered-requires-2 : tie.Need-answered-requires-2 Inv-loop μ-loop
 answered-requires-2 c κs = search needs
 
 same-length-2 : tie.Need-same-length-2 Inv-loop μ-loop
-same-length-2 c = c .before .before .before .before .loop .inv .long
+same-length-2 c = at-loop (search) .loop .inv .long
 
 returns-2 : tie.Need-returns-2 Inv-loop μ-loop
-returns-2 c = c .answered2 .ensures ∙ answers-left _ _ _ _ _ _ _ (c .before .before .before .before .loop .inv) (c .before .before .before .loop-test .left) (c .before .if2 .taken)
+returns-2 c =
+    c .answered2 .ensures ∙ answers-left _ _ _ _ _ _ _ (at-loop (search) .loop .inv) (after-loop (search) .loop-test .left) (c .before .if2 .taken)
 
 answered-requires-3 : tie.Need-answered-requires-3 Inv-loop μ-loop
 answered-requires-3 c κs = search needs
 
 same-length-3 : tie.Need-same-length-3 Inv-loop μ-loop
-same-length-3 c = c .before .before .before .before .loop .inv .long
+same-length-3 c = at-loop (search) .loop .inv .long
 
 returns-3 : tie.Need-returns-3 Inv-loop μ-loop
-returns-3 c = c .answered3 .ensures ∙ answers-done _ _ _ _ _ _ _ (c .before .before .before .before .loop .inv) (c .before .before .before .loop-test .left) (c .before .if2 .left)
+returns-3 c =
+    c .answered3 .ensures ∙ answers-done _ _ _ _ _ _ _ (at-loop (search) .loop .inv) (after-loop (search) .loop-test .left) (c .before .if2 .left)
 
 pub steps-spec : {M : Type 1} → statement M
 steps-spec =

@@ -15,8 +15,27 @@ Inv-loop factor rooms kids j most₀ before₀ held₀ i₀ most before held i =
 abbrev μ-loop : tie.MeasureT-loop
 μ-loop factor rooms kids j most₀ before₀ held₀ i₀ most before held i = length kids - i
 
+-- The places that the answers look back to: `entry (search)` is the one behind the answer at hand.
+abbrev entry : tie.Start Inv-loop μ-loop → tie.Start Inv-loop μ-loop
+entry c = c
+
+abbrev at-loop : tie.At-loop Inv-loop μ-loop → tie.At-loop Inv-loop μ-loop
+at-loop c = c
+
+abbrev after-loop : tie.After-loop Inv-loop μ-loop → tie.After-loop Inv-loop μ-loop
+after-loop c = c
+
+abbrev in-loop : tie.In-loop Inv-loop μ-loop → tie.In-loop Inv-loop μ-loop
+in-loop c = c
+
+abbrev after-rows-of2 : tie.After-rows-of2 Inv-loop μ-loop → tie.After-rows-of2 Inv-loop μ-loop
+after-rows-of2 c = c
+
+abbrev after-greater : tie.After-greater Inv-loop μ-loop → tie.After-greater Inv-loop μ-loop
+after-greater c = c
+
 loop-holds : tie.Need-loop-holds Inv-loop μ-loop
-loop-holds c = turned-start _ _ _ (c .before .before .before .args .j)
+loop-holds c = turned-start _ _ _ (entry (search) .args .j)
 
 mul-c : tie.Need-mul-c Inv-loop μ-loop
 mul-c c = search needs
@@ -25,22 +44,28 @@ shared-slice-read-c : tie.Need-shared-slice-read-c Inv-loop μ-loop
 shared-slice-read-c c = search needs
 
 cast-c : tie.Need-cast-c Inv-loop μ-loop
-cast-c c = omega (arith, c .shared-slice-known4 .given (c .before .before .loop .i))
+cast-c c = omega (arith, c .shared-slice-known4 .given (at-loop (search) .loop .i))
 
 mul-greater : tie.Need-mul-greater Inv-loop μ-loop
-mul-greater c = let h = turned-known _ _ _ (c .before .before .before .before .before .before .args .j) (c .before .before .loop .inv) (c .before .before .before .before .before .before .pre) (c .before .loop-test .taken) in search needs
+mul-greater c =
+    let h = turned-known _ _ _ (entry (search) .args .j) (at-loop (search) .loop .inv) (entry (search) .pre) (c .before .loop-test .taken) in
+    search needs
 
 shared-slice-read-greater : tie.Need-shared-slice-read-greater Inv-loop μ-loop
-shared-slice-read-greater c = turned-known _ _ _ (c .before .before .before .before .before .before .before .args .j) (c .before .before .before .loop .inv) (c .before .before .before .before .before .before .before .pre) (c .before .before .loop-test .taken)
+shared-slice-read-greater c =
+    turned-known _ _ _ (entry (search) .args .j) (at-loop (search) .loop .inv) (entry (search) .pre) (in-loop (search) .loop-test .taken)
 
 add-greater : tie.Need-add-greater Inv-loop μ-loop
-add-greater c = let h = turned-light _ _ _ (c .before .before .before .before .before .before .before .args .j) (c .before .before .before .loop .inv) (c .before .before .before .before .before .before .before .pre) (c .before .before .loop-test .taken) in omega arith
+add-greater c =
+    let h = turned-light _ _ _ (entry (search) .args .j) (at-loop (search) .loop .inv) (entry (search) .pre) (in-loop (search) .loop-test .taken) in
+    omega arith
 
 greater-requires : tie.Need-greater-requires Inv-loop μ-loop
 greater-requires c κs = search needs
 
 rows-of-requires : tie.Need-rows-of-requires Inv-loop μ-loop
-rows-of-requires c κs = turned-column _ _ _ (c .before .before .before .before .before .before .before .before .args .j) (c .before .before .before .before .loop .inv) (c .before .before .before .before .before .before .before .before .pre) (c .before .before .before .loop-test .taken)
+rows-of-requires c κs =
+    turned-column _ _ _ (entry (search) .args .j) (at-loop (search) .loop .inv) (entry (search) .pre) (in-loop (search) .loop-test .taken)
 
 entries-requires : tie.Need-entries-requires Inv-loop μ-loop
 entries-requires c κs = search needs
@@ -55,7 +80,9 @@ loop-less : tie.Need-loop-less Inv-loop μ-loop
 loop-less c = search needs
 
 loop-again : tie.Need-loop-again Inv-loop μ-loop
-loop-again c = turned-turn _ _ _ (c .before .before .before .before .before .before .before .before .before .before .args .j) (c .before .before .before .before .before .before .loop .inv) (c .before .before .before .before .before .before .before .before .before .before .pre) (c .before .before .before .before .before .loop-test .taken) (c .before .before .greater .ensures) (c .before .rows-of .ensures) (c .entries .ensures)
+loop-again c =
+    turned-turn _ _ _ (entry (search) .args .j) (at-loop (search) .loop .inv) (entry (search) .pre) (in-loop (search) .loop-test .taken)
+    (after-greater (search) .greater .ensures) (c .before .rows-of .ensures) (c .entries .ensures)
 
 rows-of-requires-2 : tie.Need-rows-of-requires-2 Inv-loop μ-loop
 rows-of-requires-2 c κs = search needs
@@ -73,7 +100,9 @@ greater-requires-2 : tie.Need-greater-requires-2 Inv-loop μ-loop
 greater-requires-2 c κs = search needs
 
 returns : tie.Need-returns Inv-loop μ-loop
-returns c = turned-stop _ _ _ (c .before .before .before .before .before .before .before .before .args .j) (c .before .before .before .before .loop .inv) (c .before .before .before .loop-test .left) (rw (← (c .before .before .rows-of2 .ensures .0)) (c .before .entries2 .ensures)) (c .greater2 .ensures)
+returns c =
+    turned-stop _ _ _ (entry (search) .args .j) (at-loop (search) .loop .inv) (after-loop (search) .loop-test .left)
+    (rw (← (after-rows-of2 (search) .rows-of2 .ensures .0)) (c .before .entries2 .ensures)) (c .greater2 .ensures)
 
 pub room-alone-spec : {M : Type 1} → statement M
 room-alone-spec =

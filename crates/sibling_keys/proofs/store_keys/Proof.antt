@@ -18,6 +18,22 @@ Inv-loop mark factor kids j work₀ w k above i₀ work i = Keying k (keyAt mark
 abbrev μ-loop : tie.MeasureT-loop
 μ-loop mark factor kids j work₀ w k above i₀ work i = length kids - i
 
+-- The places that the answers look back to: `entry (search)` is the one behind the answer at hand.
+abbrev entry : tie.Start Inv-loop μ-loop → tie.Start Inv-loop μ-loop
+entry c = c
+
+abbrev after-rows-of : tie.After-rows-of Inv-loop μ-loop → tie.After-rows-of Inv-loop μ-loop
+after-rows-of c = c
+
+abbrev at-loop : tie.At-loop Inv-loop μ-loop → tie.At-loop Inv-loop μ-loop
+at-loop c = c
+
+abbrev in-loop : tie.In-loop Inv-loop μ-loop → tie.In-loop Inv-loop μ-loop
+in-loop c = c
+
+abbrev after-rows-of2 : tie.After-rows-of2 Inv-loop μ-loop → tie.After-rows-of2 Inv-loop μ-loop
+after-rows-of2 c = c
+
 rows-of-requires : tie.Need-rows-of-requires Inv-loop μ-loop
 rows-of-requires c κs = search needs
 
@@ -31,43 +47,43 @@ shared-slice-read-c : tie.Need-shared-slice-read-c Inv-loop μ-loop
 shared-slice-read-c c = search needs
 
 cast-c : tie.Need-cast-c Inv-loop μ-loop
-cast-c c = omega (arith, c .shared-slice-known3 .given (c .before .before .loop .i))
+cast-c c = omega (arith, c .shared-slice-known3 .given (at-loop (search) .loop .i))
 
 rows-of-requires-2 : tie.Need-rows-of-requires-2 Inv-loop μ-loop
-rows-of-requires-2 c κs = c .before .before .before .before .before .before .before .pre .0 .column _ (at-place _ _ (c .before .loop-test .taken))
+rows-of-requires-2 c κs = entry (search) .pre .0 .column _ (at-place _ _ (c .before .loop-test .taken))
 
 add-sibling-key : tie.Need-add-sibling-key Inv-loop μ-loop
 add-sibling-key c =
-    let pre = c .before .before .before .before .before .before .before .before .pre in
-    let p = keying-places (c .before .before .before .loop .inv) (pre .0) (pre .1 .0) (pre .1 .1) (c .before .before .loop-test .taken) in search needs
+    let pre = entry (search) .pre in
+    let p = keying-places (at-loop (search) .loop .inv) (pre .0) (pre .1 .0) (pre .1 .1) (in-loop (search) .loop-test .taken) in search needs
 
 mul-sibling-key : tie.Need-mul-sibling-key Inv-loop μ-loop
 mul-sibling-key c =
-    let pre = c .before .before .before .before .before .before .before .before .pre in
-    let p = keying-places (c .before .before .before .loop .inv) (pre .0) (pre .1 .0) (pre .1 .1) (c .before .before .loop-test .taken) in search needs
+    let pre = entry (search) .pre in
+    let p = keying-places (at-loop (search) .loop .inv) (pre .0) (pre .1 .0) (pre .1 .1) (in-loop (search) .loop-test .taken) in search needs
 
 slice-read-sibling-key : tie.Need-slice-read-sibling-key Inv-loop μ-loop
 slice-read-sibling-key c =
-    let pre = c .before .before .before .before .before .before .before .before .before .pre in
-    let p = keying-places (c .before .before .before .before .loop .inv) (pre .0) (pre .1 .0) (pre .1 .1) (c .before .before .before .loop-test .taken) in search needs
+    let pre = entry (search) .pre in
+    let p = keying-places (at-loop (search) .loop .inv) (pre .0) (pre .1 .0) (pre .1 .1) (in-loop (search) .loop-test .taken) in search needs
 
 sibling-key-requires : tie.Need-sibling-key-requires Inv-loop μ-loop
 sibling-key-requires c κs = search needs
 
 add-work : tie.Need-add-work Inv-loop μ-loop
 add-work c =
-    let pre = c .before .before .before .before .before .before .before .before .before .before .pre in
-    let p = keying-places (c .before .before .before .before .before .loop .inv) (pre .0) (pre .1 .0) (pre .1 .1) (c .before .before .before .before .loop-test .taken) in search needs
+    let pre = entry (search) .pre in
+    let p = keying-places (at-loop (search) .loop .inv) (pre .0) (pre .1 .0) (pre .1 .1) (in-loop (search) .loop-test .taken) in search needs
 
 mul-work : tie.Need-mul-work Inv-loop μ-loop
 mul-work c =
-    let pre = c .before .before .before .before .before .before .before .before .before .before .pre in
-    let p = keying-places (c .before .before .before .before .before .loop .inv) (pre .0) (pre .1 .0) (pre .1 .1) (c .before .before .before .before .loop-test .taken) in search needs
+    let pre = entry (search) .pre in
+    let p = keying-places (at-loop (search) .loop .inv) (pre .0) (pre .1 .0) (pre .1 .1) (in-loop (search) .loop-test .taken) in search needs
 
 slice-write-work : tie.Need-slice-write-work Inv-loop μ-loop
 slice-write-work c =
-    let pre = c .before .before .before .before .before .before .before .before .before .before .pre in
-    let p = keying-places (c .before .before .before .before .before .loop .inv) (pre .0) (pre .1 .0) (pre .1 .1) (c .before .before .before .before .loop-test .taken) in p .1
+    let pre = entry (search) .pre in
+    let p = keying-places (at-loop (search) .loop .inv) (pre .0) (pre .1 .0) (pre .1 .1) (in-loop (search) .loop-test .taken) in p .1
 
 add-i : tie.Need-add-i Inv-loop μ-loop
 add-i c = search needs
@@ -77,8 +93,11 @@ loop-less c = search needs
 
 loop-again : tie.Need-loop-again Inv-loop μ-loop
 loop-again c =
-    let p = keying-places (c .before .before .before .before .before .loop .inv) (c .before .before .before .before .before .before .before .before .before .before .pre .0) (c .before .before .before .before .before .before .before .before .before .before .pre .1 .0) (c .before .before .before .before .before .before .before .before .before .before .pre .1 .1) (c .before .before .before .before .loop-test .taken) in
-    keying-turn (c .before .before .before .before .before .loop .inv) (c .before .before .before .before .loop-test .taken) (same-key _ (c .sibling-key .ensures) (c .before .before .before .before .before .before .rows-of .ensures .0) (c .before .before .rows-of2 .ensures .0) (keying-reads (c .before .before .before .before .before .loop .inv) (c .before .before .before .before .before .before .before .before .before .before .args .w) _ (c .before .before .before .before .before .before .before .before .before .before .pre .1 .0) (p .0))) (p .1)
+    let p = keying-places (at-loop (search) .loop .inv) (entry (search) .pre .0) (entry (search) .pre .1 .0) (entry (search) .pre .1 .1)
+    (in-loop (search) .loop-test .taken) in
+    keying-turn (at-loop (search) .loop .inv) (in-loop (search) .loop-test .taken)
+    (same-key _ (c .sibling-key .ensures) (after-rows-of (search) .rows-of .ensures .0) (after-rows-of2 (search) .rows-of2 .ensures .0)
+    (keying-reads (at-loop (search) .loop .inv) (entry (search) .args .w) _ (entry (search) .pre .1 .0) (p .0))) (p .1)
 
 same-length : tie.Need-same-length Inv-loop μ-loop
 same-length c = search needs

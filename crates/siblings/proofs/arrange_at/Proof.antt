@@ -5,6 +5,13 @@ use Rattle.siblings.proofs.Placing.{placed-kids, placed-done}
 use Rattle.siblings.proofs.arrange_at.Statement.{statement}
 use Rattle.siblings.proofs.arrange_at.Tie as tie
 
+-- The places that the answers look back to: `entry (search)` is the one behind the answer at hand.
+abbrev entry : tie.Start → tie.Start
+entry c = c
+
+abbrev sorted : tie.After-sort-kids → tie.After-sort-kids
+sorted c = c
+
 mul-a : tie.Need-mul-a
 mul-a c = search needs
 
@@ -33,7 +40,7 @@ part-sort-kids-end : tie.Need-part-sort-kids-end
 part-sort-kids-end c = search needs
 
 sort-kids-requires : tie.Need-sort-kids-requires
-sort-kids-requires c κs = placed-kids (c .before .before .before .before .before .before .before .before .before .pre)
+sort-kids-requires c κs = placed-kids (entry (search) .pre)
 
 same-length : tie.Need-same-length
 same-length c = search needs
@@ -45,7 +52,7 @@ same-length-3 : tie.Need-same-length-3
 same-length-3 c = search needs
 
 returns : tie.Need-returns
-returns c = placed-done (c .before .before .before .before .before .before .before .before .before .before .before .before .before .before .before .before .pre) (c .before .before .before .before .before .before .sort-kids .ensures)
+returns c = placed-done (entry (search) .pre) (sorted (search) .sort-kids .ensures)
 
 pub arrange-at-spec : {M : Type 1} → statement M
 arrange-at-spec =

@@ -6,14 +6,24 @@ use Rattle.siblings.proofs.Placing.{sorted-kids, sorted-done}
 use Rattle.siblings.proofs.sort_kids.Statement.{statement}
 use Rattle.siblings.proofs.sort_kids.Tie as tie
 
+-- The places that the answers look back to: `entry (search)` is the one behind the answer at hand.
+abbrev entry : tie.Start → tie.Start
+entry c = c
+
+abbrev stored : tie.After-store-keys → tie.After-store-keys
+stored c = c
+
+abbrev sorted : tie.After-sort-columns → tie.After-sort-columns
+sorted c = c
+
 store-keys-requires : tie.Need-store-keys-requires
-store-keys-requires c κs = let p = c .before .before .before .before .before .before .pre in (p .children, (omega (arith, p .own), p .room))
+store-keys-requires c κs = let p = entry (search) .pre in (p .children, (omega (arith, p .own), p .room))
 
 mul-sort-columns : tie.Need-mul-sort-columns
-mul-sort-columns c = omega (arith, c .before .before .before .before .before .before .before .before .before .pre .room, c .before .before .before .before .before .before .before .before .before .good)
+mul-sort-columns c = omega (arith, entry (search) .pre .room, entry (search) .good)
 
 sub-sort-columns : tie.Need-sub-sort-columns
-sub-sort-columns c = omega (arith, c .before .before .before .before .before .before .before .before .before .pre .room, c .before .before .store-keys .kept .1 .1 .1 .1 .0)
+sub-sort-columns c = omega (arith, entry (search) .pre .room, stored (search) .store-keys .kept .1 .1 .1 .1 .0)
 
 part-sort-columns-start : tie.Need-part-sort-columns-start
 part-sort-columns-start c = search needs
@@ -22,15 +32,15 @@ part-sort-columns-end : tie.Need-part-sort-columns-end
 part-sort-columns-end c = search needs
 
 sort-columns-requires : tie.Need-sort-columns-requires
-sort-columns-requires c κs = c .before .before .before .before .before .before .before .before .before .before .before .before .before .pre .enough
+sort-columns-requires c κs = entry (search) .pre .enough
 
 mul-room-alone : tie.Need-mul-room-alone
 mul-room-alone c =
-    let pre = c .before .before .before .before .before .before .before .before .before .before .before .before .before .before .before .before .before .before .pre in
-    omega (arith, pre .own, pre .room, c .before .before .before .before .before .before .before .before .before .before .before .before .before .before .before .before .before .before .good)
+    let pre = entry (search) .pre in
+    omega (arith, pre .own, pre .room, entry (search) .good)
 
 sub-room-alone : tie.Need-sub-room-alone
-sub-room-alone c = omega (arith, c .before .before .before .before .before .before .before .before .before .before .before .before .before .before .before .before .before .before .pre .own)
+sub-room-alone c = omega (arith, entry (search) .pre .own)
 
 part-room-alone-start : tie.Need-part-room-alone-start
 part-room-alone-start c = search needs
@@ -40,37 +50,37 @@ part-room-alone-end c = search needs
 
 room-alone-requires : tie.Need-room-alone-requires
 room-alone-requires c κs =
-    let k = c .before .before .before .before .before .before .before .before .before .before .before .before .before .before in
-    sorted-kids _ (k .before .before .before .before .before .before .before .pre) (k .store-keys .ensures) (k .store-keys .kept .1 .1 .1 .1 .0) (c .before .before .before .before .before .before .before .sort-columns .ensures)
+    sorted-kids _ (entry (search) .pre) (stored (search) .store-keys .ensures) (stored (search) .store-keys .kept .1 .1 .1 .1 .0)
+    (sorted (search) .sort-columns .ensures)
 
 add-work : tie.Need-add-work
 add-work c =
-    let pre = c .before .before .before .before .before .before .before .before .before .before .before .before .before .before .before .before .before .before .before .before .before .before .pre in
-    omega (arith, pre .own, pre .room, c .before .before .before .before .before .before .before .before .before .before .before .before .before .before .before .before .before .before .before .before .before .before .good)
+    let pre = entry (search) .pre in
+    omega (arith, pre .own, pre .room, entry (search) .good)
 
 mul-work : tie.Need-mul-work
 mul-work c =
-    let pre = c .before .before .before .before .before .before .before .before .before .before .before .before .before .before .before .before .before .before .before .before .before .before .pre in
-    omega (arith, pre .own, pre .room, c .before .before .before .before .before .before .before .before .before .before .before .before .before .before .before .before .before .before .before .before .before .before .good)
+    let pre = entry (search) .pre in
+    omega (arith, pre .own, pre .room, entry (search) .good)
 
 slice-write-work : tie.Need-slice-write-work
 slice-write-work c =
-    let pre = c .before .before .before .before .before .before .before .before .before .before .before .before .before .before .before .before .before .before .before .before .before .before .pre in
-    omega (arith, pre .own, pre .room, c .before .before .before .before .before .before .before .before .before .before .before .before .before .before .before .store-keys .kept .1 .1 .1 .1 .0)
+    let pre = entry (search) .pre in
+    omega (arith, pre .own, pre .room, stored (search) .store-keys .kept .1 .1 .1 .1 .0)
 
 same-length : tie.Need-same-length
-same-length c = c .before .before .before .before .before .before .before .before .sort-columns .kept .1 .0
+same-length c = sorted (search) .sort-columns .kept .1 .0
 
 same-length-2 : tie.Need-same-length-2
-same-length-2 c = c .before .before .before .before .before .before .before .before .sort-columns .kept .1 .1 .0
+same-length-2 c = sorted (search) .sort-columns .kept .1 .1 .0
 
 same-length-3 : tie.Need-same-length-3
 same-length-3 c = search needs
 
 returns : tie.Need-returns
 returns c =
-    let k = c .before .before .before .before .before .before .before .before .before .before .before .before .before .before .before in
-    sorted-done _ (k .before .before .before .before .before .before .before .pre) (k .store-keys .ensures) (k .store-keys .kept .1 .1 .1 .1 .0) (c .before .before .before .before .before .before .before .before .sort-columns .ensures) (c .room-alone .ensures)
+    sorted-done _ (entry (search) .pre) (stored (search) .store-keys .ensures) (stored (search) .store-keys .kept .1 .1 .1 .1 .0)
+    (sorted (search) .sort-columns .ensures) (c .room-alone .ensures)
 
 pub sort-kids-spec : {M : Type 1} → statement M
 sort-kids-spec =

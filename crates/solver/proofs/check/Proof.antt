@@ -9,6 +9,16 @@ use Rattle.solver.proofs.Calls.{unreadable-is-27, over-is-26, answer-bo
 use Rattle.solver.proofs.check.Statement.{statement}
 use Rattle.solver.proofs.check.Tie as tie
 
+-- The places that the answers look back to: `read (search)` is the one behind the answer at hand.
+abbrev read : tie.After-read-key → tie.After-read-key
+read c = c
+
+abbrev after-head : tie.After-head → tie.After-head
+after-head c = c
+
+abbrev checked : tie.After-check-for-key → tie.After-check-for-key
+checked c = c
+
 read-key-requires : tie.Need-read-key-requires
 read-key-requires c κs = search needs
 
@@ -19,7 +29,7 @@ mul-result : tie.Need-mul-result
 mul-result c = search needs
 
 returns : tie.Need-returns
-returns c = let (number, place, e) = told-unreadable (c .before .before .read-key .ensures) (c .enum-told .given .1) in unreadable-is-27 _ _ e
+returns c = let (number, place, e) = told-unreadable (read (search) .read-key .ensures) (c .enum-told .given .1) in unreadable-is-27 _ _ e
 
 enum-known-head : tie.Need-enum-known-head
 enum-known-head c = search needs
@@ -28,19 +38,22 @@ mul-result-2 : tie.Need-mul-result-2
 mul-result-2 c = search needs
 
 returns-2 : tie.Need-returns-2
-returns-2 c = over-is-26 _ _ (told-whole (c .before .before .before .before .before .read-key .ensures) (c .before .before .before .head .given .1)) (⊎-elim (λ x. inl (x .taken)) (λ x. inr (ltb-true _ _ (x .1 .taken))) (c .if1 .came))
+returns-2 c =
+    over-is-26 _ _ (told-whole (read (search) .read-key .ensures) (after-head (search) .head .given .1))
+    (⊎-elim (λ x. inl (x .taken)) (λ x. inr (ltb-true _ _ (x .1 .taken))) (c .if1 .came))
 
 check-for-key-requires : tie.Need-check-for-key-requires
-check-for-key-requires c κs = (told-whole (c .before .before .before .before .before .before .read-key .ensures) (c .before .before .before .before .head .given .1), (c .before .if1 .left, ltb-false _ _ (c .if2 .left)))
+check-for-key-requires c κs =
+    (told-whole (read (search) .read-key .ensures) (after-head (search) .head .given .1), (c .before .if1 .left, ltb-false _ _ (c .if2 .left)))
 
 mul-result-3 : tie.Need-mul-result-3
 mul-result-3 c = let w = answer-bounded _ _ (c .before .check-for-key .ensures) in let h = w .number in search needs
 
 add-result : tie.Need-add-result
-add-result c = let w = answer-bounded _ _ (c .before .before .check-for-key .ensures) in let h = w .number in let p = w .place in search needs
+add-result c = let w = answer-bounded _ _ (checked (search) .check-for-key .ensures) in let h = w .number in let p = w .place in search needs
 
 returns-3 : tie.Need-returns-3
-returns-3 c = answer-called _ _ (c .before .before .check-for-key .ensures)
+returns-3 c = answer-called _ _ (checked (search) .check-for-key .ensures)
 
 pub check-spec : {M : Type 1} → statement M
 check-spec =

@@ -7,6 +7,25 @@ use Rattle.step_faults.proofs.Faults.{fault-low, fault-high, fault-few,
 use Rattle.step_faults.proofs.step_fault.Statement.{statement}
 use Rattle.step_faults.proofs.step_fault.Tie as tie
 
+-- The places that the answers look back to: `entry (search)` is the one behind the answer at hand.
+abbrev entry : tie.Start → tie.Start
+entry c = c
+
+abbrev else1 : tie.Else1 → tie.Else1
+else1 c = c
+
+abbrev else2 : tie.Else2 → tie.Else2
+else2 c = c
+
+abbrev else3 : tie.Else3 → tie.Else3
+else3 c = c
+
+abbrev after-popped-fit : tie.After-popped-fit → tie.After-popped-fit
+after-popped-fit c = c
+
+abbrev else4 : tie.Else4 → tie.Else4
+else4 c = c
+
 mul-column : tie.Need-mul-column
 mul-column c = search needs
 
@@ -14,7 +33,7 @@ shared-slice-read-column : tie.Need-shared-slice-read-column
 shared-slice-read-column c = search needs
 
 cast-column : tie.Need-cast-column
-cast-column c = omega (arith, c .shared-slice-known6 .given (c .before .before .before .before .before .before .args .done))
+cast-column c = omega (arith, c .shared-slice-known6 .given (entry (search) .args .done))
 
 mul-off : tie.Need-mul-off
 mul-off c = search needs
@@ -23,35 +42,41 @@ shared-slice-read-off : tie.Need-shared-slice-read-off
 shared-slice-read-off c = search needs
 
 cast-off : tie.Need-cast-off
-cast-off c = omega (arith, c .shared-slice-known7 .given (c .before .before .before .before .before .before .before .args .done))
+cast-off c = omega (arith, c .shared-slice-known7 .given (entry (search) .args .done))
 
 returns : tie.Need-returns
-returns c = fault-low _ _ _ _ _ _ _ (c .before .before .before .before .before .before .before .before .args .held) _ (c .if1 .taken)
+returns c = fault-low _ _ _ _ _ _ _ (entry (search) .args .held) _ (c .if1 .taken)
 
 returns-2 : tie.Need-returns-2
-returns-2 c = fault-high _ _ _ _ _ _ _ (c .before .before .before .before .before .before .before .before .before .args .held) _ (c .if2 .taken)
+returns-2 c = fault-high _ _ _ _ _ _ _ (entry (search) .args .held) _ (c .if2 .taken)
 
 returns-3 : tie.Need-returns-3
-returns-3 c = fault-few _ _ _ _ _ _ _ (c .before .before .before .before .before .before .before .before .before .before .before .args .held) _ (c .before .before .before .if1 .left, c .before .before .if2 .left) (c .if3 .taken)
+returns-3 c = fault-few _ _ _ _ _ _ _ (entry (search) .args .held) _ (else1 (search) .if1 .left, else2 (search) .if2 .left) (c .if3 .taken)
 
 popped-fit-requires : tie.Need-popped-fit-requires
 popped-fit-requires c κs =
-    let pre = c .before .before .before .before .before .before .before .before .before .before .before .pre in
-    (pre .0, (pre .1 .0, (c .if3 .left, (c .before .before .before .if1 .left, c .before .before .if2 .left))))
+    let pre = entry (search) .pre in
+    (pre .0, (pre .1 .0, (c .if3 .left, (else1 (search) .if1 .left, else2 (search) .if2 .left))))
 
 returns-4 : tie.Need-returns-4
-returns-4 c = fault-outside _ _ _ _ _ _ _ (c .before .before .before .before .before .before .before .before .before .before .before .before .before .args .held) _ (c .before .before .before .before .before .if1 .left, c .before .before .before .before .if2 .left) (c .before .before .if3 .left) (c .before .popped-fit .ensures) (not-true _ (c .if4 .taken))
+returns-4 c =
+    fault-outside _ _ _ _ _ _ _ (entry (search) .args .held) _ (else1 (search) .if1 .left, else2 (search) .if2 .left) (else3 (search) .if3 .left)
+    (c .before .popped-fit .ensures) (not-true _ (c .if4 .taken))
 
 room-in-use-requires : tie.Need-room-in-use-requires
 room-in-use-requires c κs =
-    let pre = c .before .before .before .before .before .before .before .before .before .before .before .before .before .pre in
-    (pre .0, (pre .1 .0, (c .before .before .if3 .left, (c .before .before .before .before .before .if1 .left, c .before .before .before .before .if2 .left))))
+    let pre = entry (search) .pre in
+    (pre .0, (pre .1 .0, (else3 (search) .if3 .left, (else1 (search) .if1 .left, else2 (search) .if2 .left))))
 
 returns-5 : tie.Need-returns-5
-returns-5 c = fault-over _ _ _ _ _ _ _ (c .before .before .before .before .before .before .before .before .before .before .before .before .before .before .before .args .held) _ (c .before .before .before .before .before .before .before .if1 .left, c .before .before .before .before .before .before .if2 .left) (c .before .before .before .before .if3 .left) (c .before .before .before .popped-fit .ensures) (not-false _ (c .before .before .if4 .left)) (c .before .room-in-use .ensures) (c .if5 .taken)
+returns-5 c =
+    fault-over _ _ _ _ _ _ _ (entry (search) .args .held) _ (else1 (search) .if1 .left, else2 (search) .if2 .left) (else3 (search) .if3 .left)
+    (after-popped-fit (search) .popped-fit .ensures) (not-false _ (else4 (search) .if4 .left)) (c .before .room-in-use .ensures) (c .if5 .taken)
 
 returns-6 : tie.Need-returns-6
-returns-6 c = fault-none _ _ _ _ _ _ _ (c .before .before .before .before .before .before .before .before .before .before .before .before .before .before .before .args .held) _ (c .before .before .before .before .before .before .before .if1 .left, c .before .before .before .before .before .before .if2 .left) (c .before .before .before .before .if3 .left) (c .before .before .before .popped-fit .ensures) (not-false _ (c .before .before .if4 .left)) (c .before .room-in-use .ensures) (c .if5 .left)
+returns-6 c =
+    fault-none _ _ _ _ _ _ _ (entry (search) .args .held) _ (else1 (search) .if1 .left, else2 (search) .if2 .left) (else3 (search) .if3 .left)
+    (after-popped-fit (search) .popped-fit .ensures) (not-false _ (else4 (search) .if4 .left)) (c .before .room-in-use .ensures) (c .if5 .left)
 
 pub step-fault-spec : {M : Type 1} → statement M
 step-fault-spec =

@@ -21,12 +21,22 @@ module _ (starts rows : List ℕ) (j : ℕ) (some : 0 < j) where
     abbrev line : List ℕ → List ℕ
     line l = printed (decimalOf j) (pops ∷ room ∷ l)
 
-    line-fits : {n : ℕ} → at + length (line (columnOf starts rows j)) ≤ n → at + length (line (take (getD starts j 0 - getD starts (j - 1) 0) (drop (getD starts (j - 1) 0) rows))) ≤ n
+    line-fits : {n : ℕ} → at + length (line (columnOf starts rows j)) ≤ n → at + length
+        (line (take (getD starts j 0 - getD starts (j - 1) 0) (drop (getD starts (j - 1) 0) rows))) ≤ n
     line-fits h = rw list-is h
 
-    line-written : (d₀ : List ℕ) {d : List ℕ} {k : ℕ} (l : List ℕ) → l ≡ take (getD starts j 0 - getD starts (j - 1) 0) (drop (getD starts (j - 1) 0) rows)
-        → (k ≡ at + length (line l)) × (d ≡ sets d₀ at (line l)) → (k ≡ at + length (line (columnOf starts rows j))) × (d ≡ sets d₀ at (line (columnOf starts rows j)))
+    line-written : (d₀ : List ℕ) {d : List ℕ} {k : ℕ} (l : List ℕ) → l ≡ take (getD starts j 0 - getD starts (j - 1) 0)
+        (drop (getD starts (j - 1) 0) rows)
+        → (k ≡ at + length (line l)) × (d ≡ sets d₀ at (line l)) → (k ≡ at + length (line (columnOf starts rows j))) ×
+        (d ≡ sets d₀ at (line (columnOf starts rows j)))
     line-written d₀ l e p = rw (← list-is, ← e) p
+
+-- The places that the answers look back to: `entry (search)` is the one behind the answer at hand.
+abbrev entry : tie.Start → tie.Start
+entry c = c
+
+abbrev written : tie.After-write-step → tie.After-write-step
+written c = c
 
 sub-from : tie.Need-sub-from
 sub-from c = search needs
@@ -56,13 +66,18 @@ part-write-step-end : tie.Need-part-write-step-end
 part-write-step-end c = search needs
 
 write-step-requires : tie.Need-write-step-requires
-write-step-requires c κs = let e = c .before .before .before .before .before .before .before in line-fits (e .args .fstarts .now) (e .args .frows .now) (e .args .j) (e .pre .0 .0 .some) (e .args .pops) (e .args .room) (e .args .at) (e .pre .1)
+write-step-requires c κs =
+    line-fits (entry (search) .args .fstarts .now) (entry (search) .args .frows .now) (entry (search) .args .j) (entry (search) .pre .0 .0 .some)
+    (entry (search) .args .pops) (entry (search) .args .room) (entry (search) .args .at) (entry (search) .pre .1)
 
 same-length : tie.Need-same-length
 same-length c = search needs
 
 returns : tie.Need-returns
-returns c = let e = c .before .before .before .before .before .before .before .before .before .before in line-written (e .args .fstarts .now) (e .args .frows .now) (e .args .j) (e .pre .0 .0 .some) (e .args .pops) (e .args .room) (e .args .at) (e .args .bytes .now) _ refl (c .before .before .write-step .ensures)
+returns c =
+    line-written (entry (search) .args .fstarts .now) (entry (search) .args .frows .now) (entry (search) .args .j) (entry (search) .pre .0 .0 .some)
+    (entry (search) .args .pops) (entry (search) .args .room) (entry (search) .args .at) (entry (search) .args .bytes .now) _ refl
+    (written (search) .write-step .ensures)
 
 pub write-column-spec : {M : Type 1} → statement M
 write-column-spec =

@@ -12,16 +12,39 @@ use Rattle.step_lines.proofs.write_steps.Statement.{statement}
 use Rattle.step_lines.proofs.write_steps.Tie as tie
 
 abbrev Inv-loop : tie.InvT-loop
-Inv-loop order pops fstarts frows below₀ bytes₀ at depth₀ next₀ k₀ below bytes depth next k = Printing order pops fstarts frows below₀ bytes₀ at below bytes depth next k
+Inv-loop order pops fstarts frows below₀ bytes₀ at depth₀ next₀ k₀ below bytes depth next k =
+    Printing order pops fstarts frows below₀ bytes₀ at below bytes depth next k
 
 abbrev μ-loop : tie.MeasureT-loop
 μ-loop order pops fstarts frows below₀ bytes₀ at depth₀ next₀ k₀ below bytes depth next k = length order - k
+
+-- The places that the answers look back to: `entry (search)` is the one behind the answer at hand.
+abbrev entry : tie.Start Inv-loop μ-loop → tie.Start Inv-loop μ-loop
+entry c = c
+
+abbrev at-loop : tie.At-loop Inv-loop μ-loop → tie.At-loop Inv-loop μ-loop
+at-loop c = c
+
+abbrev in-loop : tie.In-loop Inv-loop μ-loop → tie.In-loop Inv-loop μ-loop
+in-loop c = c
+
+abbrev after-rows-of : tie.After-rows-of Inv-loop μ-loop → tie.After-rows-of Inv-loop μ-loop
+after-rows-of c = c
+
+abbrev after-in-use : tie.After-in-use Inv-loop μ-loop → tie.After-in-use Inv-loop μ-loop
+after-in-use c = c
+
+abbrev written : tie.After-write-column Inv-loop μ-loop → tie.After-write-column Inv-loop μ-loop
+written c = c
+
+abbrev held : tie.After-hold Inv-loop μ-loop → tie.After-hold Inv-loop μ-loop
+held c = c
 
 slice-write-below : tie.Need-slice-write-below Inv-loop μ-loop
 slice-write-below c = search needs
 
 loop-holds : tie.Need-loop-holds Inv-loop μ-loop
-loop-holds c = printing-start _ _ _ _ (c .before .before .before .before .before .before .args .below .now) _ _ (c .before .before .before .before .before .before .pre .1 .0)
+loop-holds c = printing-start _ _ _ _ (entry (search) .args .below .now) _ _ (entry (search) .pre .1 .0)
 
 mul-j : tie.Need-mul-j Inv-loop μ-loop
 mul-j c = search needs
@@ -30,7 +53,7 @@ shared-slice-read-j : tie.Need-shared-slice-read-j Inv-loop μ-loop
 shared-slice-read-j c = search needs
 
 cast-j : tie.Need-cast-j Inv-loop μ-loop
-cast-j c = omega (arith, c .shared-slice-known5 .given (c .before .before .loop .k))
+cast-j c = omega (arith, c .shared-slice-known5 .given (at-loop (search) .loop .k))
 
 mul-p : tie.Need-mul-p Inv-loop μ-loop
 mul-p c = search needs
@@ -39,19 +62,30 @@ shared-slice-read-p : tie.Need-shared-slice-read-p Inv-loop μ-loop
 shared-slice-read-p c = search needs
 
 cast-p : tie.Need-cast-p Inv-loop μ-loop
-cast-p c = omega (arith, c .shared-slice-known6 .given (c .before .before .before .loop .k))
+cast-p c = omega (arith, c .shared-slice-known6 .given (at-loop (search) .loop .k))
 
 rows-of-requires : tie.Need-rows-of-requires Inv-loop μ-loop
-rows-of-requires c κs = c .before .before .before .before .before .before .before .before .before .before .pre .0 .stepped .column (c .before .before .before .loop .k) (c .before .before .loop-test .taken)
+rows-of-requires c κs = entry (search) .pre .0 .stepped .column (at-loop (search) .loop .k) (in-loop (search) .loop-test .taken)
 
 in-use-requires : tie.Need-in-use-requires Inv-loop μ-loop
-in-use-requires c κs = stacked-over _ _ _ (c .before .before .before .before .before .loop .inv .stacked) (c .before .before .before .before .before .before .before .before .before .before .before .before .pre .0 .stepped) (c .before .before .before .before .loop-test .taken) (c .before .rows-of .ensures)
+in-use-requires c κs =
+    stacked-over _ _ _ (at-loop (search) .loop .inv .stacked) (entry (search) .pre .0 .stepped) (in-loop (search) .loop-test .taken)
+    (c .before .rows-of .ensures)
 
 write-column-requires : tie.Need-write-column-requires Inv-loop μ-loop
-write-column-requires c κs = ((c .before .before .before .before .before .before .before .before .before .before .before .before .before .before .pre .0 .stepped .column (c .before .before .before .before .before .before .before .loop .k) (c .before .before .before .before .before .before .loop-test .taken), c .before .before .before .before .before .before .before .before .before .before .before .before .before .before .pre .0 .inside (c .before .before .before .before .before .before .before .loop .k) (c .before .before .before .before .before .before .loop-test .taken)), printing-fits _ _ _ _ (c .before .before .before .before .before .before .before .loop .inv) (c .before .before .before .before .before .before .before .before .before .before .before .before .before .before .pre .0) (c .before .before .before .before .before .before .loop-test .taken) (c .before .before .before .rows-of .ensures) (c .before .in-use .ensures) (c .before .before .before .before .before .before .before .before .before .before .before .before .before .before .pre .1 .1))
+write-column-requires c κs = (
+  (
+    entry (search) .pre .0 .stepped .column (at-loop (search) .loop .k) (in-loop (search) .loop-test .taken),
+    entry (search) .pre .0 .inside (at-loop (search) .loop .k) (in-loop (search) .loop-test .taken),
+  ),
+  printing-fits _ _ _ _ (at-loop (search) .loop .inv) (entry (search) .pre .0) (in-loop (search) .loop-test .taken)
+      (after-rows-of (search) .rows-of .ensures) (c .before .in-use .ensures) (entry (search) .pre .1 .1),
+)
 
 hold-requires : tie.Need-hold-requires Inv-loop μ-loop
-hold-requires c κs = stacked-over _ _ _ (c .before .before .before .before .before .before .before .before .before .before .before .loop .inv .stacked) (c .before .before .before .before .before .before .before .before .before .before .before .before .before .before .before .before .before .before .pre .0 .stepped) (c .before .before .before .before .before .before .before .before .before .before .loop-test .taken) (c .before .before .before .before .before .before .before .rows-of .ensures)
+hold-requires c κs =
+    stacked-over _ _ _ (at-loop (search) .loop .inv .stacked) (entry (search) .pre .0 .stepped) (in-loop (search) .loop-test .taken)
+    (after-rows-of (search) .rows-of .ensures)
 
 add-k : tie.Need-add-k Inv-loop μ-loop
 add-k c = search needs
@@ -60,10 +94,13 @@ loop-less : tie.Need-loop-less Inv-loop μ-loop
 loop-less c = search needs
 
 loop-again : tie.Need-loop-again Inv-loop μ-loop
-loop-again c = printing-turn _ _ _ _ (c .before .before .before .before .before .before .before .before .before .before .before .before .before .before .loop .inv) (c .before .before .before .before .before .before .before .before .before .before .before .before .before .before .before .before .before .before .before .before .before .pre .0) (c .before .before .before .before .before .before .before .before .before .before .before .before .before .loop-test .taken) (c .before .before .before .before .before .before .before .before .before .before .rows-of .ensures) (c .before .before .before .before .before .before .before .before .in-use .ensures) (c .before .before .before .before .before .before .write-column .ensures) (c .before .before .hold .ensures .0) (c .before .before .hold .ensures .1)
+loop-again c =
+    printing-turn _ _ _ _ (at-loop (search) .loop .inv) (entry (search) .pre .0) (in-loop (search) .loop-test .taken)
+    (after-rows-of (search) .rows-of .ensures) (after-in-use (search) .in-use .ensures) (written (search) .write-column .ensures)
+    (held (search) .hold .ensures .0) (held (search) .hold .ensures .1)
 
 same-length : tie.Need-same-length Inv-loop μ-loop
-same-length c = c .before .loop .inv .stacked .long ∙ length-set (c .before .before .before .before .before .before .before .before .args .below .now) 0 0
+same-length c = c .before .loop .inv .stacked .long ∙ length-set (entry (search) .args .below .now) 0 0
 
 same-length-2 : tie.Need-same-length-2 Inv-loop μ-loop
 same-length-2 c = printing-long _ _ _ _ (c .before .loop .inv)

@@ -5,6 +5,19 @@ use Rattle.stored_bytes.proofs.Stores.{finished-short, finished-whole}
 use Rattle.stored_bytes.proofs.finish.Statement.{statement}
 use Rattle.stored_bytes.proofs.finish.Tie as tie
 
+-- The places that the answers look back to: `else1 (search)` is the one behind the answer at hand.
+abbrev else1 : tie.Else1 → tie.Else1
+else1 c = c
+
+abbrev then1 : tie.Then1 → tie.Then1
+then1 c = c
+
+abbrev after-clear8 : tie.After-clear8 → tie.After-clear8
+after-clear8 c = c
+
+abbrev after-clear82 : tie.After-clear82 → tie.After-clear82
+after-clear82 c = c
+
 clear8-requires : tie.Need-clear8-requires
 clear8-requires c κs = search needs
 
@@ -16,7 +29,7 @@ same-length c = search needs
 
 returns : tie.Need-returns
 returns c written before n e =
-    finished-short written before n e (c .before .before .before .before .before .if1 .taken) (c .answered .ensures) (c .before .before .before .clear8 .ensures)
+    finished-short written before n e (then1 (search) .if1 .taken) (c .answered .ensures) (after-clear8 (search) .clear8 .ensures)
 
 sub-clear8 : tie.Need-sub-clear8
 sub-clear8 c = search needs
@@ -38,7 +51,7 @@ same-length-2 c = search needs
 
 returns-2 : tie.Need-returns-2
 returns-2 c written before n e =
-    finished-whole written before n e (c .before .before .before .before .before .if1 .left) (c .answered2 .ensures) (c .before .before .before .clear82 .ensures)
+    finished-whole written before n e (else1 (search) .if1 .left) (c .answered2 .ensures) (after-clear82 (search) .clear82 .ensures)
 
 pub finish-spec : {M : Type 1} → statement M
 finish-spec =

@@ -8,6 +8,10 @@ use Rattle.structure.proofs.Hanging.{hanging-root, hanging-is}
 use Rattle.structure.proofs.hang.Statement.{statement}
 use Rattle.structure.proofs.hang.Tie as tie
 
+-- The places that the answers look back to: `entry (search)` is the one behind the answer at hand.
+abbrev entry : tie.Start → tie.Start
+entry c = c
+
 returns : tie.Need-returns
 returns c = rw (c .if1 .taken) (sym (hanging-root _ _ _))
 
@@ -30,7 +34,7 @@ mul-work-3 : tie.Need-mul-work-3
 mul-work-3 c = omega arith
 
 slice-write-work-2 : tie.Need-slice-write-work-2
-slice-write-work-2 c = rw length-set (omega (arith, c .before .before .pre))
+slice-write-work-2 c = rw length-set (omega (arith, entry (search) .pre))
 
 same-length : tie.Need-same-length
 same-length c = search needs

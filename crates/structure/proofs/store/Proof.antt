@@ -6,6 +6,16 @@ use borrow.Author.Needs.{needs}
 use Rattle.structure.proofs.store.Statement.{statement}
 use Rattle.structure.proofs.store.Tie as tie
 
+-- The places that the answers look back to: `copied (search)` is the one behind the answer at hand.
+abbrev copied : tie.After-copy-at → tie.After-copy-at
+copied c = c
+
+abbrev after-least : tie.After-least → tie.After-least
+after-least c = c
+
+abbrev after-hang : tie.After-hang → tie.After-hang
+after-hang c = c
+
 mul-at : tie.Need-mul-at
 mul-at c = omega arith
 
@@ -58,7 +68,13 @@ same-length-4 : tie.Need-same-length-4
 same-length-4 c = omega arith
 
 returns : tie.Need-returns
-returns c = record { parents-are = rw (c .before .before .before .before .least .ensures); starts-are = refl; rows-are = c .before .before .before .before .before .before .before .copy-at .ensures; work-is = rw (← c .before .before .before .before .least .ensures) (c .before .before .hang .ensures) }
+returns c =
+    record {
+      parents-are = rw (after-least (search) .least .ensures);
+      starts-are = refl;
+      rows-are = copied (search) .copy-at .ensures;
+      work-is = rw (← after-least (search) .least .ensures) (after-hang (search) .hang .ensures);
+    }
 
 pub store-spec : {M : Type 1} → statement M
 store-spec =

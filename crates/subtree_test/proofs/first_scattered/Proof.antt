@@ -9,6 +9,16 @@ use Rattle.subtree_test.proofs.Whole.{steps-asked, stray-asked, front-r
 use Rattle.subtree_test.proofs.first_scattered.Statement.{statement}
 use Rattle.subtree_test.proofs.first_scattered.Tie as tie
 
+-- The places that the answers look back to: `entry (search)` is the one behind the answer at hand.
+abbrev entry : tie.Start → tie.Start
+entry c = c
+
+abbrev written : tie.After-write-steps → tie.After-write-steps
+written c = c
+
+abbrev counted : tie.After-count-descendants → tie.After-count-descendants
+counted c = c
+
 add-m : tie.Need-add-m
 add-m c = search needs
 
@@ -19,10 +29,11 @@ slice-relend-prefix-write-steps : tie.Need-slice-relend-prefix-write-steps
 slice-relend-prefix-write-steps c = search needs
 
 slice-aggregate-write-steps : tie.Need-slice-aggregate-write-steps
-slice-aggregate-write-steps c = sym (length-take-le _ (now (c .before .before .before .before .args .work)) (omega (arith, c .before .before .before .before .pre .1 .1)))
+slice-aggregate-write-steps c = sym (length-take-le _ (now (entry (search) .args .work)) (omega (arith, entry (search) .pre .1 .1)))
 
 write-steps-requires : tie.Need-write-steps-requires
-write-steps-requires c κs = steps-asked (now (c .before .before .before .before .args .work)) (c .before .before .before .before .pre .1 .0 .0) (c .before .before .before .before .pre .1 .0 .1) (c .before .before .before .before .pre .1 .1)
+write-steps-requires c κs =
+    steps-asked (now (entry (search) .args .work)) (entry (search) .pre .1 .0 .0) (entry (search) .pre .1 .0 .1) (entry (search) .pre .1 .1)
 
 mul-count-descendants : tie.Need-mul-count-descendants
 mul-count-descendants c = search needs
@@ -41,10 +52,12 @@ count-descendants-requires c κs = search needs
 
 slice-aggregate-first-stray : tie.Need-slice-aggregate-first-stray
 slice-aggregate-first-stray c =
-    let pre = c .before .before .before .before .before .before .before .before .before .before .before .before .before .pre in
-    let write-steps = c .before .before .before .before .before .before .before .before .write-steps in
-    let count-descendants = c .before .before .before .before .count-descendants in
-    front-room _ _ (pre .0 .0) (pre .0 .1) (pre .1 .0 .0) (pre .1 .0 .1) (now (c .before .before .before .before .before .before .before .before .before .before .before .before .before .args .work)) (write-steps .last .1 .0) (count-descendants .last .1 .0) (pre .1 .1) (write-steps .kept .1 .0) (count-descendants .kept .1 .0) (write-steps .ensures) (count-descendants .ensures)
+    let pre = entry (search) .pre in
+    let write-steps = written (search) .write-steps in
+    let count-descendants = counted (search) .count-descendants in
+    front-room _ _ (pre .0 .0) (pre .0 .1) (pre .1 .0 .0) (pre .1 .0 .1) (now (entry (search) .args .work)) (write-steps .last .1 .0)
+    (count-descendants .last .1 .0) (pre .1 .1) (write-steps .kept .1 .0) (count-descendants .kept .1 .0) (write-steps .ensures)
+    (count-descendants .ensures)
 
 mul-first-stray : tie.Need-mul-first-stray
 mul-first-stray c = search needs
@@ -60,20 +73,24 @@ part-first-stray-end c = search needs
 
 first-stray-requires : tie.Need-first-stray-requires
 first-stray-requires c κs =
-    let pre = c .before .before .before .before .before .before .before .before .before .before .before .before .before .before .pre in
-    let write-steps = c .before .before .before .before .before .before .before .before .before .write-steps in
-    let count-descendants = c .before .before .before .before .before .count-descendants in
-    stray-asked _ _ (pre .0 .0) (pre .0 .1) (pre .1 .0 .0) (pre .1 .0 .1) (now (c .before .before .before .before .before .before .before .before .before .before .before .before .before .before .args .work)) (write-steps .last .1 .0) (count-descendants .last .1 .0) (pre .1 .1) (write-steps .kept .1 .0) (count-descendants .kept .1 .0) (write-steps .ensures) (count-descendants .ensures)
+    let pre = entry (search) .pre in
+    let write-steps = written (search) .write-steps in
+    let count-descendants = counted (search) .count-descendants in
+    stray-asked _ _ (pre .0 .0) (pre .0 .1) (pre .1 .0 .0) (pre .1 .0 .1) (now (entry (search) .args .work)) (write-steps .last .1 .0)
+    (count-descendants .last .1 .0) (pre .1 .1) (write-steps .kept .1 .0) (count-descendants .kept .1 .0) (write-steps .ensures)
+    (count-descendants .ensures)
 
 same-length : tie.Need-same-length
 same-length c = search needs
 
 returns : tie.Need-returns
 returns c =
-    let pre = c .before .before .before .before .before .before .before .before .before .before .before .before .before .before .before .pre in
-    let write-steps = c .before .before .before .before .before .before .before .before .before .before .write-steps in
-    let count-descendants = c .before .before .before .before .before .before .count-descendants in
-    stray-found _ _ (pre .0 .0) (pre .0 .1) (pre .1 .0 .0) (pre .1 .0 .1) (now (c .before .before .before .before .before .before .before .before .before .before .before .before .before .before .before .args .work)) (write-steps .last .1 .0) (count-descendants .last .1 .0) (pre .1 .1) (write-steps .kept .1 .0) (count-descendants .kept .1 .0) (write-steps .ensures) (count-descendants .ensures) (c .first-stray .ensures)
+    let pre = entry (search) .pre in
+    let write-steps = written (search) .write-steps in
+    let count-descendants = counted (search) .count-descendants in
+    stray-found _ _ (pre .0 .0) (pre .0 .1) (pre .1 .0 .0) (pre .1 .0 .1) (now (entry (search) .args .work)) (write-steps .last .1 .0)
+    (count-descendants .last .1 .0) (pre .1 .1) (write-steps .kept .1 .0) (count-descendants .kept .1 .0) (write-steps .ensures)
+    (count-descendants .ensures) (c .first-stray .ensures)
 
 pub first-scattered-spec : {M : Type 1} → statement M
 first-scattered-spec =

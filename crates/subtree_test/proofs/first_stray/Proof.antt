@@ -12,10 +12,15 @@ use Rattle.subtree_test.proofs.first_stray.Statement.{statement}
 use Rattle.subtree_test.proofs.first_stray.Tie as tie
 
 abbrev Inv-loop : tie.InvT-loop
-Inv-loop parents steps below first₀ i₀ first i = (first ≡ earliest (strayStep (parentIn parents) (listed steps) (listed below)) i) × (i ≤ length parents)
+Inv-loop parents steps below first₀ i₀ first i =
+    (first ≡ earliest (strayStep (parentIn parents) (listed steps) (listed below)) i) × (i ≤ length parents)
 
 abbrev μ-loop : tie.MeasureT-loop
 μ-loop parents steps below first₀ i₀ first i = length parents - i
+
+-- The places that the answers look back to: `at-loop (search)` is the one behind the answer at hand.
+abbrev at-loop : tie.At-loop Inv-loop μ-loop → tie.At-loop Inv-loop μ-loop
+at-loop c = c
 
 loop-holds : tie.Need-loop-holds Inv-loop μ-loop
 loop-holds c = (earliest-none _, search needs)
@@ -33,7 +38,7 @@ loop-less : tie.Need-loop-less Inv-loop μ-loop
 loop-less c = search needs
 
 loop-again : tie.Need-loop-again Inv-loop μ-loop
-loop-again c = (earliest-next _ _ (c .before .before .before .loop .inv .0) (c .before .stray-step .ensures) (c .earlier .ensures), search needs)
+loop-again c = (earliest-next _ _ (at-loop (search) .loop .inv .0) (c .before .stray-step .ensures) (c .earlier .ensures), search needs)
 
 returns : tie.Need-returns Inv-loop μ-loop
 returns c = earliest-all _ (c .before .loop .inv .0) (c .before .loop .inv .1) (c .loop-test .left)

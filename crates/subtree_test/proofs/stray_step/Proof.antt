@@ -9,6 +9,16 @@ use Rattle.subtree_test.proofs.Placing.{root-judged, late-judged, early
 use Rattle.subtree_test.proofs.stray_step.Statement.{statement}
 use Rattle.subtree_test.proofs.stray_step.Tie as tie
 
+-- The places that the answers look back to: `entry (search)` is the one behind the answer at hand.
+abbrev entry : tie.Start → tie.Start
+entry c = c
+
+abbrev else1 : tie.Else1 → tie.Else1
+else1 c = c
+
+abbrev then2 : tie.Then2 → tie.Then2
+then2 c = c
+
 mul-p : tie.Need-mul-p
 mul-p c = search needs
 
@@ -19,13 +29,13 @@ cast-p : tie.Need-cast-p
 cast-p c = omega (arith, c .shared-slice-known .given (c .before .args .i))
 
 returns : tie.Need-returns
-returns c = root-judged _ (now (c .before .before .args .steps)) (now (c .before .before .args .below)) _ (c .if1 .taken)
+returns c = root-judged _ (now (entry (search) .args .steps)) (now (entry (search) .args .below)) _ (c .if1 .taken)
 
 mul-top : tie.Need-mul-top
-mul-top c = let h = sums-fit _ _ _ _ (c .before .before .pre .0) (c .before .before .pre .1) (c .if1 .left) in search needs
+mul-top c = let h = sums-fit _ _ _ _ (entry (search) .pre .0) (entry (search) .pre .1) (c .if1 .left) in search needs
 
 shared-slice-read-top : tie.Need-shared-slice-read-top
-shared-slice-read-top c = sums-fit _ _ _ _ (c .before .before .before .pre .0) (c .before .before .before .pre .1) (c .before .if1 .left) .0
+shared-slice-read-top c = sums-fit _ _ _ _ (entry (search) .pre .0) (entry (search) .pre .1) (c .before .if1 .left) .0
 
 add-own : tie.Need-add-own
 add-own c = search needs
@@ -46,26 +56,27 @@ shared-slice-read-if3 : tie.Need-shared-slice-read-if3
 shared-slice-read-if3 c = search needs
 
 add-if3-2 : tie.Need-add-if3-2
-add-if3-2 c = let h = sums-fit _ _ _ _ (c .before .before .before .before .before .before .pre .0) (c .before .before .before .before .before .before .pre .1) (c .before .before .before .before .if1 .left) in search needs
+add-if3-2 c = let h = sums-fit _ _ _ _ (entry (search) .pre .0) (entry (search) .pre .1) (else1 (search) .if1 .left) in search needs
 
 mul-if3-2 : tie.Need-mul-if3-2
-mul-if3-2 c = let h = sums-fit _ _ _ _ (c .before .before .before .before .before .before .pre .0) (c .before .before .before .before .before .before .pre .1) (c .before .before .before .before .if1 .left) in search needs
+mul-if3-2 c = let h = sums-fit _ _ _ _ (entry (search) .pre .0) (entry (search) .pre .1) (else1 (search) .if1 .left) in search needs
 
 shared-slice-read-if3-2 : tie.Need-shared-slice-read-if3-2
-shared-slice-read-if3-2 c = sums-fit _ _ _ _ (c .before .before .before .before .before .before .before .pre .0) (c .before .before .before .before .before .before .before .pre .1) (c .before .before .before .before .before .if1 .left) .1
+shared-slice-read-if3-2 c = sums-fit _ _ _ _ (entry (search) .pre .0) (entry (search) .pre .1) (else1 (search) .if1 .left) .1
 
 add-if3-3 : tie.Need-add-if3-3
-add-if3-3 c = let h = sums-fit _ _ _ _ (c .before .before .before .before .before .before .before .pre .0) (c .before .before .before .before .before .before .before .pre .1) (c .before .before .before .before .before .if1 .left) in search needs
+add-if3-3 c = let h = sums-fit _ _ _ _ (entry (search) .pre .0) (entry (search) .pre .1) (else1 (search) .if1 .left) in search needs
 
 returns-2 : tie.Need-returns-2
 returns-2 c =
-    let args = c .before .before .before .before .before .before .before .before .args in
-    none-judged _ (now (args .steps)) (now (args .below)) _ (c .before .before .before .before .before .before .if1 .left) (c .before .before .before .if2 .taken) (leb-true _ _ (c .if3 .taken))
+    let args = entry (search) .args in
+    none-judged _ (now (args .steps)) (now (args .below)) _ (else1 (search) .if1 .left) (then2 (search) .if2 .taken) (leb-true _ _ (c .if3 .taken))
 
 returns-3 : tie.Need-returns-3
 returns-3 c =
-    let args = c .before .before .before .before .before .args in
-    ⊎-elim (λ w. early-judged _ (now (args .steps)) (now (args .below)) _ (c .before .before .before .if1 .left) (w .0 .taken) (leb-false _ _ (w .3 .left))) (λ w. late-judged _ (now (args .steps)) (now (args .below)) _ (c .before .before .before .if1 .left) (w .left)) (c .if2 .came)
+    let args = entry (search) .args in
+    ⊎-elim (λ w. early-judged _ (now (args .steps)) (now (args .below)) _ (else1 (search) .if1 .left) (w .0 .taken) (leb-false _ _ (w .3 .left)))
+    (λ w. late-judged _ (now (args .steps)) (now (args .below)) _ (else1 (search) .if1 .left) (w .left)) (c .if2 .came)
 
 pub stray-step-spec : {M : Type 1} → statement M
 stray-step-spec =

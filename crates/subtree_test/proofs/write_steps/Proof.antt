@@ -14,6 +14,13 @@ Inv-loop order steps₀ k₀ steps k = Writing order steps k
 abbrev μ-loop : tie.MeasureT-loop
 μ-loop order steps₀ k₀ steps k = length order - k
 
+-- The places that the answers look back to: `entry (search)` is the one behind the answer at hand.
+abbrev entry : tie.Start Inv-loop μ-loop → tie.Start Inv-loop μ-loop
+entry c = c
+
+abbrev at-loop : tie.At-loop Inv-loop μ-loop → tie.At-loop Inv-loop μ-loop
+at-loop c = c
+
 loop-holds : tie.Need-loop-holds Inv-loop μ-loop
 loop-holds c = writing-start _ _ (c .pre .1)
 
@@ -27,13 +34,13 @@ shared-slice-read-steps : tie.Need-shared-slice-read-steps Inv-loop μ-loop
 shared-slice-read-steps c = search needs
 
 cast-steps : tie.Need-cast-steps Inv-loop μ-loop
-cast-steps c = omega (arith, column-fits (c .before .before .before .pre .0) (c .before .before .loop .k) (search needs))
+cast-steps c = omega (arith, column-fits (entry (search) .pre .0) (at-loop (search) .loop .k) (search needs))
 
 mul-steps-2 : tie.Need-mul-steps-2 Inv-loop μ-loop
-mul-steps-2 c = let h = column-fits (c .before .before .before .pre .0) (c .before .before .loop .k) (search needs) in search needs
+mul-steps-2 c = let h = column-fits (entry (search) .pre .0) (at-loop (search) .loop .k) (search needs) in search needs
 
 slice-write-steps : tie.Need-slice-write-steps Inv-loop μ-loop
-slice-write-steps c = let h = column-fits (c .before .before .before .pre .0) (c .before .before .loop .k) (search needs) in search needs
+slice-write-steps c = let h = column-fits (entry (search) .pre .0) (at-loop (search) .loop .k) (search needs) in search needs
 
 add-k : tie.Need-add-k Inv-loop μ-loop
 add-k c = search needs
@@ -42,7 +49,7 @@ loop-less : tie.Need-loop-less Inv-loop μ-loop
 loop-less c = search needs
 
 loop-again : tie.Need-loop-again Inv-loop μ-loop
-loop-again c = writing-turn (c .before .before .before .pre .0) (c .before .before .loop .inv) (search needs)
+loop-again c = writing-turn (entry (search) .pre .0) (at-loop (search) .loop .inv) (search needs)
 
 same-length : tie.Need-same-length Inv-loop μ-loop
 same-length c = search needs

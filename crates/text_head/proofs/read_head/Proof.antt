@@ -6,6 +6,13 @@ use Rattle.text_head.proofs.Heads.{head-bad, head-one, head-further}
 use Rattle.text_head.proofs.read_head.Statement.{statement}
 use Rattle.text_head.proofs.read_head.Tie as tie
 
+-- The places that the answers look back to: `read (search)` is the one behind the answer at hand.
+abbrev read : tie.After-read-word → tie.After-read-word
+read c = c
+
+abbrev after-n : tie.After-n → tie.After-n
+after-n c = c
+
 read-word-requires : tie.Need-read-word-requires
 read-word-requires c κs = search needs
 
@@ -13,22 +20,22 @@ enum-told : tie.Need-enum-told
 enum-told c = search needs
 
 returns : tie.Need-returns
-returns c = head-one (word-last (c .before .before .read-word .ensures) (c .enum-told .given .1))
+returns c = head-one (word-last (read (search) .read-word .ensures) (c .enum-told .given .1))
 
 enum-known-n : tie.Need-enum-known-n
 enum-known-n c = search needs
 
 read-limit-requires : tie.Need-read-limit-requires
-read-limit-requires c κs = word-more (c .before .before .before .read-word .ensures) (c .before .n .given .1) .inside
+read-limit-requires c κs = word-more (read (search) .read-word .ensures) (c .before .n .given .1) .inside
 
 returns-2 : tie.Need-returns-2
-returns-2 c = head-further (word-more (c .before .before .before .before .read-word .ensures) (c .before .before .n .given .1)) _ (c .read-limit .ensures)
+returns-2 c = head-further (word-more (read (search) .read-word .ensures) (after-n (search) .n .given .1)) _ (c .read-limit .ensures)
 
 enum-told-2 : tie.Need-enum-told-2
 enum-told-2 c = search needs
 
 returns-3 : tie.Need-returns-3
-returns-3 c = head-bad (word-bad (c .before .before .read-word .ensures) (c .enum-told2 .given .1))
+returns-3 c = head-bad (word-bad (read (search) .read-word .ensures) (c .enum-told2 .given .1))
 
 pub read-head-spec : {M : Type 1} → statement M
 read-head-spec =

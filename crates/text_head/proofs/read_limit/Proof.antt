@@ -6,6 +6,13 @@ use Rattle.text_head.proofs.Heads.{head-bad, head-two, head-further}
 use Rattle.text_head.proofs.read_limit.Statement.{statement}
 use Rattle.text_head.proofs.read_limit.Tie as tie
 
+-- The places that the answers look back to: `read (search)` is the one behind the answer at hand.
+abbrev read : tie.After-read-word → tie.After-read-word
+read c = c
+
+abbrev after-limit2 : tie.After-limit2 → tie.After-limit2
+after-limit2 c = c
+
 read-word-requires : tie.Need-read-word-requires
 read-word-requires c κs = search needs
 
@@ -13,22 +20,22 @@ enum-known-limit : tie.Need-enum-known-limit
 enum-known-limit c = search needs
 
 returns : tie.Need-returns
-returns c = head-two (word-last (c .before .before .before .read-word .ensures) (c .before .limit .given .1)) _
+returns c = head-two (word-last (read (search) .read-word .ensures) (c .before .limit .given .1)) _
 
 enum-known-limit-2 : tie.Need-enum-known-limit-2
 enum-known-limit-2 c = search needs
 
 read-mark-requires : tie.Need-read-mark-requires
-read-mark-requires c κs = word-more (c .before .before .before .read-word .ensures) (c .before .limit2 .given .1) .inside
+read-mark-requires c κs = word-more (read (search) .read-word .ensures) (c .before .limit2 .given .1) .inside
 
 returns-2 : tie.Need-returns-2
-returns-2 c = head-further (word-more (c .before .before .before .before .read-word .ensures) (c .before .before .limit2 .given .1)) _ (c .read-mark .ensures)
+returns-2 c = head-further (word-more (read (search) .read-word .ensures) (after-limit2 (search) .limit2 .given .1)) _ (c .read-mark .ensures)
 
 enum-told : tie.Need-enum-told
 enum-told c = search needs
 
 returns-3 : tie.Need-returns-3
-returns-3 c = head-bad (word-bad (c .before .before .read-word .ensures) (c .enum-told .given .1))
+returns-3 c = head-bad (word-bad (read (search) .read-word .ensures) (c .enum-told .given .1))
 
 pub read-limit-spec : {M : Type 1} → statement M
 read-limit-spec =

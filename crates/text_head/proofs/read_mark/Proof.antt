@@ -6,6 +6,10 @@ use Rattle.text_head.proofs.Heads.{head-bad, head-three, head-four}
 use Rattle.text_head.proofs.read_mark.Statement.{statement}
 use Rattle.text_head.proofs.read_mark.Tie as tie
 
+-- The places that the answers look back to: `read (search)` is the one behind the answer at hand.
+abbrev read : tie.After-read-word → tie.After-read-word
+read c = c
+
 read-word-requires : tie.Need-read-word-requires
 read-word-requires c κs = search needs
 
@@ -13,19 +17,19 @@ enum-known-mark : tie.Need-enum-known-mark
 enum-known-mark c = search needs
 
 returns : tie.Need-returns
-returns c = head-three (word-last (c .before .before .before .read-word .ensures) (c .before .mark .given .1)) _ _
+returns c = head-three (word-last (read (search) .read-word .ensures) (c .before .mark .given .1)) _ _
 
 enum-told : tie.Need-enum-told
 enum-told c = search needs
 
 returns-2 : tie.Need-returns-2
-returns-2 c = head-four (word-more (c .before .before .read-word .ensures) (c .enum-told .given .1)) _ _
+returns-2 c = head-four (word-more (read (search) .read-word .ensures) (c .enum-told .given .1)) _ _
 
 enum-told-2 : tie.Need-enum-told-2
 enum-told-2 c = search needs
 
 returns-3 : tie.Need-returns-3
-returns-3 c = head-bad (word-bad (c .before .before .read-word .ensures) (c .enum-told2 .given .1))
+returns-3 c = head-bad (word-bad (read (search) .read-word .ensures) (c .enum-told2 .given .1))
 
 pub read-mark-spec : {M : Type 1} → statement M
 read-mark-spec =

@@ -7,6 +7,25 @@ use Rattle.text_lines.proofs.Rows.{line-bad, line-alone, line-lacks, li
 use Rattle.text_lines.proofs.read_line.Statement.{statement}
 use Rattle.text_lines.proofs.read_line.Tie as tie
 
+-- The places that the answers look back to: `entry (search)` is the one behind the answer at hand.
+abbrev entry : tie.Start → tie.Start
+entry c = c
+
+abbrev after-read-word : tie.After-read-word → tie.After-read-word
+after-read-word c = c
+
+abbrev after-said : tie.After-said → tie.After-said
+after-said c = c
+
+abbrev after-said2 : tie.After-said2 → tie.After-said2
+after-said2 c = c
+
+abbrev after-read-rows : tie.After-read-rows → tie.After-read-rows
+after-read-rows c = c
+
+abbrev after-count : tie.After-count → tie.After-count
+after-count c = c
+
 read-word-requires : tie.Need-read-word-requires
 read-word-requires c κs = search needs
 
@@ -14,22 +33,24 @@ enum-told : tie.Need-enum-told
 enum-told c = search needs
 
 returns : tie.Need-returns
-returns c = line-bad (word-bad (c .before .before .read-word .ensures) (c .enum-told .given .1))
+returns c = line-bad (word-bad (after-read-word (search) .read-word .ensures) (c .enum-told .given .1))
 
 enum-known-said : tie.Need-enum-known-said
 enum-known-said c = search needs
 
 returns-2 : tie.Need-returns-2
-returns-2 c = line-lacks (word-last (c .before .before .before .before .read-word .ensures) (c .before .before .said .given .1)) (c .if1 .taken)
+returns-2 c = line-lacks (word-last (after-read-word (search) .read-word .ensures) (after-said (search) .said .given .1)) (c .if1 .taken)
 
 returns-3 : tie.Need-returns-3
-returns-3 c = line-alone (word-last (c .before .before .before .before .read-word .ensures) (c .before .before .said .given .1)) (c .if1 .left)
+returns-3 c = line-alone (word-last (after-read-word (search) .read-word .ensures) (after-said (search) .said .given .1)) (c .if1 .left)
 
 enum-known-said-2 : tie.Need-enum-known-said-2
 enum-known-said-2 c = search needs
 
 read-rows-requires : tie.Need-read-rows-requires
-read-rows-requires c κs = let w = word-more (c .before .before .before .before .read-word .ensures) (c .before .before .said2 .given .1) in let o = w .on in let p = c .before .before .before .before .before .before .before .pre .1 in (w .inside, omega arith)
+read-rows-requires c κs =
+    let w = word-more (after-read-word (search) .read-word .ensures) (after-said2 (search) .said2 .given .1) in
+    let o = w .on in let p = entry (search) .pre .1 in (w .inside, omega arith)
 
 enum-told-2 : tie.Need-enum-told-2
 enum-told-2 c = search needs
@@ -38,7 +59,9 @@ same-length : tie.Need-same-length
 same-length c = search needs
 
 returns-4 : tie.Need-returns-4
-returns-4 c = line-no-rows (word-more (c .before .before .before .before .before .before .before .before .before .read-word .ensures) (c .before .before .before .before .before .before .before .said2 .given .1)) (c .before .before .before .before .read-rows .ensures) (c .enum-told2 .given .1)
+returns-4 c =
+    line-no-rows (word-more (after-read-word (search) .read-word .ensures) (after-said2 (search) .said2 .given .1))
+    (after-read-rows (search) .read-rows .ensures) (c .enum-told2 .given .1)
 
 enum-known-count : tie.Need-enum-known-count
 enum-known-count c = search needs
@@ -47,13 +70,17 @@ same-length-2 : tie.Need-same-length-2
 same-length-2 c = search needs
 
 returns-5 : tie.Need-returns-5
-returns-5 c = line-differs (word-more (c .before .before .before .before .before .before .before .before .before .before .before .read-word .ensures) (c .before .before .before .before .before .before .before .before .before .said2 .given .1)) (c .before .before .before .before .before .before .read-rows .ensures) (c .before .before .count .given .1) (c .if2 .taken)
+returns-5 c =
+    line-differs (word-more (after-read-word (search) .read-word .ensures) (after-said2 (search) .said2 .given .1))
+    (after-read-rows (search) .read-rows .ensures) (after-count (search) .count .given .1) (c .if2 .taken)
 
 same-length-3 : tie.Need-same-length-3
 same-length-3 c = search needs
 
 returns-6 : tie.Need-returns-6
-returns-6 c = line-rows (word-more (c .before .before .before .before .before .before .before .before .before .before .before .read-word .ensures) (c .before .before .before .before .before .before .before .before .before .said2 .given .1)) (c .before .before .before .before .before .before .read-rows .ensures) (c .before .before .count .given .1) (c .if2 .left)
+returns-6 c =
+    line-rows (word-more (after-read-word (search) .read-word .ensures) (after-said2 (search) .said2 .given .1))
+    (after-read-rows (search) .read-rows .ensures) (after-count (search) .count .given .1) (c .if2 .left)
 
 pub read-line-spec : {M : Type 1} → statement M
 read-line-spec =

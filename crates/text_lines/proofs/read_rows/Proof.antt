@@ -16,8 +16,33 @@ Inv-loop text at rows₀ t k₀ count₀ rows k count = RowsRead text at t rows�
 abbrev μ-loop : tie.MeasureT-loop
 μ-loop text at rows₀ t k₀ count₀ rows k count = length text - k
 
+-- The places that the answers look back to: `entry (search)` is the one behind the answer at hand.
+abbrev entry : tie.Start Inv-loop μ-loop → tie.Start Inv-loop μ-loop
+entry c = c
+
+abbrev at-loop : tie.At-loop Inv-loop μ-loop → tie.At-loop Inv-loop μ-loop
+at-loop c = c
+
+abbrev in-loop : tie.In-loop Inv-loop μ-loop → tie.In-loop Inv-loop μ-loop
+in-loop c = c
+
+abbrev read : tie.After-read-word Inv-loop μ-loop → tie.After-read-word Inv-loop μ-loop
+read c = c
+
+abbrev after-value : tie.After-value Inv-loop μ-loop → tie.After-value Inv-loop μ-loop
+after-value c = c
+
+abbrev after-value2 : tie.After-value2 Inv-loop μ-loop → tie.After-value2 Inv-loop μ-loop
+after-value2 c = c
+
+abbrev after-keep-row : tie.After-keep-row Inv-loop μ-loop → tie.After-keep-row Inv-loop μ-loop
+after-keep-row c = c
+
+abbrev after-keep-row2 : tie.After-keep-row2 Inv-loop μ-loop → tie.After-keep-row2 Inv-loop μ-loop
+after-keep-row2 c = c
+
 loop-holds : tie.Need-loop-holds Inv-loop μ-loop
-loop-holds c = rows-start _ _ _ _ (c .before .before .pre .0)
+loop-holds c = rows-start _ _ _ _ (entry (search) .pre .0)
 
 read-word-requires : tie.Need-read-word-requires Inv-loop μ-loop
 read-word-requires c κs = c .before .loop .inv .inside
@@ -26,10 +51,10 @@ enum-told : tie.Need-enum-told Inv-loop μ-loop
 enum-told c = search needs
 
 same-length : tie.Need-same-length Inv-loop μ-loop
-same-length c = rows-long (c .before .before .before .before .loop .inv)
+same-length c = rows-long (at-loop (search) .loop .inv)
 
 returns : tie.Need-returns Inv-loop μ-loop
-returns c = rows-bad (c .before .before .before .before .loop .inv) (word-bad (c .before .before .read-word .ensures) (c .enum-told .given .1))
+returns c = rows-bad (at-loop (search) .loop .inv) (word-bad (read (search) .read-word .ensures) (c .enum-told .given .1))
 
 enum-known-value : tie.Need-enum-known-value Inv-loop μ-loop
 enum-known-value c = search needs
@@ -44,10 +69,12 @@ add-t17 : tie.Need-add-t17 Inv-loop μ-loop
 add-t17 c = search needs
 
 same-length-2 : tie.Need-same-length-2 Inv-loop μ-loop
-same-length-2 c = c .before .before .keep-row .kept .0 ∙ rows-long (c .before .before .before .before .before .before .before .before .before .loop .inv)
+same-length-2 c = after-keep-row (search) .keep-row .kept .0 ∙ rows-long (at-loop (search) .loop .inv)
 
 returns-2 : tie.Need-returns-2 Inv-loop μ-loop
-returns-2 c = rows-last (c .before .before .before .before .before .before .before .before .before .loop .inv) (word-last (c .before .before .before .before .before .before .before .read-word .ensures) (c .before .before .before .before .before .value .given .1)) (c .before .before .keep-row .ensures)
+returns-2 c =
+    rows-last (at-loop (search) .loop .inv) (word-last (read (search) .read-word .ensures) (after-value (search) .value .given .1))
+    (after-keep-row (search) .keep-row .ensures)
 
 enum-known-value-2 : tie.Need-enum-known-value-2 Inv-loop μ-loop
 enum-known-value-2 c = search needs
@@ -62,10 +89,14 @@ add-count : tie.Need-add-count Inv-loop μ-loop
 add-count c = search needs
 
 loop-less : tie.Need-loop-less Inv-loop μ-loop
-loop-less c = let o = word-more (c .before .before .before .before .before .before .before .read-word .ensures) (c .before .before .before .before .before .value2 .given .1) .on in let t = c .before .before .before .before .before .before .before .before .loop-test .taken in omega arith
+loop-less c =
+    let o = word-more (read (search) .read-word .ensures) (after-value2 (search) .value2 .given .1) .on in
+    let t = in-loop (search) .loop-test .taken in omega arith
 
 loop-again : tie.Need-loop-again Inv-loop μ-loop
-loop-again c = rows-turn (c .before .before .before .before .before .before .before .before .before .loop .inv) (word-more (c .before .before .before .before .before .before .before .read-word .ensures) (c .before .before .before .before .before .value2 .given .1)) (c .before .before .keep-row2 .ensures)
+loop-again c =
+    rows-turn (at-loop (search) .loop .inv) (word-more (read (search) .read-word .ensures) (after-value2 (search) .value2 .given .1))
+    (after-keep-row2 (search) .keep-row2 .ensures)
 
 same-length-3 : tie.Need-same-length-3 Inv-loop μ-loop
 same-length-3 c = rows-long (c .before .loop .inv)

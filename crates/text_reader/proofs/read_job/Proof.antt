@@ -6,6 +6,28 @@ use Rattle.text_reader.proofs.Jobs.{told-head, told-no-head, told-more,
 use Rattle.text_reader.proofs.read_job.Statement.{statement}
 use Rattle.text_reader.proofs.read_job.Tie as tie
 
+-- The places that the answers look back to: `entry (search)` is the one behind the answer at hand.
+abbrev entry : tie.Start → tie.Start
+entry c = c
+
+abbrev else1 : tie.Else1 → tie.Else1
+else1 c = c
+
+abbrev else2 : tie.Else2 → tie.Else2
+else2 c = c
+
+abbrev after-read-head : tie.After-read-head → tie.After-read-head
+after-read-head c = c
+
+abbrev after-head : tie.After-head → tie.After-head
+after-head c = c
+
+abbrev else3 : tie.Else3 → tie.Else3
+else3 c = c
+
+abbrev after-read-lines : tie.After-read-lines → tie.After-read-lines
+after-read-lines c = c
+
 returns : tie.Need-returns
 returns c = told-more (c .if1 .taken)
 
@@ -19,16 +41,22 @@ enum-told : tie.Need-enum-told
 enum-told c = search needs
 
 returns-3 : tie.Need-returns-3
-returns-3 c = told-bad-head (c .before .before .before .before .if1 .left) (c .before .before .before .if2 .left) (told-no-head (c .before .before .read-head .ensures) (c .enum-told .given .1))
+returns-3 c =
+    told-bad-head (else1 (search) .if1 .left) (else2 (search) .if2 .left) (told-no-head (after-read-head (search) .read-head .ensures)
+    (c .enum-told .given .1))
 
 enum-known-head : tie.Need-enum-known-head
 enum-known-head c = search needs
 
 returns-4 : tie.Need-returns-4
-returns-4 c = told-columns (c .before .before .before .before .before .before .before .if1 .left) (c .before .before .before .before .before .before .if2 .left) (told-head (c .before .before .before .before .before .read-head .ensures) (c .before .before .before .head .given .1)) (c .if3 .taken)
+returns-4 c =
+    told-columns (else1 (search) .if1 .left) (else2 (search) .if2 .left) (told-head (after-read-head (search) .read-head .ensures)
+    (after-head (search) .head .given .1)) (c .if3 .taken)
 
 read-lines-requires : tie.Need-read-lines-requires
-read-lines-requires c κs = let x = told-head (c .before .before .before .before .before .before .before .read-head .ensures) (c .before .before .before .before .before .head .given .1) in (x .ends, sym (ap (λ q. q .n) (x .is)), c .before .before .if3 .left, c .before .before .before .before .before .before .before .before .before .before .before .before .before .pre)
+read-lines-requires c κs =
+    let x = told-head (after-read-head (search) .read-head .ensures) (after-head (search) .head .given .1) in
+    (x .ends, sym (ap (λ q. q .n) (x .is)), else3 (search) .if3 .left, entry (search) .pre)
 
 enum-known-number : tie.Need-enum-known-number
 enum-known-number c = search needs
@@ -40,7 +68,10 @@ same-length-2 : tie.Need-same-length-2
 same-length-2 c = search needs
 
 returns-5 : tie.Need-returns-5
-returns-5 c = told-bad-lines (c .before .before .before .before .before .before .before .before .before .before .before .before .before .before .before .before .before .if1 .left) (c .before .before .before .before .before .before .before .before .before .before .before .before .before .before .before .before .if2 .left) (told-head (c .before .before .before .before .before .before .before .before .before .before .before .before .before .before .before .read-head .ensures) (c .before .before .before .before .before .before .before .before .before .before .before .before .before .head .given .1)) (c .before .before .before .before .before .before .before .before .before .before .if3 .left) (c .before .before .before .before .before .before .before .read-lines .ensures) (c .before .number .given .1)
+returns-5 c =
+    told-bad-lines (else1 (search) .if1 .left) (else2 (search) .if2 .left) (told-head (after-read-head (search) .read-head .ensures)
+    (after-head (search) .head .given .1)) (else3 (search) .if3 .left) (after-read-lines (search) .read-lines .ensures)
+    (c .before .number .given .1)
 
 enum-known-count : tie.Need-enum-known-count
 enum-known-count c = search needs
@@ -52,7 +83,10 @@ same-length-4 : tie.Need-same-length-4
 same-length-4 c = search needs
 
 returns-6 : tie.Need-returns-6
-returns-6 c = told-job (c .before .before .before .before .before .before .before .before .before .before .before .before .before .before .before .before .before .if1 .left) (c .before .before .before .before .before .before .before .before .before .before .before .before .before .before .before .before .if2 .left) (told-head (c .before .before .before .before .before .before .before .before .before .before .before .before .before .before .before .read-head .ensures) (c .before .before .before .before .before .before .before .before .before .before .before .before .before .head .given .1)) (c .before .before .before .before .before .before .before .before .before .before .if3 .left) (c .before .before .before .before .before .before .before .read-lines .ensures) (c .before .count .given .1)
+returns-6 c =
+    told-job (else1 (search) .if1 .left) (else2 (search) .if2 .left) (told-head (after-read-head (search) .read-head .ensures)
+    (after-head (search) .head .given .1)) (else3 (search) .if3 .left) (after-read-lines (search) .read-lines .ensures)
+    (c .before .count .given .1)
 
 pub read-job-spec : {M : Type 1} → statement M
 read-job-spec =

@@ -8,7 +8,8 @@ use lib.ListN.{length-set}
 use denote.Ref.{now}
 use borrow.Author.Needs.{needs}
 use Rattle.text_reader.proofs.RowLines.{told-rows, told-bad}
-use Rattle.text_reader.proofs.LinesRead.{LinesRead, lines-start, told-first, starts-long, rows-long, lines-bad, lines-over, lines-turn, lines-left, lines-done}
+use Rattle.text_reader.proofs.LinesRead.{LinesRead, lines-start, told-first, starts-long, rows-long, lines-bad, lines-over}
+use Rattle.text_reader.proofs.LinesRead.{lines-turn, lines-left, lines-done}
 use Rattle.text_reader.proofs.read_lines.Statement.{statement}
 use Rattle.text_reader.proofs.read_lines.Tie as tie
 
@@ -18,14 +19,30 @@ Inv-loop text at n starts₀ rows₀ j₀ total₀ k₀ starts rows j total k = 
 abbrev μ-loop : tie.MeasureT-loop
 μ-loop text at n starts₀ rows₀ j₀ total₀ k₀ starts rows j total k = n - j
 
+-- The places that the answers look back to: `entry (search)` is the one behind the answer at hand.
+abbrev entry : tie.Start Inv-loop μ-loop → tie.Start Inv-loop μ-loop
+entry c = c
+
+abbrev at-loop : tie.At-loop Inv-loop μ-loop → tie.At-loop Inv-loop μ-loop
+at-loop c = c
+
+abbrev in-loop : tie.In-loop Inv-loop μ-loop → tie.In-loop Inv-loop μ-loop
+in-loop c = c
+
+abbrev read : tie.After-read-line Inv-loop μ-loop → tie.After-read-line Inv-loop μ-loop
+read c = c
+
+abbrev after-count : tie.After-count Inv-loop μ-loop → tie.After-count Inv-loop μ-loop
+after-count c = c
+
 slice-write-starts : tie.Need-slice-write-starts Inv-loop μ-loop
 slice-write-starts c = search needs
 
 loop-holds : tie.Need-loop-holds Inv-loop μ-loop
-loop-holds c = lines-start _ _ (now (c .before .before .before .args .starts)) _ (c .before .before .before .pre .0)
+loop-holds c = lines-start _ _ (now (entry (search) .args .starts)) _ (entry (search) .pre .0)
 
 read-line-requires : tie.Need-read-line-requires Inv-loop μ-loop
-read-line-requires c κs = (c .before .before .loop .inv .inside, c .before .before .loop .inv .paced)
+read-line-requires c κs = (at-loop (search) .loop .inv .inside, at-loop (search) .loop .inv .paced)
 
 enum-told : tie.Need-enum-told Inv-loop μ-loop
 enum-told c = search needs
@@ -34,31 +51,37 @@ add-t16 : tie.Need-add-t16 Inv-loop μ-loop
 add-t16 c = search needs
 
 same-length : tie.Need-same-length Inv-loop μ-loop
-same-length c = starts-long (c .before .before .before .before .before .before .before .loop .inv) ∙ length-set (now (c .before .before .before .before .before .before .before .before .before .before .before .args .starts)) 0 0
+same-length c = starts-long (at-loop (search) .loop .inv) ∙ length-set (now (entry (search) .args .starts)) 0 0
 
 same-length-2 : tie.Need-same-length-2 Inv-loop μ-loop
-same-length-2 c = c .before .before .before .before .read-line .kept .1 .1 .0 ∙ rows-long (c .before .before .before .before .before .before .before .loop .inv)
+same-length-2 c = read (search) .read-line .kept .1 .1 .0 ∙ rows-long (at-loop (search) .loop .inv)
 
 returns : tie.Need-returns Inv-loop μ-loop
-returns c = told-first (lines-bad (c .before .before .before .before .before .before .before .loop .inv) (c .before .before .before .before .before .before .before .before .before .before .before .pre .1) (c .before .before .before .before .before .before .loop-test .taken) (told-bad (c .before .before .before .before .read-line .ensures) (c .enum-told .given .1)))
+returns c =
+    told-first (lines-bad (at-loop (search) .loop .inv) (entry (search) .pre .1) (in-loop (search) .loop-test .taken)
+    (told-bad (read (search) .read-line .ensures) (c .enum-told .given .1)))
 
 enum-known-count : tie.Need-enum-known-count Inv-loop μ-loop
 enum-known-count c = search needs
 
 add-total : tie.Need-add-total Inv-loop μ-loop
-add-total c = let y = told-rows (c .before .before .before .before .before .read-line .ensures) (c .before .count .given .1) in let p = y .paced in let i = y .ends .inside in let q = c .before .before .before .before .before .before .before .before .loop .inv .paced in search needs
+add-total c =
+    let y = told-rows (read (search) .read-line .ensures) (c .before .count .given .1) in
+    let p = y .paced in let i = y .ends .inside in let q = at-loop (search) .loop .inv .paced in search needs
 
 add-t18 : tie.Need-add-t18 Inv-loop μ-loop
 add-t18 c = search needs
 
 same-length-3 : tie.Need-same-length-3 Inv-loop μ-loop
-same-length-3 c = starts-long (c .before .before .before .before .before .before .before .before .before .loop .inv) ∙ length-set (now (c .before .before .before .before .before .before .before .before .before .before .before .before .before .args .starts)) 0 0
+same-length-3 c = starts-long (at-loop (search) .loop .inv) ∙ length-set (now (entry (search) .args .starts)) 0 0
 
 same-length-4 : tie.Need-same-length-4 Inv-loop μ-loop
-same-length-4 c = c .before .before .before .before .before .before .read-line .kept .1 .1 .0 ∙ rows-long (c .before .before .before .before .before .before .before .before .before .loop .inv)
+same-length-4 c = read (search) .read-line .kept .1 .1 .0 ∙ rows-long (at-loop (search) .loop .inv)
 
 returns-2 : tie.Need-returns-2 Inv-loop μ-loop
-returns-2 c = told-first (lines-over (c .before .before .before .before .before .before .before .before .before .loop .inv) (told-rows (c .before .before .before .before .before .before .read-line .ensures) (c .before .before .count .given .1)) (c .before .before .before .before .before .before .before .before .before .before .before .before .before .pre .1) (c .before .before .before .before .before .before .before .before .loop-test .taken) (c .if1 .taken))
+returns-2 c =
+    told-first (lines-over (at-loop (search) .loop .inv) (told-rows (read (search) .read-line .ensures) (after-count (search) .count .given .1))
+    (entry (search) .pre .1) (in-loop (search) .loop-test .taken) (c .if1 .taken))
 
 add-j : tie.Need-add-j Inv-loop μ-loop
 add-j c = search needs
@@ -67,34 +90,38 @@ mul-starts : tie.Need-mul-starts Inv-loop μ-loop
 mul-starts c = search needs
 
 slice-write-starts-2 : tie.Need-slice-write-starts-2 Inv-loop μ-loop
-slice-write-starts-2 c = let e = starts-long (c .before .before .before .before .before .before .before .before .before .loop .inv) ∙ length-set (now (c .before .before .before .before .before .before .before .before .before .before .before .before .before .args .starts)) 0 0 in let t = c .before .before .before .before .before .before .before .before .loop-test .taken in let p = c .before .before .before .before .before .before .before .before .before .before .before .before .before .pre .2 in let q = c .before .before .before .before .before .before .before .before .before .before .before .before .before .pre .3 in omega arith
+slice-write-starts-2 c =
+    let e = starts-long (at-loop (search) .loop .inv) ∙ length-set (now (entry (search) .args .starts)) 0 0 in
+    let t = in-loop (search) .loop-test .taken in let p = entry (search) .pre .2 in let q = entry (search) .pre .3 in omega arith
 
 loop-less : tie.Need-loop-less Inv-loop μ-loop
 loop-less c = search needs
 
 loop-again : tie.Need-loop-again Inv-loop μ-loop
-loop-again c = lines-turn (c .before .before .before .before .before .before .before .before .before .loop .inv) (told-rows (c .before .before .before .before .before .before .read-line .ensures) (c .before .before .count .given .1)) (c .before .before .before .before .before .before .before .before .loop-test .taken) (c .if1 .left) refl
+loop-again c =
+    lines-turn (at-loop (search) .loop .inv) (told-rows (read (search) .read-line .ensures) (after-count (search) .count .given .1))
+    (in-loop (search) .loop-test .taken) (c .if1 .left) refl
 
 add-t25 : tie.Need-add-t25 Inv-loop μ-loop
 add-t25 c = search needs
 
 same-length-5 : tie.Need-same-length-5 Inv-loop μ-loop
-same-length-5 c = starts-long (c .before .before .loop .inv) ∙ length-set (now (c .before .before .before .before .before .before .args .starts)) 0 0
+same-length-5 c = starts-long (at-loop (search) .loop .inv) ∙ length-set (now (entry (search) .args .starts)) 0 0
 
 same-length-6 : tie.Need-same-length-6 Inv-loop μ-loop
-same-length-6 c = rows-long (c .before .before .loop .inv)
+same-length-6 c = rows-long (at-loop (search) .loop .inv)
 
 returns-3 : tie.Need-returns-3 Inv-loop μ-loop
-returns-3 c = told-first (lines-left (c .before .before .loop .inv) (c .before .before .before .before .before .before .pre .1) (c .before .loop-test .left) (c .if2 .taken))
+returns-3 c = told-first (lines-left (at-loop (search) .loop .inv) (entry (search) .pre .1) (c .before .loop-test .left) (c .if2 .taken))
 
 same-length-7 : tie.Need-same-length-7 Inv-loop μ-loop
-same-length-7 c = starts-long (c .before .before .loop .inv) ∙ length-set (now (c .before .before .before .before .before .before .args .starts)) 0 0
+same-length-7 c = starts-long (at-loop (search) .loop .inv) ∙ length-set (now (entry (search) .args .starts)) 0 0
 
 same-length-8 : tie.Need-same-length-8 Inv-loop μ-loop
-same-length-8 c = rows-long (c .before .before .loop .inv)
+same-length-8 c = rows-long (at-loop (search) .loop .inv)
 
 returns-4 : tie.Need-returns-4 Inv-loop μ-loop
-returns-4 c = told-first (lines-done (c .before .before .loop .inv) (c .before .before .before .before .before .before .pre .1) (c .before .loop-test .left) (c .if2 .left))
+returns-4 c = told-first (lines-done (at-loop (search) .loop .inv) (entry (search) .pre .1) (c .before .loop-test .left) (c .if2 .left))
 
 pub read-lines-spec : {M : Type 1} → statement M
 read-lines-spec =

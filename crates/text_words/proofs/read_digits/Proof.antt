@@ -15,6 +15,22 @@ Inv-loop text at most i₀ value₀ i value = DigitsRead text at i value
 abbrev μ-loop : tie.MeasureT-loop
 μ-loop text at most i₀ value₀ i value = most - i
 
+-- The places that the answers look back to: `entry (search)` is the one behind the answer at hand.
+abbrev entry : tie.Start Inv-loop μ-loop → tie.Start Inv-loop μ-loop
+entry c = c
+
+abbrev after-lesser : tie.After-lesser Inv-loop μ-loop → tie.After-lesser Inv-loop μ-loop
+after-lesser c = c
+
+abbrev at-loop : tie.At-loop Inv-loop μ-loop → tie.At-loop Inv-loop μ-loop
+at-loop c = c
+
+abbrev in-loop : tie.In-loop Inv-loop μ-loop → tie.In-loop Inv-loop μ-loop
+in-loop c = c
+
+abbrev after-wide8 : tie.After-wide8 Inv-loop μ-loop → tie.After-wide8 Inv-loop μ-loop
+after-wide8 c = c
+
 sub-lesser : tie.Need-sub-lesser Inv-loop μ-loop
 sub-lesser c = search needs
 
@@ -22,7 +38,7 @@ lesser-requires : tie.Need-lesser-requires Inv-loop μ-loop
 lesser-requires c κs = search needs
 
 loop-holds : tie.Need-loop-holds Inv-loop μ-loop
-loop-holds c = digits-start _ _ (c .before .before .pre)
+loop-holds c = digits-start _ _ (entry (search) .pre)
 
 add-wide8 : tie.Need-add-wide8 Inv-loop μ-loop
 add-wide8 c = search needs
@@ -37,16 +53,24 @@ is-digit-requires : tie.Need-is-digit-requires Inv-loop μ-loop
 is-digit-requires c κs = search needs
 
 returns : tie.Need-returns Inv-loop μ-loop
-returns c = (c .before .before .before .before .before .loop .inv, inr (inr (rw (c .before .before .wide8 .ensures .0) at (digit-no _ (c .before .is-digit .ensures) (c .if1 .taken)))))
+returns c = (
+  at-loop (search) .loop .inv,
+  inr (inr (rw (after-wide8 (search) .wide8 .ensures .0) at (digit-no _ (c .before .is-digit .ensures) (c .if1 .taken)))),
+)
 
 mul-value : tie.Need-mul-value Inv-loop μ-loop
-mul-value c = let few = c .before .before .before .before .before .before .lesser .ensures in let fit = digits-fit _ _ (c .before .before .before .before .before .loop .inv) (omega (arith, c .before .before .before .before .loop-test .taken)) in omega arith
+mul-value c =
+    let few = after-lesser (search) .lesser .ensures in
+    let fit = digits-fit _ _ (at-loop (search) .loop .inv) (omega (arith, in-loop (search) .loop-test .taken)) in omega arith
 
 sub-value : tie.Need-sub-value Inv-loop μ-loop
 sub-value c = digit-yes _ (c .before .is-digit .ensures) (c .if1 .left) .0
 
 add-value : tie.Need-add-value Inv-loop μ-loop
-add-value c = let few = c .before .before .before .before .before .before .lesser .ensures in let fit = digits-fit _ _ (c .before .before .before .before .before .loop .inv) (omega (arith, c .before .before .before .before .loop-test .taken)) in let high = c .before .before .wide8 .ensures .1 in omega arith
+add-value c =
+    let few = after-lesser (search) .lesser .ensures in
+    let fit = digits-fit _ _ (at-loop (search) .loop .inv) (omega (arith, in-loop (search) .loop-test .taken)) in
+    let high = after-wide8 (search) .wide8 .ensures .1 in omega arith
 
 add-i : tie.Need-add-i Inv-loop μ-loop
 add-i c = search needs
@@ -55,10 +79,20 @@ loop-less : tie.Need-loop-less Inv-loop μ-loop
 loop-less c = search needs
 
 loop-again : tie.Need-loop-again Inv-loop μ-loop
-loop-again c = let few = c .before .before .before .before .before .before .lesser .ensures in let t = c .before .before .before .before .loop-test .taken in digits-turn _ _ (c .before .before .before .before .before .loop .inv) (omega arith) (omega arith) (c .before .before .wide8 .ensures .0) (digit-yes _ (c .before .is-digit .ensures) (c .if1 .left))
+loop-again c =
+    let few = after-lesser (search) .lesser .ensures in
+    let t = in-loop (search) .loop-test .taken in
+    digits-turn _ _ (at-loop (search) .loop .inv) (omega arith) (omega arith) (after-wide8 (search) .wide8 .ensures .0)
+    (digit-yes _ (c .before .is-digit .ensures) (c .if1 .left))
 
 returns-2 : tie.Need-returns-2 Inv-loop μ-loop
-returns-2 c = let few = c .before .before .lesser .ensures in let l = c .loop-test .left in (c .before .loop .inv, digits-stop _ _ (c .before .loop .inv) (let h = c .before .loop .inv .there .inside in let f = c .before .loop .inv .there .few in omega arith))
+returns-2 c =
+    let few = after-lesser (search) .lesser .ensures in
+    let l = c .loop-test .left in (
+      c .before .loop .inv,
+      digits-stop _ _ (c .before .loop .inv) (let h = c .before .loop .inv .there .inside in let f = c .before .loop .inv .there .few in omega
+          arith),
+    )
 
 pub read-digits-spec : {M : Type 1} → statement M
 read-digits-spec =

@@ -8,6 +8,22 @@ use Rattle.text_words.proofs.Numbers.{number-here, none-ended, none-bad
 use Rattle.text_words.proofs.read_word.Statement.{statement}
 use Rattle.text_words.proofs.read_word.Tie as tie
 
+-- The places that the answers look back to: `read (search)` is the one behind the answer at hand.
+abbrev read : tie.After-read-digits → tie.After-read-digits
+read c = c
+
+abbrev else1 : tie.Else1 → tie.Else1
+else1 c = c
+
+abbrev after-is-decimal : tie.After-is-decimal → tie.After-is-decimal
+after-is-decimal c = c
+
+abbrev else2 : tie.Else2 → tie.Else2
+else2 c = c
+
+abbrev else3 : tie.Else3 → tie.Else3
+else3 c = c
+
 read-digits-requires : tie.Need-read-digits-requires
 read-digits-requires c κs = search needs
 
@@ -15,13 +31,15 @@ add-end : tie.Need-add-end
 add-end c = search needs
 
 returns : tie.Need-returns
-returns c = bad refl (none-ended _ _ (c .before .before .read-digits .ensures .0) (c .before .before .read-digits .ensures .1) (c .if1 .taken))
+returns c = bad refl (none-ended _ _ (read (search) .read-digits .ensures .0) (read (search) .read-digits .ensures .1) (c .if1 .taken))
 
 is-decimal-requires : tie.Need-is-decimal-requires
 is-decimal-requires c κs = search needs
 
 returns-2 : tie.Need-returns-2
-returns-2 c = bad refl (none-bad _ _ (c .before .before .before .before .read-digits .ensures .0) (c .before .before .before .before .read-digits .ensures .1) (sym (c .before .is-decimal .ensures) ∙ not-true _ (c .if2 .taken)))
+returns-2 c =
+    bad refl (none-bad _ _ (read (search) .read-digits .ensures .0) (read (search) .read-digits .ensures .1)
+    (sym (c .before .is-decimal .ensures) ∙ not-true _ (c .if2 .taken)))
 
 shared-slice-read-if3 : tie.Need-shared-slice-read-if3
 shared-slice-read-if3 c = search needs
@@ -30,7 +48,9 @@ add-t11 : tie.Need-add-t11
 add-t11 c = search needs
 
 returns-3 : tie.Need-returns-3
-returns-3 c = more _ _ refl (number-here _ _ (c .before .before .before .before .before .before .read-digits .ensures .0) (sym (c .before .before .before .is-decimal .ensures) ∙ not-false _ (c .before .before .if2 .left)) (c .before .before .before .before .if1 .left) (c .if3 .taken))
+returns-3 c =
+    more _ _ refl (number-here _ _ (read (search) .read-digits .ensures .0) (sym (after-is-decimal (search) .is-decimal .ensures) ∙ not-false _
+    (else2 (search) .if2 .left)) (else1 (search) .if1 .left) (c .if3 .taken))
 
 shared-slice-read-if4 : tie.Need-shared-slice-read-if4
 shared-slice-read-if4 c = search needs
@@ -39,10 +59,14 @@ add-t13 : tie.Need-add-t13
 add-t13 c = search needs
 
 returns-4 : tie.Need-returns-4
-returns-4 c = last _ _ refl (number-here _ _ (c .before .before .before .before .before .before .before .before .read-digits .ensures .0) (sym (c .before .before .before .before .before .is-decimal .ensures) ∙ not-false _ (c .before .before .before .before .if2 .left)) (c .before .before .before .before .before .before .if1 .left) (c .if4 .taken))
+returns-4 c =
+    last _ _ refl (number-here _ _ (read (search) .read-digits .ensures .0) (sym (after-is-decimal (search) .is-decimal .ensures) ∙ not-false _
+    (else2 (search) .if2 .left)) (else1 (search) .if1 .left) (c .if4 .taken))
 
 returns-5 : tie.Need-returns-5
-returns-5 c = bad refl (none-other _ _ (c .before .before .before .before .before .before .before .before .read-digits .ensures .0) (c .before .before .before .before .before .before .before .before .read-digits .ensures .1) (c .before .before .if3 .left) (c .if4 .left))
+returns-5 c =
+    bad refl (none-other _ _ (read (search) .read-digits .ensures .0) (read (search) .read-digits .ensures .1) (else3 (search) .if3 .left)
+    (c .if4 .left))
 
 pub read-word-spec : {M : Type 1} → statement M
 read-word-spec =

@@ -5,6 +5,13 @@ use borrow.Author.Needs.{needs}
 use Rattle.walk.proofs.steps.Statement.{statement}
 use Rattle.walk.proofs.steps.Tie as tie
 
+-- The places that the answers look back to: `after-siblings (search)` is the one behind the answer at hand.
+abbrev after-siblings : tie.After-siblings → tie.After-siblings
+after-siblings c = c
+
+abbrev after-column : tie.After-column → tie.After-column
+after-column c = c
+
 siblings-requires : tie.Need-siblings-requires
 siblings-requires c κs = search needs
 
@@ -15,7 +22,7 @@ same-length : tie.Need-same-length
 same-length c = search needs
 
 returns : tie.Need-returns
-returns c = c .before .before .column .ensures ∙ c .before .before .before .before .before .before .siblings .ensures .1 .1
+returns c = after-column (search) .column .ensures ∙ after-siblings (search) .siblings .ensures .1 .1
 
 pub steps-spec : {M : Type 1} → statement M
 steps-spec = tie.close (tie.spec siblings-requires column-requires same-length returns)
