@@ -26,18 +26,22 @@ use Rattle.plan_reader.specs.Plans.{ListsIn}
 use Rattle.key_reader.specs.Keys.{KeyParts}
 
 -- a part that is there is kept
-kept-there : {A : Type 0} {f : A → ℕ} {Kept : A → Type 0} {found : Read A} {r : Reading} {a : A} {next : ℕ} → Told f Kept found r → found ≡ got a next → Kept a
+kept-there : {A : Type 0} {f : A → ℕ} {Kept : A → Type 0} {found : Read A} {r : Reading} {a : A} {next : ℕ} → Told f Kept found r → found ≡ got a next
+    → Kept a
 kept-there {Kept = Kept} (finds b m e g k) h = subst Kept (got-inj (sym e ∙ h) .0) k
 kept-there (refuses number place e g) h = absurd (got-bad h e)
 
-module _ {key : List ℕ} {head : JobHead} {count at : ℕ} (parts : KeyParts key head count at) (few : head .n ≤ programColumns) (short : count ≤ programRows) {starts rows : List ℕ} {r : Reading}
-    (told : Told (λ lists. length (flat lists)) (ListsIn (replicate (programColumns + 1) 0) starts (replicate programRows 0) rows) (readLists (head .n) 1 (head .n) key at) r) where
+module _ {key : List ℕ} {head : JobHead} {count at : ℕ} (parts : KeyParts key head count at) (few : head .n ≤ programColumns)
+    (short : count ≤ programRows) {starts rows : List ℕ} {r : Reading}
+    (told : Told (λ lists. length (flat lists)) (ListsIn (replicate (programColumns + 1) 0) starts (replicate programRows 0) rows)
+    (readLists (head .n) 1 (head .n) key at) r) where
   starts-stored : take (head .n + 1) starts ≡ startsFrom 0 (parts .lists)
   starts-stored =
       let c = lists-reach (head .n) key 1 (head .n) at (parts .lists) (parts .end) (parts .stand) .0 in
       let l = length-starts 0 (parts .lists) in
       let q : head .n + 1 ≡ length (startsFrom 0 (parts .lists)) = omega arith in
-      rw (kept-there told (parts .stand) .0, q) (front-stored (replicate (programColumns + 1) 0) (startsFrom 0 (parts .lists)) (rw length-replicate (omega arith)))
+      rw (kept-there told (parts .stand) .0, q) (front-stored (replicate (programColumns + 1) 0) (startsFrom 0 (parts .lists))
+      (rw length-replicate (omega arith)))
 
   rows-stored : take count rows ≡ flat (parts .lists)
   rows-stored =
@@ -45,7 +49,8 @@ module _ {key : List ℕ} {head : JobHead} {count at : ℕ} (parts : KeyParts ke
       rw (kept-there told (parts .stand) .1, c) (front-stored (replicate programRows 0) (flat (parts .lists)) (rw length-replicate (omega arith)))
 
   -- the answer of the check is that of the call
-  pub key-answer : (plan : List ℕ) {a : Answer} → a ≡ checked (jobOf head (take (head .n + 1) starts) (take count rows)) plan buffers .answer → a ≡ solverAnswer (record { key = key; plan = plan })
+  pub key-answer : (plan : List ℕ) {a : Answer} → a ≡ checked (jobOf head (take (head .n + 1) starts) (take count rows)) plan buffers .answer
+      → a ≡ solverAnswer (record { key = key; plan = plan })
   key-answer plan e =
       let c = parts .counted in
       e ∙ rw (starts-stored, rows-stored) (sym (call-fits _ (parts .whole) few (omega arith)))

@@ -53,9 +53,11 @@ module _ {n : ℕ} {plan : Plan} (fit : Fit n plan) (before : Lent) where
     }
 
 -- done: with the parents stored in front, and work cleared
-pub done-holds : (job : Job) (plan : Plan) (before : Lent) {parents₁ parents order pops starts rows : List ℕ} → job .n ≤ length (before .parents) → parents₁ ≡ zeros (before .parents)
+pub done-holds : (job : Job) (plan : Plan) (before : Lent) {parents₁ parents order pops starts rows : List ℕ} → job .n ≤ length (before .parents)
+    → parents₁ ≡ zeros (before .parents)
     → parents ≡ sets parents₁ 0 (map (parent (pattern job)) (upTo (job .n))) → InSlices plan before order pops starts rows
     → six parents order pops starts rows (zeros (before .work)) ≡ holdingPlan job plan before
 unfolding holdingPlan holding
 done-holds job plan before h c e s =
-    sixes (stored _ (before .parents) c e (omega (arith, parents-count (parent (pattern job)) (job .n) refl))) (s .columns) (s .popped) (s .begins) (s .listed) refl
+    sixes (stored _ (before .parents) c e (omega (arith, parents-count (parent (pattern job)) (job .n) refl))) (s .columns) (s .popped) (s .begins)
+    (s .listed) refl

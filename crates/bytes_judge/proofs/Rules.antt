@@ -34,7 +34,8 @@ use Rattle.bytes_judge.proofs.Fronts.{in-slices, held-in-front, done-ho
 
 -- ---- the answer of the reading
 
-pub reading-faulty : (found : Read Plan) {q : PlanReading} {number place : ℕ} → q ≡ planReading found → q ≡ Faulty number place → found ≡ bad number place
+pub reading-faulty : (found : Read Plan) {q : PlanReading} {number place : ℕ} → q ≡ planReading found → q ≡ Faulty number place
+    → found ≡ bad number place
 unfolding planReading
 reading-faulty (got plan at) e f = absurd (let z : _≡_ {A = ℕ} 0 1 = cc in omega arith)
 reading-faulty (bad number place) e f = cc
@@ -53,7 +54,8 @@ reading-whole (got plan at) e f = record { plan = plan; at = at; read = refl; de
 reading-whole (bad number place) e f = absurd (let z : _≡_ {A = ℕ} 0 1 = cc in omega arith)
 
 -- ---- the judgement on the plan that was read
-module _ (job : Job) (bytes : List ℕ) (lent : Lent) (p : first jobTests job ≡ passed) (long : LongEnough (job .n) lent) (begins : keyTest (callOf job bytes lent) ≡ passed)
+module _ (job : Job) (bytes : List ℕ) (lent : Lent) (p : first jobTests job ≡ passed) (long : LongEnough (job .n) lent)
+    (begins : keyTest (callOf job bytes lent) ≡ passed)
     {plan : Plan} {at : ℕ} (read : planRead (callOf job bytes lent) ≡ got plan at)
   where
     abbrev call : CheckCall
@@ -63,8 +65,10 @@ module _ (job : Job) (bytes : List ℕ) (lent : Lent) (p : first jobTests job �
     unfolding checkDone
     done-is = rw (read, checkDone)
 
-    judged-plan : {parents order pops starts rows : List ℕ} {peak : ℕ} {r : Answer} → length (flat (plan .lists)) ≤ length (lent .factorRows) → plan .peak ≡ peak
-        → r ≡ ruling (first (judgeTests job) plan) peak → (r .number ≡ 0 → six parents order pops starts rows (zeros (lent .work)) ≡ holdingPlan job plan lent)
+    judged-plan : {parents order pops starts rows : List ℕ} {peak : ℕ} {r : Answer} → length (flat (plan .lists)) ≤ length (lent .factorRows)
+        → plan .peak ≡ peak
+        → r ≡ ruling (first (judgeTests job) plan) peak
+        → (r .number ≡ 0 → six parents order pops starts rows (zeros (lent .work)) ≡ holdingPlan job plan lent)
         → Ruled call parents order pops starts rows r
     judged-plan {parents} {order} {pops} {starts} {rows} {peak} {r} fits declared e holds = go (told job plan peak e)
       where
@@ -76,7 +80,8 @@ module _ (job : Job) (bytes : List ℕ) (lent : Lent) (p : first jobTests job �
             passes (from-16 job bytes lent p long begins read fits ∙ q) (number-of f) ((λ i. record { answer = a i; lent = h i }) ∙ sym done-is)
 
 -- ---- from the bytes, the key and what stands behind it
-module _ (job : Job) (bytes : List ℕ) (lent : Lent) (p : first jobTests job ≡ passed) (long : LongEnough (job .n) lent) {m : KeyMatch} (matched : m ≡ keyMatch (keyOf job) bytes)
+module _ (job : Job) (bytes : List ℕ) (lent : Lent) (p : first jobTests job ≡ passed) (long : LongEnough (job .n) lent) {m : KeyMatch}
+    (matched : m ≡ keyMatch (keyOf job) bytes)
     {at : ℕ} (behind : m ≡ Begins at) {g : PlanReading} (answered : g ≡ planReading (readPlan (job .n) bytes at))
   where
     begins : keyTest (callOf job bytes lent) ≡ passed
@@ -99,12 +104,15 @@ module _ (job : Job) (bytes : List ℕ) (lent : Lent) (p : first jobTests job �
       whole = reading-whole _ found f
 
       -- 8
-      ruled-rows : {parents order pops starts rows : List ℕ} {r : Answer} → length (lent .factorRows) < count → r ≡ answer 8 0 count → Ruled (callOf job bytes lent) parents order pops starts rows r
+      ruled-rows : {parents order pops starts rows : List ℕ} {r : Answer} → length (lent .factorRows) < count → r ≡ answer 8 0 count
+          → Ruled (callOf job bytes lent) parents order pops starts rows r
       ruled-rows l e =
-          refuses (refuses-8 job bytes lent p long begins (whole .read) (omega (arith, whole .counted)) (e ∙ ap (answer 8 0) (sym (whole .counted)))) (λ n. omega (arith, number-of e))
+          refuses (refuses-8 job bytes lent p long begins (whole .read) (omega (arith, whole .counted)) (e ∙ ap (answer 8 0) (sym (whole .counted))))
+          (λ n. omega (arith, number-of e))
 
       -- 16 to 20 and 9, on the plan that the reading keeps in the cleared slices
-      module _ (each-byte : (i : ℕ) → getD bytes i 0 < 256) (fits : count ≤ length (lent .factorRows)) {p₁ o₁ q₁ s₁ r₁ w₁ o q s r : List ℕ} (cleared : six p₁ o₁ q₁ s₁ r₁ w₁ ≡ allZero lent)
+      module _ (each-byte : (i : ℕ) → getD bytes i 0 < 256) (fits : count ≤ length (lent .factorRows)) {p₁ o₁ q₁ s₁ r₁ w₁ o q s r : List ℕ}
+          (cleared : six p₁ o₁ q₁ s₁ r₁ w₁ ≡ allZero lent)
           (keeps : Keeps (readPlan (job .n) bytes at) o₁ o q₁ q s₁ s r₁ r)
         where
           fit : Fit (job .n) (whole .plan)
@@ -115,7 +123,8 @@ module _ (job : Job) (bytes : List ℕ) (lent : Lent) (p : first jobTests job �
           unfolding planRead
           kept =
               let each = each-zero lent _ cleared in
-              in-slices fit lent long (omega (arith, whole .counted)) (each .order) (each .pops) (each .starts) (each .rows) (keeps (whole .plan) (whole .at) (ap (readPlan (job .n) bytes) at-key ∙ whole .read))
+              in-slices fit lent long (omega (arith, whole .counted)) (each .order) (each .pops) (each .starts) (each .rows)
+              (keeps (whole .plan) (whole .at) (ap (readPlan (job .n) bytes) at-key ∙ whole .read))
 
           front : InFront (job .n) (whole .plan) peak o q s r
           front = held-in-front fit lent kept (whole .declared)
@@ -123,7 +132,8 @@ module _ (job : Job) (bytes : List ℕ) (lent : Lent) (p : first jobTests job �
           plan-held : HoldPlan (job .n) peak o q s r
           plan-held = record { plan = whole .plan; front = front }
 
-          ruled-judged : {parents : List ℕ} {a : Answer} → Judged job peak o q s r a → (a .number ≡ 0 → parents ≡ sets p₁ 0 (map (parent (pattern job)) (upTo (job .n))))
+          ruled-judged : {parents : List ℕ} {a : Answer} → Judged job peak o q s r a
+              → (a .number ≡ 0 → parents ≡ sets p₁ 0 (map (parent (pattern job)) (upTo (job .n))))
               → Ruled (callOf job bytes lent) parents o q s r a
           ruled-judged e stores =
               judged-plan job bytes lent p long begins (whole .read) (omega (arith, whole .counted)) (whole .declared) (e (whole .plan) front)

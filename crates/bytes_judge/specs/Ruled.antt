@@ -24,15 +24,20 @@ callOf job plan lent = record { job = job; plan = plan; lent = lent }
 pub data Ruled (call : CheckCall) (parents order pops starts rows : List ℕ) (r : Answer) : Type 0 where
   refuses : first checkTests call ≡ refused r zeroed → r .number ≢ 0 → Ruled call parents order pops starts rows r
   passes : first checkTests call ≡ passed → r .number ≡ 0
-      → _≡_ {A = Outcome Lent} (record { answer = r; lent = six parents order pops starts rows (zeros (call .lent .work)) }) (checkDone call) → Ruled call parents order pops starts rows r
+      → _≡_ {A = Outcome Lent} (record { answer = r; lent = six parents order pops starts rows (zeros (call .lent .work)) }) (checkDone call)
+      → Ruled call parents order pops starts rows r
 
 -- a plan that was read whole, and whose rows found room, stands at the front of the slices
 abbrev pub HeldIfWhole : ℕ → PlanReading → List ℕ → List ℕ → List ℕ → List ℕ → Type 0
-HeldIfWhole n reading order pops starts rows = (peak count : ℕ) → reading ≡ Whole peak count → count ≤ length rows → HoldPlan n peak order pops starts rows
+HeldIfWhole n reading order pops starts rows =
+    (peak count : ℕ) → reading ≡ Whole peak count → count ≤ length rows → HoldPlan n peak order pops starts rows
 
 -- what becomes of an answer of the reading: its fault, or rows without room, or the judgement on the plan, which stores the parents where it passes
 pub data Followed (job : Job) (reading : PlanReading) (parents₀ order pops starts rows parents : List ℕ) (r : Answer) : Type 0 where
-  fault : (number place : ℕ) → reading ≡ Faulty number place → r ≡ answer number place 0 → Followed job reading parents₀ order pops starts rows parents r
-  over : (peak count : ℕ) → reading ≡ Whole peak count → length rows < count → r ≡ answer 8 0 count → Followed job reading parents₀ order pops starts rows parents r
+  fault : (number place : ℕ) → reading ≡ Faulty number place → r ≡ answer number place 0
+      → Followed job reading parents₀ order pops starts rows parents r
+  over : (peak count : ℕ) → reading ≡ Whole peak count → length rows < count → r ≡ answer 8 0 count
+      → Followed job reading parents₀ order pops starts rows parents r
   judged : (peak count : ℕ) → reading ≡ Whole peak count → count ≤ length rows → Judged job peak order pops starts rows r
-      → (r .number ≡ 0 → parents ≡ sets parents₀ 0 (map (parent (pattern job)) (upTo (job .n)))) → Followed job reading parents₀ order pops starts rows parents r
+      → (r .number ≡ 0 → parents ≡ sets parents₀ 0 (map (parent (pattern job)) (upTo (job .n))))
+      → Followed job reading parents₀ order pops starts rows parents r

@@ -82,12 +82,17 @@ key-passed-iff call =
 
 -- Bytes pass 11 to 15 and hold a plan just where they are the bytes of that plan, whose numbers lie in their ranges.
 pub plan-bytes-iff : (call : CheckCall) (plan : Plan) (at : ℕ) → call .job .n < 2 ^ (7 * maxGroups) → ((i : ℕ) → getD (call .plan) i 0 < 256)
-    → ((keyTest call ≡ passed) × (planRead call ≡ got plan at)) ↔ (Fit (call .job .n) plan × (call .plan ≡ planBytes (call .job) plan) × (at ≡ length (call .plan)))
+    → ((keyTest call ≡ passed) × (planRead call ≡ got plan at)) ↔ (Fit (call .job .n) plan × (call .plan ≡ planBytes (call .job) plan) ×
+    (at ≡ length (call .plan)))
 unfolding planRead planBytes
 plan-bytes-iff call plan at fits bytes = (
   λ h.
-      let (e, fit, a) = plan-only (call .job .n) (call .plan) bytes plan (length key) at (h .1) in
-      (fit, sym (take-append-drop (length key) (call .plan)) ∙ ap (λ (l : List ℕ). l ++ drop (length key) (call .plan)) (passed-iff .0 (h .0)) ∙ ap (λ (l : List ℕ). key ++ l) (spans-to-end own a (omega arith)), e),
+      let (e, fit, a) = plan-only (call .job .n) (call .plan) bytes plan (length key) at (h .1) in (
+        fit,
+        sym (take-append-drop (length key) (call .plan)) ∙ ap (λ (l : List ℕ). l ++ drop (length key) (call .plan)) (passed-iff .0 (h .0)) ∙ ap
+            (λ (l : List ℕ). key ++ l) (spans-to-end own a (omega arith)),
+        e,
+      ),
   λ h. (
     passed-iff .1 (ap (take (length key)) (h .1) ∙ take-at key own (length key) refl),
     plan-back (call .job .n) fits (call .plan) plan (length key) (h .0) (spans-end (call .plan) key own (h .1)) ∙ ap (got plan) (sym (h .2)),

@@ -131,7 +131,8 @@ field-only lo hi s at v next bytes e =
     let r = reads-shortest s at v next bytes (field-got lo hi s at v next e .number) in record { place = r .place; form = r .form }
 
 -- where the bytes of a number of the range stand, it is read
-pub field-back : (lo hi : ℕ) (s : List ℕ) (at v next : ℕ) → lo ≤ v → v ≤ hi → v < 2 ^ (7 * maxGroups) → Spans s at (bytesOf v) next → field lo hi s at ≡ got v next
+pub field-back : (lo hi : ℕ) (s : List ℕ) (at v next : ℕ) → lo ≤ v → v ≤ hi → v < 2 ^ (7 * maxGroups) → Spans s at (bytesOf v) next
+    → field lo hi s at ≡ got v next
 unfolding field inField
 field-back lo hi s at v next l h f a =
     rw (read-back s at v (drop next s) f (a .form), le-ltb v lo l, le-ltb hi v h, inField) (ap (got v) (sym (a .place)))

@@ -13,7 +13,8 @@ use Rattle.papers.specs.Key.{gapsOf, listNumbers, listsNumbers}
 use Rattle.papers.specs.Plan.{got, field, readRows, readList, readLists}
 use Rattle.list_laws.proofs.Ascending.{asc-length}
 use Rattle.bytes_laws.proofs.Numbers.{encode-append}
-use Rattle.bytes_laws.proofs.Fields.{got-inj, then-got, then-only, onto-got, onto-only, Spans, spans-none, spans-both, spans-cut, field-got, field-only, field-back}
+use Rattle.bytes_laws.proofs.Fields.{got-inj, then-got, then-only, onto-got, onto-only, Spans, spans-none, spans-both}
+use Rattle.bytes_laws.proofs.Fields.{spans-cut, field-got, field-only, field-back}
 
 -- rows behind row b that gaps can say: they ascend above b, up to n
 abbrev pub RowsFit : ℕ → ℕ → List ℕ → Type 0
@@ -66,13 +67,15 @@ module _ (n : ℕ) (fits : n < 2 ^ (7 * maxGroups)) (s : List ℕ) where
   unfolding readLists listsNumbers encode
   lists-back j [] at next f a = ap (got []) (let p = a .place in omega arith)
   lists-back j (l ∷ ls) at next f a =
-      let (p, q) = spans-cut (encode (listNumbers j l)) (encode (listsNumbers (suc j) ls)) (rw (encode-append (listNumbers j l) (listsNumbers (suc j) ls)) at a) in
+      let (p, q) = spans-cut (encode (listNumbers j l)) (encode (listsNumbers (suc j) ls))
+      (rw (encode-append (listNumbers j l) (listsNumbers (suc j) ls)) at a) in
       then-got _ (list-back j l at _ (f .0) p) ∙ onto-got (l ∷ []) (lists-back (suc j) ls _ next (f .1) q)
 
 -- ---- what is read stands there
 
 module _ (n : ℕ) (s : List ℕ) (bytes : (i : ℕ) → getD s i 0 < 256) where
-  rows-only : (b k at : ℕ) (l : List ℕ) (next : ℕ) → readRows n b k s at ≡ got l next → (length l ≡ k) × RowsFit n b l × Spans s at (encode (gapsOf b l)) next
+  rows-only : (b k at : ℕ) (l : List ℕ) (next : ℕ) → readRows n b k s at ≡ got l next
+      → (length l ≡ k) × RowsFit n b l × Spans s at (encode (gapsOf b l)) next
   unfolding readRows gapsOf encode
   rows-only b zero at l next e = let (p, q) = got-inj e in rw (← p, ← q) (refl, (tt, λ i m. absurd (List·Memᴰ·not-nil m)), spans-none s at)
   rows-only b (suc k) at l next e =

@@ -28,7 +28,8 @@ later (suc k) = refl
 pub data Standing (m : ℕ) (first : Bool) (s : List ℕ) (at : ℕ) : Number → Type 0 where
   ends : {k : ℕ} → k ≤ m → length s ≤ at + k → Continues s at k → Standing m first s at Ended
   goes-on : at + m < length s → Continues s at m → Standing m first s at TooLong
-  zero-last : {k : ℕ} → firstAt first k ≡ false → k < m → at + k < length s → Continues s at k → getD s (at + k) 0 ≡ 0 → Standing m first s at NotShortest
+  zero-last : {k : ℕ} → firstAt first k ≡ false → k < m → at + k < length s → Continues s at k → getD s (at + k) 0 ≡ 0
+      → Standing m first s at NotShortest
   last : {k : ℕ} → k < m → at + k < length s → Continues s at k → getD s (at + k) 0 < 128 → Shown (firstAt first k) (getD s (at + k) 0)
       → Standing m first s at (Value (groupsValue s at k) (at + k + 1))
 
@@ -37,7 +38,8 @@ pub data ByGroup (first : Bool) (s : List ℕ) (at : ℕ) : ℕ → Number → T
   no-group : {m : ℕ} → length s ≤ at → ByGroup first s at m Ended
   too-many : at < length s → ByGroup first s at 0 TooLong
   last-group : {m : ℕ} → at < length s → getD s at 0 < 128 → ByGroup first s at (suc m) (lastGroup first (getD s at 0) at)
-  more-groups : {m : ℕ} {x : Number} → at < length s → 128 ≤ getD s at 0 → Standing m false s (at + 1) x → ByGroup first s at (suc m) (over (getD s at 0 - 128) x)
+  more-groups : {m : ℕ} {x : Number} → at < length s → 128 ≤ getD s at 0 → Standing m false s (at + 1) x
+      → ByGroup first s at (suc m) (over (getD s at 0 - 128) x)
 
 module _ (s : List ℕ) (at : ℕ) where
   none-continue : Continues s at 0
@@ -90,7 +92,8 @@ module _ (s : List ℕ) (at : ℕ) where
       let q : at + suc k ≡ at + 1 + k = omega arith in
       more-groups {m = m} {x = NotShortest} (there b) b (zero-last {k = k} (later k) (omega arith) (omega arith) (rest-continue k c) (rw q at e))
 
-  split-last : (m k : ℕ) {first : Bool} → k < m → at + k < length s → Continues s at k → getD s (at + k) 0 < 128 → Shown (firstAt first k) (getD s (at + k) 0)
+  split-last : (m k : ℕ) {first : Bool} → k < m → at + k < length s → Continues s at k → getD s (at + k) 0 < 128
+      → Shown (firstAt first k) (getD s (at + k) 0)
       → ByGroup first s at m (Value (groupsValue s at k) (at + k + 1))
   unfolding over groupsValue
   split-last zero k l h c b o = absurd (omega arith)
@@ -101,7 +104,8 @@ module _ (s : List ℕ) (at : ℕ) where
   split-last (suc m) (suc k) {first} l h c b o =
       let d = first-continues k c in
       let q : at + suc k ≡ at + 1 + k = omega arith in
-      rw q (more-groups {m = m} {x = Value (groupsValue s (at + 1) k) (at + 1 + k + 1)} (there d) d (last {k = k} (omega arith) (omega arith) (rest-continue k c) (rw q at b) (shown-some (firstAt false k) _ (rw q at o))))
+      rw q (more-groups {m = m} {x = Value (groupsValue s (at + 1) k) (at + 1 + k + 1)} (there d) d (last {k = k} (omega arith) (omega arith)
+      (rest-continue k c) (rw q at b) (shown-some (firstAt false k) _ (rw q at o))))
 
   pub split : {m : ℕ} {first : Bool} {x : Number} → Standing m first s at x → ByGroup first s at m x
   split {m} (ends {k = k} l h c) = split-end m k l h c
@@ -116,7 +120,8 @@ module _ (s : List ℕ) (at : ℕ) where
   unfolding groupsValue
   one-group first m h l o =
       let q : at + 0 ≡ at = omega arith in
-      let g : Standing (suc m) first s at (Value (groupsValue s at 0) (at + 0 + 1)) = last {k = 0} (omega arith) (omega arith) none-continue (rw q l) (rw q o) in
+      let g : Standing (suc m) first s at (Value (groupsValue s at 0) (at + 0 + 1)) = last {k = 0} (omega arith) (omega arith) none-continue (rw q l)
+      (rw q o) in
       rw q at g
 
   join-last : (first : Bool) (m b : ℕ) → getD s at 0 ≡ b → at < length s → b < 128 → Standing (suc m) first s at (lastGroup first b at)
@@ -125,7 +130,8 @@ module _ (s : List ℕ) (at : ℕ) where
   join-last false m zero e h l = let q : at + 0 ≡ at = omega arith in zero-last {k = 0} refl (omega arith) (omega arith) none-continue (rw q e)
   join-last first m (suc b) e h l = rw e at (one-group first m h (omega arith) (shown-some first (getD s at 0) (omega arith)))
 
-  join-more : (m : ℕ) {first : Bool} {x : Number} → 128 ≤ getD s at 0 → Standing m false s (at + 1) x → Standing (suc m) first s at (over (getD s at 0 - 128) x)
+  join-more : (m : ℕ) {first : Bool} {x : Number} → 128 ≤ getD s at 0 → Standing m false s (at + 1) x
+      → Standing (suc m) first s at (over (getD s at 0 - 128) x)
   unfolding over groupsValue
   join-more m b (ends {k = k} l h c) = ends {k = suc k} (omega arith) (omega arith) (continue-both k b c)
   join-more m b (goes-on h c) = goes-on (omega arith) (continue-both m b c)

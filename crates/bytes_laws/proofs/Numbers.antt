@@ -101,7 +101,8 @@ unfolding bytesOf
 bytes-length x = groups-length (maxGroups - 1) x
 
 -- the byte count follows from the leading zeros of w bits
-pub count-of-zeros : (w x z : ℕ) → x < 2 ^ w → x < 2 ^ (7 * maxGroups) → z ≡ leadingZeros w x → (z ≤ w) × (length (bytesOf x) ≡ max 1 ((w - z + 6) / 7))
+pub count-of-zeros : (w x z : ℕ) → x < 2 ^ w → x < 2 ^ (7 * maxGroups) → z ≡ leadingZeros w x
+    → (z ≤ w) × (length (bytesOf x) ≡ max 1 ((w - z + 6) / 7))
 unfolding bytesOf
 count-of-zeros w x z f h e =
     let (m, d, u, l) = leading-length w x f in

@@ -14,7 +14,8 @@ use Rattle.papers.specs.Numbers.{bytesOf, encode}
 use Rattle.papers.specs.Key.{listsNumbers}
 use Rattle.papers.specs.Plan.{Plan, stepNumbers, planNumbers, Read, got, bad, field, readStep, readSteps, readLists, atEnd, readPlan}
 use Rattle.bytes_laws.proofs.Numbers.{encode-append}
-use Rattle.bytes_laws.proofs.Fields.{got-inj, got-bad, then-got, then-only, onto-got, onto-only, Spans, spans-none, spans-both, spans-cut, field-got, field-only, field-back}
+use Rattle.bytes_laws.proofs.Fields.{got-inj, got-bad, then-got, then-only, onto-got, onto-only, Spans, spans-none, spans-both}
+use Rattle.bytes_laws.proofs.Fields.{spans-cut, field-got, field-only, field-back}
 use Rattle.bytes_laws.proofs.Gaps.{ListsFit, lists-back, lists-only}
 
 -- steps of columns 1..n and pops 0..n−1
@@ -48,7 +49,8 @@ end-only a b s at next e = go (ltb at (length s)) refl e
 -- ---- what stands there is read
 
 module _ (n : ℕ) (fits : n < 2 ^ (7 * maxGroups)) (s : List ℕ) where
-  steps-back : (xs : List (ℕ × ℕ)) (at next : ℕ) → StepsFit n xs → Spans s at (encode (stepNumbers xs)) next → readSteps n (length xs) s at ≡ got xs next
+  steps-back : (xs : List (ℕ × ℕ)) (at next : ℕ) → StepsFit n xs → Spans s at (encode (stepNumbers xs)) next
+      → readSteps n (length xs) s at ≡ got xs next
   unfolding readSteps readStep stepNumbers encode
   steps-back [] at next f a = ap (got []) (let p = a .place in omega arith)
   steps-back (x ∷ xs) at next f a =
@@ -94,7 +96,8 @@ module _ (n : ℕ) (s : List ℕ) (bytes : (i : ℕ) → getD s i 0 < 256) where
             spans-both (bytesOf column) (bytesOf pops) (field-only 1 n s at column mid bytes f) (field-only 0 (n - 1) s mid pops end bytes g),
           )
 
-  steps-only : (k at : ℕ) (xs : List (ℕ × ℕ)) (next : ℕ) → readSteps n k s at ≡ got xs next → (length xs ≡ k) × StepsFit n xs × Spans s at (encode (stepNumbers xs)) next
+  steps-only : (k at : ℕ) (xs : List (ℕ × ℕ)) (next : ℕ) → readSteps n k s at ≡ got xs next
+      → (length xs ≡ k) × StepsFit n xs × Spans s at (encode (stepNumbers xs)) next
   unfolding readSteps stepNumbers encode
   steps-only zero at xs next e = let (p, q) = got-inj e in rw (← p, ← q) (refl, tt, spans-none s at)
   steps-only (suc k) at xs next e =
@@ -103,10 +106,16 @@ module _ (n : ℕ) (s : List ℕ) (bytes : (i : ℕ) → getD s i 0 < 256) where
       let (here, a) = step-only at x mid f in
       let (c, fit, b) = steps-only k mid ys next h in
       let rest = encode (stepNumbers ys) in
-      rw (← q) (ap suc c, (here, fit), rw (← append-assoc (bytesOf (x .0)) (bytesOf (x .1)) rest) (spans-both (bytesOf (x .0) ++ bytesOf (x .1)) rest a b))
+      rw (← q) (
+        ap suc c,
+        (here, fit),
+        rw (← append-assoc (bytesOf (x .0)) (bytesOf (x .1)) rest) (spans-both (bytesOf (x .0) ++ bytesOf (x .1)) rest
+            a b),
+      )
 
   -- a plan that is read lies in its ranges, and its numbers stand there, up to the end of the bytes
-  pub plan-only : (plan : Plan) (at next : ℕ) → readPlan n s at ≡ got plan next → (next ≡ length s) × Fit n plan × Spans s at (encode (planNumbers plan)) next
+  pub plan-only : (plan : Plan) (at next : ℕ) → readPlan n s at ≡ got plan next
+      → (next ≡ length s) × Fit n plan × Spans s at (encode (planNumbers plan)) next
   unfolding readPlan planNumbers encode
   plan-only plan at next e =
       let (steps, to, f, t) = then-only _ (readSteps n n s at) e in
@@ -129,5 +138,6 @@ module _ (n : ℕ) (s : List ℕ) (bytes : (i : ℕ) → getD s i 0 < 256) where
             omega arith,
             record { all-steps = c; steps = fit; all-lists = d; lists = fits; peak = found .high },
             rw (encode-append (stepNumbers steps) (listsNumbers 1 lists ++ (peak ∷ [])), encode-append (listsNumbers 1 lists) (peak ∷ []))
-                (spans-both (encode (stepNumbers steps)) (encode (listsNumbers 1 lists) ++ last) a (spans-both (encode (listsNumbers 1 lists)) last b ends)),
+                (spans-both (encode (stepNumbers steps)) (encode (listsNumbers 1 lists) ++ last) a (spans-both (encode (listsNumbers 1 lists)) last b
+                ends)),
           )

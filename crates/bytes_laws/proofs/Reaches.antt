@@ -61,7 +61,8 @@ module _ (n : ℕ) (s : List ℕ) where
       let (c, r) = rows-reach j count mid l next g in
       reach-both (suc (length l)) (field-reach 0 (n - j) at count mid f) r (omega arith)
 
-  pub lists-reach : (j k at : ℕ) (ls : List (List ℕ)) (next : ℕ) → readLists n j k s at ≡ got ls next → (length ls ≡ k) × Reach s at (k + length (flat ls)) next
+  pub lists-reach : (j k at : ℕ) (ls : List (List ℕ)) (next : ℕ) → readLists n j k s at ≡ got ls next
+      → (length ls ≡ k) × Reach s at (k + length (flat ls)) next
   unfolding readLists flat
   lists-reach j zero at ls next e =
       let (p, q) = got-inj e in
@@ -69,5 +70,7 @@ module _ (n : ℕ) (s : List ℕ) where
   lists-reach j (suc k) at ls next e =
       let (l, mid, f, g) = then-only _ (readList n j s at) e in
       let (ms, h, q) = onto-only (l ∷ []) (readLists n (suc j) k s mid) g in
-      let (c, r) = lists-reach (suc j) k mid ms next h in
-      (ap length (sym q) ∙ ap suc c, rw (← q) (reach-both (suc k + length (l ++ flat ms)) (list-reach j at l mid f) r (omega (arith, length-append l (flat ms)))))
+      let (c, r) = lists-reach (suc j) k mid ms next h in (
+        ap length (sym q) ∙ ap suc c,
+        rw (← q) (reach-both (suc k + length (l ++ flat ms)) (list-reach j at l mid f) r (omega (arith, length-append l (flat ms)))),
+      )

@@ -54,7 +54,8 @@ none-left first s at x next e = no-value tt (sym (read-long first s at (read-the
 -- what a group of a number that was read is: its last, or one with the rest read behind it
 data Group (k : ℕ) (first : Bool) (s : List ℕ) (at x next : ℕ) : Type 0 where
   ends : at < length s → x < 128 → getD s at 0 ≡ x → at + 1 ≡ next → Shown first x → Group k first s at x next
-  goes : (v : ℕ) → at < length s → 128 ≤ getD s at 0 → x ≡ getD s at 0 - 128 + 128 * v → readFrom k false s (at + 1) ≡ Value v next → Group k first s at x next
+  goes : (v : ℕ) → at < length s → 128 ≤ getD s at 0 → x ≡ getD s at 0 - 128 + 128 * v → readFrom k false s (at + 1) ≡ Value v next
+      → Group k first s at x next
 
 group-read : (k : ℕ) (first : Bool) (s : List ℕ) (at x next : ℕ) → readFrom (suc k) first s at ≡ Value x next → Group k first s at x next
 group-read k first s at x next e = go (below-or (getD s at 0) 128)
@@ -70,7 +71,8 @@ reaches : (k : ℕ) (first : Bool) (s : List ℕ) (at x next : ℕ) → readFrom
 reaches zero first s at x next e = absurd (none-left first s at x next e)
 reaches (suc k) first s at x next e = go (group-read k first s at x next e) (λ v. reaches k false s (at + 1) v next)
   where
-    go : Group k first s at x next → ((v : ℕ) → readFrom k false s (at + 1) ≡ Value v next → (at + 1 < next) × (next ≤ length s)) → (at < next) × (next ≤ length s)
+    go : Group k first s at x next → ((v : ℕ) → readFrom k false s (at + 1) ≡ Value v next → (at + 1 < next) × (next ≤ length s))
+        → (at < next) × (next ≤ length s)
     go (ends h l b q w) ih = (omega arith, omega arith)
     go (goes v h b p r) ih = let (m, n) = ih v r in (omega arith, n)
 
@@ -85,12 +87,14 @@ record Only (f : ℕ) (first : Bool) (s : List ℕ) (at x next : ℕ) : Type 0 w
   shown : Shown first x
   form : drop at s ≡ groupsOf f x ++ drop next s
 
-only-last : (f : ℕ) (first : Bool) (s : List ℕ) (at x next : ℕ) → at < length s → x < 128 → getD s at 0 ≡ x → at + 1 ≡ next → Shown first x → Only f first s at x next
+only-last : (f : ℕ) (first : Bool) (s : List ℕ) (at x next : ℕ) → at < length s → x < 128 → getD s at 0 ≡ x → at + 1 ≡ next → Shown first x
+    → Only f first s at x next
 only-last f first s at x next h l p q w =
     record { few = last l; shown = w; form = rw (groups-small f x l, ← q, add-one, ← p) (drop-cons s at 0 h) }
 
 module _ (s : List ℕ) (bytes : (i : ℕ) → getD s i 0 < 256) where
-  only-more : (f : ℕ) (first : Bool) (at x next v : ℕ) → at < length s → 128 ≤ getD s at 0 → x ≡ getD s at 0 - 128 + 128 * v → Only f false s (at + 1) v next → Only (suc f) first s at x next
+  only-more : (f : ℕ) (first : Bool) (at x next v : ℕ) → at < length s → 128 ≤ getD s at 0 → x ≡ getD s at 0 - 128 + 128 * v
+      → Only f false s (at + 1) v next → Only (suc f) first s at x next
   only-more f first at x next v h b e o =
       let z = o .shown in
       let u = bytes at in
@@ -110,7 +114,8 @@ module _ (s : List ℕ) (bytes : (i : ℕ) → getD s i 0 < 256) where
       go (goes v h b p r) = absurd (none-left false s (at + 1) v next r)
   reads-only (suc f) first at x next e = go (group-read (suc f) first s at x next e) (λ v. reads-only f false (at + 1) v next)
     where
-      go : Group (suc f) first s at x next → ((v : ℕ) → readFrom (suc f) false s (at + 1) ≡ Value v next → Only f false s (at + 1) v next) → Only (suc f) first s at x next
+      go : Group (suc f) first s at x next → ((v : ℕ) → readFrom (suc f) false s (at + 1) ≡ Value v next → Only f false s (at + 1) v next)
+          → Only (suc f) first s at x next
       go (ends h l b q w) ih = only-last (suc f) first s at x next h l b q w
       go (goes v h b p r) ih = only-more f first at x next v h b p (ih v r)
 

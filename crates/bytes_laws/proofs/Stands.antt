@@ -13,7 +13,8 @@ use Rattle.papers.specs.Conditions.{Stands, ended, too-long, not-shortest, valu
 use Rattle.papers.specs.declared.Number.{Number}
 use Rattle.list_laws.proofs.Tests.{true-false, below-or}
 use Rattle.bytes_laws.proofs.NumberReading.{read-end, read-long, read-last, read-more, Shown}
-use Rattle.bytes_laws.proofs.Groups.{firstAt, Standing, ends, goes-on, zero-last, last, ByGroup, no-group, too-many, last-group, more-groups, split, join}
+use Rattle.bytes_laws.proofs.Groups.{firstAt, Standing, ends, goes-on, zero-last, last, ByGroup, no-group, too-many, last-group}
+use Rattle.bytes_laws.proofs.Groups.{more-groups, split, join}
 
 -- ---- reading, from all groups and back
 
@@ -25,7 +26,8 @@ standing-read zero first s at x g = go (split s at g)
     go (too-many h) = read-long first s at h
 standing-read (suc m) first s at x g = go (split s at g) (standing-read m false s (at + 1))
   where
-    go : {x : Number} → ByGroup first s at (suc m) x → ((y : Number) → Standing m false s (at + 1) y → readFrom m false s (at + 1) ≡ y) → readFrom (suc m) first s at ≡ x
+    go : {x : Number} → ByGroup first s at (suc m) x → ((y : Number) → Standing m false s (at + 1) y → readFrom m false s (at + 1) ≡ y)
+        → readFrom (suc m) first s at ≡ x
     go (no-group h) ih = read-end (suc m) first s at h
     go (last-group h b) ih = read-last first s at h m b
     go (more-groups {x = y} h b t) ih = read-more first s at h m b ∙ ap (over (getD s at 0 - 128)) (ih y t)

@@ -1,4 +1,5 @@
--- Numbers written one after the other into a slice: what is left to write, from the place reached, is on top of what was written the whole. So one number
+-- Numbers written one after the other into a slice: what is left to write, from the place reached, is on top of what was written the whole. So one
+-- number
 -- more is one rewriting, and where nothing is left the whole is written.
 -- Assumes nothing.
 use Prim.Native.Nat.{ℕ, _+_, _*_, _≤_}
@@ -28,7 +29,8 @@ module _ {whole d₀ : List ℕ} {at : ℕ} where
   pub writes-all : Writes whole d₀ at whole d₀ at
   writes-all = record { place = refl; stored = refl; long = refl }
 
-  writes-bytes : {xs ys d e : List ℕ} {k m : ℕ} (w : List ℕ) → Writes whole d₀ at xs d k → encode xs ≡ w ++ encode ys → m ≡ k + length w → e ≡ sets d k w
+  writes-bytes : {xs ys d e : List ℕ} {k m : ℕ} (w : List ℕ) → Writes whole d₀ at xs d k → encode xs ≡ w ++ encode ys → m ≡ k + length w
+      → e ≡ sets d k w
       → Writes whole d₀ at ys e m
   writes-bytes {ys = ys} {d = d} {k = k} w s f g h =
       let p = s .place in
@@ -39,13 +41,15 @@ module _ {whole d₀ : List ℕ} {at : ℕ} where
       })
 
   -- a number more
-  pub writes-number : {xs ys d e : List ℕ} {x k m : ℕ} → Writes whole d₀ at xs d k → xs ≡ x ∷ ys → m ≡ k + length (bytesOf x) → e ≡ sets d k (bytesOf x)
+  pub writes-number : {xs ys d e : List ℕ} {x k m : ℕ} → Writes whole d₀ at xs d k → xs ≡ x ∷ ys → m ≡ k + length (bytesOf x)
+      → e ≡ sets d k (bytesOf x)
       → Writes whole d₀ at ys e m
   unfolding encode
   writes-number {x = x} s f g h = writes-bytes (bytesOf x) s (ap encode f) g h
 
   -- numbers more
-  pub writes-numbers : {xs ys d e : List ℕ} {k m : ℕ} (zs : List ℕ) → Writes whole d₀ at xs d k → xs ≡ zs ++ ys → m ≡ k + length (encode zs) → e ≡ sets d k (encode zs)
+  pub writes-numbers : {xs ys d e : List ℕ} {k m : ℕ} (zs : List ℕ) → Writes whole d₀ at xs d k → xs ≡ zs ++ ys → m ≡ k + length (encode zs)
+      → e ≡ sets d k (encode zs)
       → Writes whole d₀ at ys e m
   writes-numbers {ys = ys} zs s f g h = writes-bytes (encode zs) s (ap encode f ∙ encode-append zs ys) g h
 

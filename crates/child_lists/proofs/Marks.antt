@@ -43,10 +43,12 @@ marked-cases n j (r ∷ rs) w p = go (marked-cases n j rs (set w (n + n + r) j) 
     go (inr e) f = inr (e .0, (e .1 .0, (List·Memᴰ·tail (e .1 .1 .0), e .1 .1 .1)))
 
 -- a mark set in sound marks is sound for what has its rows as well
-pub marks-sound : (n j : ℕ) (l w acc more : List ℕ) → Sound n j w acc → ((i : ℕ) → i ∈ acc → i ∈ more) → ((i : ℕ) → i ∈ l → i ∈ more) → Sound n j (marked n j l w) more
+pub marks-sound : (n j : ℕ) (l w acc more : List ℕ) → Sound n j w acc → ((i : ℕ) → i ∈ acc → i ∈ more) → ((i : ℕ) → i ∈ l → i ∈ more)
+    → Sound n j (marked n j l w) more
 marks-sound n j l w acc more s f g i h e = go (marked-cases n j l w (n + n + i))
   where
-    go : (getD (marked n j l w) (n + n + i) 0 ≡ getD w (n + n + i) 0) ⊎ ((getD (marked n j l w) (n + n + i) 0 ≡ j) × ((k : ℕ) × ((k ∈ l) × (n + n + i ≡ n + n + k))))
+    go : (getD (marked n j l w) (n + n + i) 0 ≡ getD w (n + n + i) 0) ⊎ ((getD (marked n j l w) (n + n + i) 0 ≡ j) ×
+        ((k : ℕ) × ((k ∈ l) × (n + n + i ≡ n + n + k))))
         → i ∈ more
     go (inl q) = f i (s i h (sym q ∙ e))
     go (inr q) = let z : i ≡ q .1 .0 = omega (arith, q .1 .1 .1) in rw z (g (q .1 .0) (q .1 .1 .0))
@@ -89,7 +91,8 @@ mark-begin n j l w = record { left = refl; long = refl }
 
 pub mark-turn : {n j : ℕ} {l w₀ w : List ℕ} {k : ℕ} → Marking n j l w₀ w k → k < length l → Marking n j l w₀ (set w (n + n + getD l k 0) j) (k + 1)
 unfolding marked
-mark-turn {n} {j} {l} {w₀} {w} {k} m h = record { left = rw add-one (rw (drop-cons l k 0 h) at (m .left)); long = length-set w (n + n + getD l k 0) j ∙ m .long }
+mark-turn {n} {j} {l} {w₀} {w} {k} m h =
+    record { left = rw add-one (rw (drop-cons l k 0 h) at (m .left)); long = length-set w (n + n + getD l k 0) j ∙ m .long }
 
 pub mark-stop : {n j : ℕ} {l w₀ w : List ℕ} {k : ℕ} → Marking n j l w₀ w k → length l ≤ k → w ≡ marked n j l w₀
 unfolding marked
@@ -134,11 +137,15 @@ module _ (n j : ℕ) (l w : List ℕ) where
 
   pub cover-turn : {k : ℕ} → Covering k → k < length l → getD w (n + n + getD l k 0) 0 ≡ j → Covering (k + 1)
   cover-turn {k} c h e =
-      record { left = rw add-one (sym (every-yes (isMarked n j w) (getD l k 0) (drop (suc k) l) (eq-eqb (getD w (n + n + getD l k 0) 0) j e)) ∙ (rw (drop-cons l k 0 h) at (c .left))) }
+      record {
+        left = rw add-one (sym (every-yes (isMarked n j w) (getD l k 0) (drop (suc k) l) (eq-eqb (getD w (n + n + getD l k 0) 0) j e))
+            ∙ (rw (drop-cons l k 0 h) at (c .left)));
+      }
 
   pub cover-no : {k : ℕ} → Covering k → k < length l → getD w (n + n + getD l k 0) 0 ≢ j → false ≡ every (isMarked n j w) l
   cover-no {k} c h e =
-      sym (every-no (isMarked n j w) (getD l k 0) (drop (suc k) l) (ne-eqb (getD w (n + n + getD l k 0) 0) j e)) ∙ (rw (drop-cons l k 0 h) at (c .left))
+      sym (every-no (isMarked n j w) (getD l k 0) (drop (suc k) l) (ne-eqb (getD w (n + n + getD l k 0) 0) j e))
+      ∙ (rw (drop-cons l k 0 h) at (c .left))
 
   pub cover-yes : {k : ℕ} → Covering k → length l ≤ k → true ≡ every (isMarked n j w) l
   cover-yes {k} c h = sym (every-nil (isMarked n j w)) ∙ (rw (drop-of-length-le l h) at (c .left))

@@ -38,5 +38,6 @@ pub record Joining (n j c len : ℕ) (fstarts frows work x y : List ℕ) : Type 
 
 -- the list of column j is held in the buffers; of work only marks have changed, to j
 pub record Joined (n j c len₀ : ℕ) (fstarts frows work₀ x₀ y₀ : List ℕ) (turn len : ℕ) (work x y : List ℕ) : Type 0 where
-  pub list : (children whole : List ℕ) → Begun n j c len₀ fstarts frows work₀ x₀ y₀ children whole → (len ≡ length whole) × (held turn len x y ≡ whole)
+  pub list : (children whole : List ℕ) → Begun n j c len₀ fstarts frows work₀ x₀ y₀ children whole
+      → (len ≡ length whole) × (held turn len x y ≡ whole)
   pub changed : Changed n j work₀ work

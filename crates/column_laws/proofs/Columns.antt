@@ -54,9 +54,16 @@ module _ {n : ℕ} {starts rows : List ℕ} (t : Tested n starts rows) where
     pub row-range : (q : ℕ) → getD starts (c - 1) 0 ≤ q → q < getD starts c 0
         → (getD rows q 0 ∈ columnOf starts rows c) × ((c < getD rows q 0) × ((getD rows q 0 ≤ n) × (q < length rows)))
     row-range q a b =
-        let m : getD rows q 0 ∈ columnOf starts rows c = rw (column-slice starts rows c) (slice-has rows (getD starts c 0) (starts-fit c high) (getD starts (c - 1) 0) q a b) in
-        (m, (asc-above c (columnOf starts rows c) (tested-below .ascending c) m, (tested-below .within (getD rows q 0) c m, omega (arith, starts-fit c high))))
+        let m : getD rows q 0 ∈ columnOf starts rows c = rw (column-slice starts rows c) (slice-has rows (getD starts c 0) (starts-fit c high)
+        (getD starts (c - 1) 0) q a b) in (
+          m,
+          (
+            asc-above c (columnOf starts rows c) (tested-below .ascending c) m,
+            (tested-below .within (getD rows q 0) c m, omega (arith, starts-fit c high)),
+          ),
+        )
 
     pub rows-rise : (p q : ℕ) → getD starts (c - 1) 0 ≤ p → p < q → q < getD starts c 0 → getD rows p 0 < getD rows q 0
     rows-rise p q =
-        slice-rises rows (getD starts c 0) (starts-fit c high) (getD starts (c - 1) 0) c p q (rw (column-slice starts rows c) at (tested-below .ascending c))
+        slice-rises rows (getD starts c 0) (starts-fit c high) (getD starts (c - 1) 0) c p q
+        (rw (column-slice starts rows c) at (tested-below .ascending c))

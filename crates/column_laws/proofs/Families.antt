@@ -47,7 +47,8 @@ module _ (B : ℕ → List ℕ) where
   first-part k zero h = let e : k ≡ 0 = omega arith in rw e (take-all (length (flat (listsOf 0 B))) (flat (listsOf 0 B)) (omega arith))
   first-part k (suc m) h =
       ⊎-elim
-      (λ (l : k ≤ m). rw (flat-more m, take-append-le (length (flat (listsOf k B))) (flat (listsOf m B)) (B (suc m)) (length-grows k m l)) (first-part k m l))
+      (λ (l : k ≤ m). rw (flat-more m, take-append-le (length (flat (listsOf k B))) (flat (listsOf m B)) (B (suc m)) (length-grows k m l))
+      (first-part k m l))
       (λ (l : k ≡ suc m). rw l (take-all (length (flat (listsOf (suc m) B))) (flat (listsOf (suc m) B)) (omega arith)))
       (le-suc-iff .0 h)
 
@@ -57,10 +58,12 @@ module _ (B : ℕ → List ℕ) where
   list-at k m rows h e =
       let s = length-more k in
       let z : length (flat (listsOf (suc k) B)) - length (flat (listsOf k B)) ≡ length (B (suc k)) = omega arith in
-      let whole : take (length (flat (listsOf k B)) + length (B (suc k))) rows ≡ flat (listsOf k B) ++ B (suc k) = rw (← s, ← flat-more k) (front (suc k) h) in
+      let whole : take (length (flat (listsOf k B)) + length (B (suc k))) rows ≡ flat (listsOf k B) ++ B (suc k) = rw (← s, ← flat-more k)
+      (front (suc k) h) in
       let split : flat (listsOf k B) ++ take (length (B (suc k))) (drop (length (flat (listsOf k B))) rows) ≡ flat (listsOf k B) ++ B (suc k) =
       rw (take-add (length (flat (listsOf k B))) (length (B (suc k))) rows, front k (omega arith)) at whole in
-      rw z (sym (behind (take (length (B (suc k))) (drop (length (flat (listsOf k B))) rows))) ∙ ap (drop (length (flat (listsOf k B)))) split ∙ behind (B (suc k)))
+      rw z (sym (behind (take (length (B (suc k))) (drop (length (flat (listsOf k B))) rows))) ∙ ap (drop (length (flat (listsOf k B)))) split
+      ∙ behind (B (suc k)))
     where
       front : (i : ℕ) → i ≤ m → take (length (flat (listsOf i B))) rows ≡ flat (listsOf i B)
       front i l =

@@ -24,7 +24,8 @@ module _ (l : List ℕ) (b : ℕ) (fits : b ≤ length l) where
   none-left a h = let q : length (take b l) ≤ a = rw length-take (omega arith) in drop-of-length-le (take b l) q
 
   -- what is true of the empty slice, and of a slice once of the one from the next place on, is true of all
-  slice-ind : (P : ℕ → List ℕ → Type 0) → ((a : ℕ) → b ≤ a → P a []) → ((a : ℕ) → a < b → P (suc a) (slice (suc a) b l) → P a (getD l a 0 ∷ slice (suc a) b l)) → (a : ℕ) → P a (slice a b l)
+  slice-ind : (P : ℕ → List ℕ → Type 0) → ((a : ℕ) → b ≤ a → P a []) → ((a : ℕ) → a < b → P (suc a) (slice (suc a) b l)
+      → P a (getD l a 0 ∷ slice (suc a) b l)) → (a : ℕ) → P a (slice a b l)
   slice-ind P none some a = go b a (omega arith)
     where
       go : (k a : ℕ) → b ≤ a + k → P a (slice a b l)
@@ -45,13 +46,16 @@ module _ (l : List ℕ) (b : ℕ) (fits : b ≤ length l) where
   pub slice-has : (a q : ℕ) → a ≤ q → q < b → getD l q 0 ∈ slice a b l
   slice-has a q = slice-ind (λ a s. a ≤ q → q < b → getD l q 0 ∈ s) (λ a h u v. absurd (omega arith)) (λ a h ih u v. go a ih u v (same-or q a)) a
     where
-      go : (a : ℕ) → (suc a ≤ q → q < b → getD l q 0 ∈ slice (suc a) b l) → a ≤ q → q < b → (q ≡ a) ⊎ (q ≢ a) → getD l q 0 ∈ (getD l a 0 ∷ slice (suc a) b l)
+      go : (a : ℕ) → (suc a ≤ q → q < b → getD l q 0 ∈ slice (suc a) b l) → a ≤ q → q < b → (q ≡ a) ⊎ (q ≢ a)
+          → getD l q 0 ∈ (getD l a 0 ∷ slice (suc a) b l)
       go a ih u v (inl e) = List·Memᴰ·head (ap (λ z. getD l z 0) e)
       go a ih u v (inr e) = List·Memᴰ·tail (ih (omega arith) v)
 
   -- an ascending slice rises from place to place
   pub slice-rises : (a x p q : ℕ) → Asc x (slice a b l) → a ≤ p → p < q → q < b → getD l p 0 < getD l q 0
-  slice-rises a x p q = slice-ind (λ a s. (x : ℕ) → Asc x s → a ≤ p → p < q → q < b → getD l p 0 < getD l q 0) (λ a h x s u v t. absurd (omega arith)) (λ a h ih x s u v t. go a ih s u v t (same-or p a)) a x
+  slice-rises a x p q =
+      slice-ind (λ a s. (x : ℕ) → Asc x s → a ≤ p → p < q → q < b → getD l p 0 < getD l q 0) (λ a h x s u v t. absurd (omega arith))
+      (λ a h ih x s u v t. go a ih s u v t (same-or p a)) a x
     where
       go : (a : ℕ) → ((x : ℕ) → Asc x (slice (suc a) b l) → suc a ≤ p → p < q → q < b → getD l p 0 < getD l q 0)
           → {x : ℕ} → Asc x (getD l a 0 ∷ slice (suc a) b l) → a ≤ p → p < q → q < b → (p ≡ a) ⊎ (p ≢ a) → getD l p 0 < getD l q 0

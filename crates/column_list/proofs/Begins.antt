@@ -144,7 +144,8 @@ module _ {n m : ℕ} {A : Pattern} {fs fr w x y : List ℕ} (good : Below n A) (
           pub several : Joining n (m + 1) (getD w (m + 1) 0) len fs fr w₁ x₁ y
           several = record { children = hung A m (m + 1); whole = R A (m + 1); begun = ready }
 
-          pub all-joined : (w₂ x₂ y₂ : List ℕ) (turn count : ℕ) → Joined n (m + 1) (getD w (m + 1) 0) len fs fr w₁ x₁ y turn count w₂ x₂ y₂ → Gathers n m A w w₂ x₂ y₂ turn count
+          pub all-joined : (w₂ x₂ y₂ : List ℕ) (turn count : ℕ) → Joined n (m + 1) (getD w (m + 1) 0) len fs fr w₁ x₁ y turn count w₂ x₂ y₂
+              → Gathers n m A w w₂ x₂ y₂ turn count
           all-joined w₂ x₂ y₂ turn count r =
               let q = r .list (hung A m (m + 1)) (R A (m + 1)) ready in
               record { count = q .0; list = q .1; changed = changed-more w₂ change (r .changed) }

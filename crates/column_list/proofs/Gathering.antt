@@ -49,7 +49,8 @@ module _ {n m : ℕ} {A : Pattern} {fs fr w : List ℕ} (st : Stored n m A fs fr
       record {
         child = record { first = a; started = omega arith; begins = rw (z, s, e) i };
         ends = rw e j;
-        hands = rw (z, s, e, part-rest (length (rowsTo A k)) (length (rowsTo A (suc k))) fr i j) (ap (drop 1) (list-at (R A) k m fr b (st .rows-are)));
+        hands = rw (z, s, e, part-rest (length (rowsTo A k)) (length (rowsTo A (suc k))) fr i j)
+            (ap (drop 1) (list-at (R A) k m fr b (st .rows-are)));
       }
 
 no-parent : (A : Pattern) → parent A 0 ≡ 0
@@ -100,10 +101,12 @@ module _ {n m : ℕ} {A : Pattern} {fs fr w x y : List ℕ} (good : Below n A) (
       hands-in : (d i : ℕ) → parent A d ≡ m + 1 → i ∈ drop 1 (R A d) → i ∈ R A (m + 1)
       hands-in d i e u =
           let row : i ∈ R A d = rw (cons d e) (List·Memᴰ·tail u) in
-          R-children good (m + 1) i .1 (inr (record { child = d; child-of = e; row = row; above = asc-above (m + 1) (drop 1 (R A d)) (hands-asc d e) u }))
+          R-children good (m + 1) i .1
+          (inr (record { child = d; child-of = e; row = row; above = asc-above (m + 1) (drop 1 (R A d)) (hands-asc d e) u }))
 
       hung-child : (d : ℕ) → parent A d ≡ m + 1 → d ∈ hung A m (m + 1)
-      hung-child d e = hung-into A m (m + 1) d (record { first = positive d e; most = omega (arith, parent-above good d (omega arith)); parent-is = e })
+      hung-child d e =
+          hung-into A m (m + 1) d (record { first = positive d e; most = omega (arith, parent-above good d (omega arith)); parent-is = e })
         where
           positive : (d : ℕ) → parent A d ≡ m + 1 → 1 ≤ d
           positive zero e = absurd (omega (arith, e, no-parent A))

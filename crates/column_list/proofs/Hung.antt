@@ -53,7 +53,9 @@ module _ (A : Pattern) where
 
   pub hung-into : (m j c : ℕ) → HungUnder m j c → c ∈ hung A m j
   hung-into zero j c h = absurd (omega (arith, h .first, h .most))
-  hung-into (suc m) j c h = go (le-suc-iff .0 (h .most)) (test (eqb (parent A (suc m)) j)) (λ l. hung-into m j c (record { first = h .first; most = l; parent-is = h .parent-is }))
+  hung-into (suc m) j c h =
+      go (le-suc-iff .0 (h .most)) (test (eqb (parent A (suc m)) j))
+      (λ l. hung-into m j c (record { first = h .first; most = l; parent-is = h .parent-is }))
     where
       go : (c ≤ m) ⊎ (c ≡ suc m) → Test (eqb (parent A (suc m)) j) → (c ≤ m → c ∈ hung A m j) → c ∈ hung A (suc m) j
       go (inl l) (passes t) ih = rw (hung-yes m j (eqb-true (parent A (suc m)) j t)) (List·Memᴰ·tail (ih l))

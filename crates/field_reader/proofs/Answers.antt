@@ -51,7 +51,8 @@ module _ (low high at : ℕ) where
   not-shortest-is-13 = refl
 
 -- a field's answer is that of the number that is read there
-pub field-by-number : (low high : ℕ) (s : List ℕ) (at : ℕ) {x : Number} {r : Reading} → x ≡ readNumber s at → r ≡ reading (inField low high at x) → r ≡ reading (field low high s at)
+pub field-by-number : (low high : ℕ) (s : List ℕ) (at : ℕ) {x : Number} {r : Reading} → x ≡ readNumber s at → r ≡ reading (inField low high at x)
+    → r ≡ reading (field low high s at)
 unfolding field
 field-by-number low high s at e f = f ∙ ap (λ (x : Number). reading (inField low high at x)) e
 
@@ -63,7 +64,8 @@ one-group s at {b} h e l =
     ap (λ (x : ℕ). Value x (at + 1)) e ∙ sym last
 
 -- a byte of 128 or more and behind it one below 128, but not 0, are a number
-pub two-groups : (s : List ℕ) (at : ℕ) {low next : ℕ} → at + 1 < length s → low ≡ getD s at 0 → 128 ≤ low → next ≡ getD s (at + 1) 0 → next ≢ 0 → next < 128
+pub two-groups : (s : List ℕ) (at : ℕ) {low next : ℕ} → at + 1 < length s → low ≡ getD s at 0 → 128 ≤ low → next ≡ getD s (at + 1) 0 → next ≢ 0
+    → next < 128
     → Value (low - 128 + 128 * next) (at + 2) ≡ readNumber s at
 unfolding readNumber over
 two-groups s at {low} {next} h e l f z u =
@@ -95,7 +97,8 @@ module _ (low high : ℕ) (s : List ℕ) (at : ℕ) {r : Reading} (e : r ≡ rea
   field-found {v} {next} g = let f = reading-found (field low high s at) e g in (f, fields.field-got low high s at v next f)
 
 -- a field by a number in its range
-pub field-is : (low high : ℕ) (s : List ℕ) (at : ℕ) {v next : ℕ} → Value v next ≡ readNumber s at → low ≤ v → v ≤ high → field low high s at ≡ got v next
+pub field-is : (low high : ℕ) (s : List ℕ) (at : ℕ) {v next : ℕ} → Value v next ≡ readNumber s at → low ≤ v → v ≤ high
+    → field low high s at ≡ got v next
 field-is low high s at {v} {next} e l h = field-found low high s at (field-by-number low high s at e (in-range low high at v next l h)) refl .0
 
 module _ {A : Type 0} {f : A → ℕ} {Kept : A → Type 0} {found : Read A} where
@@ -110,6 +113,7 @@ module _ {A : Type 0} {f : A → ℕ} {Kept : A → Type 0} {found : Read A} whe
   told-refused {number = number} {place = place} (refuses c p e g) h = let x : c ≡ number = cc in let y : p ≡ place = cc in rw (← x, ← y) e
 
 -- what is told of one reading is told of another that is the same
-pub told-of : {A : Type 0} {f : A → ℕ} {Kept : A → Type 0} {found same : Read A} {r : Reading} → same ≡ found → Told f Kept found r → Told f Kept same r
+pub told-of : {A : Type 0} {f : A → ℕ} {Kept : A → Type 0} {found same : Read A} {r : Reading} → same ≡ found → Told f Kept found r
+    → Told f Kept same r
 told-of e (finds a next g h k) = finds a next (e ∙ g) h k
 told-of e (refuses number place g h) = refuses number place (e ∙ g) h

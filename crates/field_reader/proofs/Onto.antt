@@ -19,11 +19,13 @@ module _ {A : Type 0} where
   onto-onto xs ys (bad c p) = refl
 
   -- some parts more are read: what was left is those, and what is left behind them
-  pub more : (done some : List A) (next : Read (List A)) {left whole : Read (List A)} → onto done left ≡ whole → left ≡ onto some next → onto (done ++ some) next ≡ whole
+  pub more : (done some : List A) (next : Read (List A)) {left whole : Read (List A)} → onto done left ≡ whole → left ≡ onto some next
+      → onto (done ++ some) next ≡ whole
   more done some next e f = sym (onto-onto done some next) ∙ ap (onto done) (sym f) ∙ e
 
   -- what is left is refused
-  pub fails : (done : List A) {left whole : Read (List A)} {number place : ℕ} → onto done left ≡ whole → left ≡ bad number place → whole ≡ bad number place
+  pub fails : (done : List A) {left whole : Read (List A)} {number place : ℕ} → onto done left ≡ whole → left ≡ bad number place
+      → whole ≡ bad number place
   fails done e f = sym e ∙ onto-bad done f
 
   -- nothing is left

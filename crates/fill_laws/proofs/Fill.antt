@@ -33,7 +33,8 @@ module _ (A : Pattern) where
   lists-from zero l h = absurd (List·Memᴰ·not-nil h)
   lists-from (suc m) l h = go (List·Memᴰ·cases-cons (rw lists-suc at h)) (λ t. lists-from m l t)
     where
-      go : (l ≡ R A (suc m)) ⊎ List·Memᴰ l (lists A m) → (List·Memᴰ l (lists A m) → (k : ℕ) × (k ≤ m) × (l ≡ R A k)) → (k : ℕ) × (k ≤ suc m) × (l ≡ R A k)
+      go : (l ≡ R A (suc m)) ⊎ List·Memᴰ l (lists A m) → (List·Memᴰ l (lists A m) → (k : ℕ) × (k ≤ m) × (l ≡ R A k))
+          → (k : ℕ) × (k ≤ suc m) × (l ≡ R A k)
       go (inl e) ih = (suc m, omega arith, e)
       go (inr t) ih = let (k, b, e) = ih t in (k, omega arith, e)
 

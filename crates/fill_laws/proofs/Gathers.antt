@@ -64,7 +64,8 @@ module _ (j : ℕ) (acc : List ℕ) where
       later (inl t) = inl t
       later (inr h) = inr (record { list = h .list; among = List·Memᴰ·tail (h .among); holds = h .holds; row = h .row; above = h .above })
 
-      pick : member j l ≡ true → (i ∈ keep (ltb j) l) ⊎ (i ∈ gather j ls acc) → (i ∈ gather j ls acc → (i ∈ acc) ⊎ Held j i ls) → (i ∈ acc) ⊎ Held j i (l ∷ ls)
+      pick : member j l ≡ true → (i ∈ keep (ltb j) l) ⊎ (i ∈ gather j ls acc) → (i ∈ gather j ls acc → (i ∈ acc) ⊎ Held j i ls)
+          → (i ∈ acc) ⊎ Held j i (l ∷ ls)
       pick e (inl t) ih =
           let (row, above) = keep-from (ltb j) l t in
           inr (record { list = l; among = List·Memᴰ·head refl; holds = member-true j l e; row = row; above = ltb-true j i above })

@@ -29,7 +29,8 @@ module _ (f : ℕ → List ℕ) where
       go (inl e) ih = join-acc cs (merge acc (f d)) (merge-right acc (f d) (rw e at m))
       go (inr t) ih = ih t
 
-  pub join-from : (P : ℕ → Type 0) (cs acc : List ℕ) → ((i : ℕ) → i ∈ acc → P i) → ((c i : ℕ) → c ∈ cs → i ∈ f c → P i) → (i : ℕ) → i ∈ joinAll f cs acc → P i
+  pub join-from : (P : ℕ → Type 0) (cs acc : List ℕ) → ((i : ℕ) → i ∈ acc → P i) → ((c i : ℕ) → c ∈ cs → i ∈ f c → P i) → (i : ℕ)
+      → i ∈ joinAll f cs acc → P i
   join-from P [] acc a h i m = a i m
   join-from P (c ∷ cs) acc a h i m = join-from P cs (merge acc (f c))
       (λ i m. ⊎-elim (λ (t : i ∈ acc). a i t) (λ (t : i ∈ f c). h c i (List·Memᴰ·head refl) t) (merge-from acc (f c) m))

@@ -35,7 +35,8 @@ module _ {n : ℕ} {A : Pattern} (good : Below n A) where
   -- the rows above j of the columns of its subtree are rows of j
   pub subtree-rows : (j k i : ℕ) → Under (parent A) j k → i ∈ R A k → j < i → i ∈ R A j
   subtree-rows j k i top m l = m
-  subtree-rows j k i (up h u) m l = subtree-rows j (parent A k) i u (hands-on good k i h m (omega (arith, under-le (parent A) (parent-above good) j (parent A k) u))) l
+  subtree-rows j k i (up h u) m l =
+      subtree-rows j (parent A k) i u (hands-on good k i h m (omega (arith, under-le (parent A) (parent-above good) j (parent A k) u))) l
 
   climb : (d k i : ℕ) → i ≤ k + d → i ∈ R A k → Under (parent A) i k
   climb zero k i b m = absurd (omega (arith, R-range good k i m .0))

@@ -56,6 +56,7 @@ module _ {n : ℕ} {starts rows : List ℕ} (factor : Factor n starts rows) wher
     -- a column and its rows are at most n
     pub column-fits : c + length (columnOf starts rows c) ≤ n
     column-fits =
-        let h = asc-length n c (columnOf starts rows c) (passed-lists .ascending c (column .0) (column .1)) (passed-lists .within c (column .0) (column .1)) in
+        let h = asc-length n c (columnOf starts rows c) (passed-lists .ascending c (column .0) (column .1))
+        (passed-lists .within c (column .0) (column .1)) in
         let u = column .1 in
         omega arith

@@ -34,7 +34,12 @@ module _ {rows : List ℕ} {row lo hi : ℕ} (ascending : Asc 0 rows) (b : Brack
   pub narrow-above : {m : ℕ} → m < hi → getD rows m 0 < row → Bracket rows row (m + 1) hi
   narrow-above {m} h l =
       let w = b .within in
-      record { rising = omega arith; within = w; before = λ i q. omega (arith, places-rise rows ascending i m (omega arith) (omega arith)); behind = b .behind }
+      record {
+        rising = omega arith;
+        within = w;
+        before = λ i q. omega (arith, places-rise rows ascending i m (omega arith) (omega arith));
+        behind = b .behind;
+      }
 
   -- it is not below: the place lies there or before it
   pub narrow-below : {m : ℕ} → lo ≤ m → m < hi → row ≤ getD rows m 0 → Bracket rows row lo m
@@ -51,19 +56,22 @@ pub found-there : (rows : List ℕ) (row place : ℕ) → place < length rows �
 found-there rows row place h e = rw (← e) (at-place rows place h)
 
 -- a row that does not stand at its place stands nowhere
-absent : (b : ℕ) (rows : List ℕ) → Asc b rows → (row place : ℕ) → ((i : ℕ) → i < place → getD rows i 0 < row) → (place < length rows → row < getD rows place 0) → ¬ (row ∈ rows)
+absent : (b : ℕ) (rows : List ℕ) → Asc b rows → (row place : ℕ) → ((i : ℕ) → i < place → getD rows i 0 < row)
+    → (place < length rows → row < getD rows place 0) → ¬ (row ∈ rows)
 absent b [] s row place before there m = List·Memᴰ·not-nil m
 absent b (x ∷ rows) s row zero before there m = go (List·Memᴰ·cases-cons m)
   where
     go : (row ≡ x) ⊎ (row ∈ rows) → ⊥
     go (inl e) = let h = there (omega arith) in omega arith
     go (inr k) = let h = there (omega arith) in omega (arith, asc-above x rows (s .1) k)
-absent b (x ∷ rows) s row (suc place) before there m = go (List·Memᴰ·cases-cons m) (absent x rows (s .1) row place (λ i h. before (suc i) (omega arith)) (λ h. there (omega arith)))
+absent b (x ∷ rows) s row (suc place) before there m =
+    go (List·Memᴰ·cases-cons m) (absent x rows (s .1) row place (λ i h. before (suc i) (omega arith)) (λ h. there (omega arith)))
   where
     go : (row ≡ x) ⊎ (row ∈ rows) → ¬ (row ∈ rows) → ⊥
     go (inl e) ih = let h = before 0 (omega arith) in omega arith
     go (inr k) ih = ih k
 
-pub found-nowhere : {rows : List ℕ} {row place : ℕ} → Asc 0 rows → Bracket rows row place place → (place < length rows → getD rows place 0 ≢ row) → ¬ (row ∈ rows)
+pub found-nowhere : {rows : List ℕ} {row place : ℕ} → Asc 0 rows → Bracket rows row place place → (place < length rows → getD rows place 0 ≢ row)
+    → ¬ (row ∈ rows)
 found-nowhere {rows} {row} {place} s b other =
     absent 0 rows s row place (b .before) (λ h. let q = other h in let p = b .behind place (omega arith) h in omega arith)

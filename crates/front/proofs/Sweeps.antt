@@ -80,7 +80,8 @@ module _ {column : ℕ} {rows update : List ℕ} {found i : ℕ} (s : Swept colu
     pub swept-missing : {place : ℕ} → Asc 0 rows → getD update i 0 ≢ column → Bracket rows (getD update i 0) place place
         → Alike (from rows place) (from update i) 0 → false ≡ every (inFront column rows) update
     swept-missing {place} ascending other b none =
-        sym (every-no (inFront column rows) (getD update i 0) (drop (i + 1) update) (member-out (getD update i 0) (column ∷ rows) (λ m. go (List·Memᴰ·cases-cons m))))
+        sym (every-no (inFront column rows) (getD update i 0) (drop (i + 1) update) (member-out (getD update i 0) (column ∷ rows)
+        (λ m. go (List·Memᴰ·cases-cons m))))
         ∙ (rw (← next) (s .same))
       where
         go : (getD update i 0 ≡ column) ⊎ (getD update i 0 ∈ rows) → ⊥
@@ -95,7 +96,8 @@ module _ {column : ℕ} {rows update : List ℕ} (ascending : Asc 0 update) wher
   swept-rows {found} {i} (suc count) s l u e =
       let p : found + suc count ≡ found + count + 1 = omega arith in
       let q : i + suc count ≡ i + count + 1 = omega arith in
-      rw (p, q) (swept-row (swept-rows count s (omega arith) (omega arith) (λ k h. e k (omega arith))) (omega arith) ascending (omega arith) (e count (omega arith)))
+      rw (p, q) (swept-row (swept-rows count s (omega arith) (omega arith) (λ k h. e k (omega arith))) (omega arith) ascending (omega arith)
+      (e count (omega arith)))
 
   -- its place is found, and the rows that follow are the same there
   pub swept-alike : {found i place count : ℕ} → Swept column rows update found i → i < length update → Bracket rows (getD update i 0) place place

@@ -1,4 +1,5 @@
--- The low bytes of gaps, stored row by row beside the greatest gap: where that is below 128, each gap is its own low byte and its only one, so they are
+-- The low bytes of gaps, stored row by row beside the greatest gap: where that is below 128, each gap is its own low byte and its only one, so they
+-- are
 -- the bytes of the gaps. Where it is not, the bytes of the gaps are no fewer, and stored over the low bytes they leave nothing of them.
 -- Assumes nothing.
 use Prim.Native.Nat.{ℕ, suc, _+_, _-_, _%_, _<_, _≤_, max}
@@ -52,16 +53,19 @@ pub lows-start : {b : ℕ} {rows : List ℕ} {from to : ℕ} {d : List ℕ} {at 
     → Lows b rows from to d at d 0 b at from
 lows-start l h = record { rows-left = rows-all l; stored = refl; wide = omega arith; room = h; long = refl }
 
-module _ {b : ℕ} {rows : List ℕ} {from to : ℕ} {d₀ : List ℕ} {at : ℕ} {d : List ℕ} {widest before next i : ℕ} (s : Lows b rows from to d₀ at d widest before next i) where
+module _ {b : ℕ} {rows : List ℕ} {from to : ℕ} {d₀ : List ℕ} {at : ℕ} {d : List ℕ} {widest before next i : ℕ}
+    (s : Lows b rows from to d₀ at d widest before next i) where
   pub lows-turn : i < to → {row : ℕ} → row ≡ getD rows i 0 → {m : ℕ} → m ≡ max widest (row - before)
       → Lows b rows from to d₀ at (set d next ((row - before) % 256)) m row (next + 1) (i + 1)
   unfolding lowBytes greatest
   lows-turn h {row} e f =
       let g = gaps-next (s .rows-left) h e in
       let room = s .room in
-      let stored : sets (set d next ((row - before) % 256)) (suc next) (lowBytes (gapsOf row (slice (i + 1) to rows))) ≡ sets d₀ at (lowBytes (gapsOf b (slice from to rows))) =
+      let stored : sets (set d next ((row - before) % 256)) (suc next) (lowBytes (gapsOf row (slice (i + 1) to rows))) ≡ sets d₀ at
+      (lowBytes (gapsOf b (slice from to rows))) =
       rw g at (s .stored) in
-      let wide : max widest (max (row - before) (greatest (gapsOf row (slice (i + 1) to rows)))) ≡ greatest (gapsOf b (slice from to rows)) = rw g at (s .wide) in
+      let wide : max widest (max (row - before) (greatest (gapsOf row (slice (i + 1) to rows)))) ≡ greatest (gapsOf b (slice from to rows)) = rw g at
+      (s .wide) in
       record {
         rows-left = rows-next (s .rows-left) h e;
         stored = rw add-one stored;
@@ -86,7 +90,8 @@ module _ {b : ℕ} {rows : List ℕ} {from to : ℕ} (l : ListAt b rows from to)
   module _ (d₀ : List ℕ) (at : ℕ) {d : List ℕ} {widest : ℕ}
       (low : (widest ≡ greatest (gapsOf b (slice from to rows))) × (d ≡ sets d₀ at (lowBytes (gapsOf b (slice from to rows))))) where
     -- each gap has one byte
-    pub run-short : widest < 128 → (at + (to - from) ≡ at + length (encode (gapsOf b (slice from to rows)))) × (d ≡ sets d₀ at (encode (gapsOf b (slice from to rows))))
+    pub run-short : widest < 128
+        → (at + (to - from) ≡ at + length (encode (gapsOf b (slice from to rows)))) × (d ≡ sets d₀ at (encode (gapsOf b (slice from to rows))))
     run-short h =
         let widest-is = low .0 in
         let same = lows-small (gapsOf b (slice from to rows)) (omega arith) in

@@ -46,7 +46,13 @@ module _ {rows : List ℕ} {to before i row : ℕ} (l : RowsLeft rows to before 
   pub rows-next : RowsLeft rows to row (i + 1)
   rows-next =
       let few = l .few in
-      record { inside = l .inside; high = omega arith; ascending = ascends .1; few = omega arith; within = λ k m. l .within k (rw next-row (List·Memᴰ·tail m)) }
+      record {
+        inside = l .inside;
+        high = omega arith;
+        ascending = ascends .1;
+        few = omega arith;
+        within = λ k m. l .within k (rw next-row (List·Memᴰ·tail m));
+      }
 
 pub gaps-none : {rows : List ℕ} {to before i : ℕ} → RowsLeft rows to before i → to ≤ i → gapsOf before (slice i to rows) ≡ []
 unfolding gapsOf
@@ -63,16 +69,19 @@ pub record WritesRows (j : ℕ) (rows : List ℕ) (from to : ℕ) (d₀ : List �
 pub gaps-start : {b : ℕ} {rows : List ℕ} {from to : ℕ} {d : List ℕ} {at : ℕ} → ListAt b rows from to → WritesRows b rows from to d at d at b from
 gaps-start l = record { rows-left = rows-all l; written = writes-all }
 
-module _ {j : ℕ} {rows : List ℕ} {from to : ℕ} {d₀ : List ℕ} {first : ℕ} {d : List ℕ} {next before i : ℕ} (w : WritesRows j rows from to d₀ first d next before i) where
+module _ {j : ℕ} {rows : List ℕ} {from to : ℕ} {d₀ : List ℕ} {first : ℕ} {d : List ℕ} {next before i : ℕ} (w : WritesRows j rows from to d₀ first d
+    next before i) where
   -- the next place is not far behind the first
   pub place-near : ListAt j rows from to → next ≤ first + maxGroups * maxColumns
   place-near l =
       let few = l .few in
       omega (arith, writes-near (w .written), length-gaps j (slice from to rows), length-slice from to rows (l .inside))
 
-  pub write-turn : i < to → {row : ℕ} → row ≡ getD rows i 0 → {m : ℕ} {d′ : List ℕ} → m ≡ next + length (bytesOf (row - before)) → d′ ≡ sets d next (bytesOf (row - before))
+  pub write-turn : i < to → {row : ℕ} → row ≡ getD rows i 0 → {m : ℕ} {d′ : List ℕ} → m ≡ next + length (bytesOf (row - before))
+      → d′ ≡ sets d next (bytesOf (row - before))
       → WritesRows j rows from to d₀ first d′ m row (i + 1)
   write-turn h e f g = record { rows-left = rows-next (w .rows-left) h e; written = writes-number (w .written) (gaps-next (w .rows-left) h e) f g }
 
-  pub gaps-stop : to ≤ i → (next ≡ first + length (encode (gapsOf j (slice from to rows)))) × (d ≡ sets d₀ first (encode (gapsOf j (slice from to rows))))
+  pub gaps-stop : to ≤ i
+      → (next ≡ first + length (encode (gapsOf j (slice from to rows)))) × (d ≡ sets d₀ first (encode (gapsOf j (slice from to rows))))
   gaps-stop h = writes-none (w .written) (gaps-none (w .rows-left) h)

@@ -53,7 +53,8 @@ module _ (n : ℕ) (starts rows : List ℕ) where
 
     total-each : (held : List ℕ) → ((c : ℕ) → c ∈ held → Column n c) → total held ≤ length held * t maxColumns
     total-each [] h = omega (arith, total-none)
-    total-each (c ∷ held) h = omega (arith, total-cons c held, update-small (h c (List·Memᴰ·head refl)), total-each held (λ d m. h d (List·Memᴰ·tail m)))
+    total-each (c ∷ held) h =
+        omega (arith, total-cons c held, update-small (h c (List·Memᴰ·head refl)), total-each held (λ d m. h d (List·Memᴰ·tail m)))
 
     -- all updates held together have few entries
     pub total-small : {stack : List ℕ} {held : Held} → Kept n starts rows stack held → total (heldIn (held .count) stack) < 2 ^ 40
@@ -61,7 +62,11 @@ module _ (n : ℕ) (starts rows : List ℕ) where
     total-small {stack} {held} kept =
         let few = kept .few in
         let all = factor .few in
-        omega (arith, held-length stack (held .count), total-each (heldIn (held .count) stack) (λ c m. held-each stack (Column n) (held .count) (kept .columns) c m))
+        omega (
+          arith,
+          held-length stack (held .count),
+          total-each (heldIn (held .count) stack) (λ c m. held-each stack (Column n) (held .count) (kept .columns) c m),
+        )
 
     -- so have any popped of them
     pub popped-small : {stack : List ℕ} {held : Held} → Kept n starts rows stack held → (p : ℕ) → total (take p (heldIn (held .count) stack)) < 2 ^ 40

@@ -67,7 +67,12 @@ module _ (n : ℕ) (starts rows stack : List ℕ) where
       pub looked-next : r ≡ true → Looked popped end all (top - 1)
       looked-next q =
           let w = l .within in
-          record { behind = omega arith; within = omega arith; same = sym (fit-yes (getD stack (top - 1) 0) (left end (top - 1)) (told ∙ q)) ∙ (rw (← popped-next stack end top h) (l .same)) }
+          record {
+            behind = omega arith;
+            within = omega arith;
+            same = sym (fit-yes (getD stack (top - 1) 0) (left end (top - 1)) (told ∙ q))
+                ∙ (rw (← popped-next stack end top h) (l .same));
+          }
 
       pub looked-outside : r ≡ false → false ≡ fit popped
       looked-outside q = sym (fit-no (getD stack (top - 1) 0) (left end (top - 1)) (told ∙ q)) ∙ (rw (← popped-next stack end top h) (l .same))
@@ -83,7 +88,8 @@ module _ (n : ℕ) (starts rows stack : List ℕ) where
   added-start p all h = record { behind = omega arith; within = omega arith; same = omega (arith, ap (total n starts rows) (left-all p all h)) }
 
   pub added-end : {popped : List ℕ} {end all top sum : ℕ} → Added popped end all top sum → top ≤ end → sum ≡ total n starts rows popped
-  added-end {popped} {end} {all} {top} a h = let q = a .same in omega (arith, total-none n starts rows, ap (total n starts rows) (popped-none stack end top h))
+  added-end {popped} {end} {all} {top} a h =
+      let q = a .same in omega (arith, total-none n starts rows, ap (total n starts rows) (popped-none stack end top h))
 
   module _ {popped : List ℕ} {end all top sum : ℕ} (a : Added popped end all top sum) (h : end < top) {u more : ℕ}
       (i : u ≡ getD stack (top - 1) 0) (e : more ≡ t (length (columnOf starts rows u))) where
@@ -94,7 +100,12 @@ module _ (n : ℕ) (starts rows stack : List ℕ) where
         record {
           behind = omega arith;
           within = omega arith;
-          same = omega (arith, rw i at e, total-cons n starts rows (getD stack (top - 1) 0) (left end (top - 1)), ap (total n starts rows) (popped-next stack end top h));
+          same = omega (
+            arith,
+            rw i at e,
+            total-cons n starts rows (getD stack (top - 1) 0) (left end (top - 1)),
+            ap (total n starts rows) (popped-next stack end top h),
+          );
         }
 
     -- the sum so far is no more than the whole

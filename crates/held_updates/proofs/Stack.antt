@@ -35,7 +35,8 @@ module _ (stack : List ℕ) where
   held-drop (suc p) (suc k) h = let e : suc k - suc p ≡ k - p = omega arith in rw e (held-drop p k (omega arith))
 
   -- the popped ones between `end` and `top`
-  pub popped-next : (end top : ℕ) → end < top → take (top - end) (heldIn top stack) ≡ getD stack (top - 1) 0 ∷ take (top - 1 - end) (heldIn (top - 1) stack)
+  pub popped-next : (end top : ℕ) → end < top
+      → take (top - end) (heldIn top stack) ≡ getD stack (top - 1) 0 ∷ take (top - 1 - end) (heldIn (top - 1) stack)
   popped-next end top h =
       let e : top - end ≡ suc (top - 1 - end) = omega arith in
       rw (held-top top (omega arith), e)

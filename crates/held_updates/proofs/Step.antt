@@ -19,7 +19,8 @@ pops-at call s = ap (λ i. getD (call .pops) i 0) (omega arith)
 module _ (n : ℕ) (starts rows columns pops stack : List ℕ) (held : Held) (done : ℕ) where
   -- room in use
   abbrev pub used : ℕ
-  used = roomAt (getD pops done 0) (length (columnOf starts rows (getD columns done 0))) (entries (factorOf n starts rows) (heldIn (held .count) stack))
+  used =
+      roomAt (getD pops done 0) (length (columnOf starts rows (getD columns done 0))) (entries (factorOf n starts rows) (heldIn (held .count) stack))
 
   pub used-is : (room : ℕ) → roomIn (callOf n starts rows columns pops room []) (suc done) (stateOf held stack) ≡ used
   unfolding roomIn rowsIn entries

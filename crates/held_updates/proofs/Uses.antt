@@ -68,4 +68,10 @@ module _ {n : ℕ} {starts rows stack : List ℕ} {held : Held} (factor : Factor
           → held .entries - update + front ≡ roomAt pops (length (columnOf starts rows c)) these
       room-on-top {pops} h l i g =
           rw (these-top (omega arith))
-          (omega (arith, front-is, rw i at g, total-top (omega arith), room-over pops (length (columnOf starts rows c)) (t (length (columnOf starts rows top))) (entries (factorOf n starts rows) rest) h))
+          (omega (
+            arith,
+            front-is,
+            rw i at g,
+            total-top (omega arith),
+            room-over pops (length (columnOf starts rows c)) (t (length (columnOf starts rows top))) (entries (factorOf n starts rows) rest) h,
+          ))

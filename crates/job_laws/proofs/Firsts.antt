@@ -20,11 +20,13 @@ module _ {C : Type 0} where
   unfolding first
   first-passes test tests c e = rw (e, first)
 
-  pub first-refuses : (test : C → Verdict) (tests : List (C → Verdict)) (c : C) {a : Answer} {l : Leaves} → test c ≡ refused a l → first (test ∷ tests) c ≡ refused a l
+  pub first-refuses : (test : C → Verdict) (tests : List (C → Verdict)) (c : C) {a : Answer} {l : Leaves} → test c ≡ refused a l
+      → first (test ∷ tests) c ≡ refused a l
   unfolding first
   first-refuses test tests c e = rw (e, first)
 
-  one-more-iff : (test : C → Verdict) (tests : List (C → Verdict)) (c : C) → (first (test ∷ tests) c ≡ passed) ↔ ((test c ≡ passed) × (first tests c ≡ passed))
+  one-more-iff : (test : C → Verdict) (tests : List (C → Verdict)) (c : C)
+      → (first (test ∷ tests) c ≡ passed) ↔ ((test c ≡ passed) × (first tests c ≡ passed))
   one-more-iff test tests c = (λ e. there e (test c) refl, λ h. first-passes test tests c (h .0) ∙ h .1)
     where
       there : first (test ∷ tests) c ≡ passed → (v : Verdict) → test c ≡ v → (test c ≡ passed) × (first tests c ≡ passed)
@@ -52,7 +54,8 @@ module _ {C : Type 0} where
       let h = one-more-iff t ts c .0 e in first-passes t (ts ++ us) c (h .0) ∙ first-append-passed ts us c (h .1)
 
   -- tests in front that refuse decide
-  pub first-append-refused : (ts us : List (C → Verdict)) (c : C) {a : Answer} {l : Leaves} → first ts c ≡ refused a l → first (ts ++ us) c ≡ refused a l
+  pub first-append-refused : (ts us : List (C → Verdict)) (c : C) {a : Answer} {l : Leaves} → first ts c ≡ refused a l
+      → first (ts ++ us) c ≡ refused a l
   unfolding first
   first-append-refused [] us c e = absurd (refused-passed e refl)
   first-append-refused (t ∷ ts) us c {a} {l} e = go (t c) refl (λ q. first-append-refused ts us c q)
@@ -120,7 +123,8 @@ unfolding answerOf
 answer-passed e q = rw e q
 
 -- a test that answers another number than 0 refuses, so it decides before those behind it
-pub first-answers : {C : Type 0} (test : C → Verdict) (tests : List (C → Verdict)) (c : C) → answerOf (test c) .number ≢ 0 → first (test ∷ tests) c ≡ test c
+pub first-answers : {C : Type 0} (test : C → Verdict) (tests : List (C → Verdict)) (c : C) → answerOf (test c) .number ≢ 0
+    → first (test ∷ tests) c ≡ test c
 unfolding answerOf
 first-answers test tests c h = go (test c) refl
   where

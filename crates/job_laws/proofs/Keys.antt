@@ -68,7 +68,8 @@ same-lists : (n : ℕ) (A B : Pattern) → ((j : ℕ) → 1 ≤ j → j ≤ n �
 same-lists n A B h =
     let l = length-lists A n in
     let m = length-lists B n in
-    ext-getD [] (listsOf n A) (listsOf n B) (omega arith) (λ k u. let q : k < n = omega arith in lists-at A n k q ∙ h (suc k) (omega arith) (omega arith) ∙ sym (lists-at B n k q))
+    ext-getD [] (listsOf n A) (listsOf n B) (omega arith) (λ k u. let q : k < n = omega arith in lists-at A n k q ∙ h (suc k) (omega arith)
+    (omega arith) ∙ sym (lists-at B n k q))
 
 module _ (a b : Job) (pa : first jobTests a ≡ passed) (pb : first jobTests b ≡ passed) where
   -- jobs that agree so are one job, its starts and rows too
@@ -76,14 +77,22 @@ module _ (a b : Job) (pa : first jobTests a ≡ passed) (pb : first jobTests b �
   same-job s =
       let p = passes-iff a .0 pa .lists .whole in
       let q = passes-iff b .0 pb .lists .whole in
-      let lists : listsOf (a .n) (pattern a) ≡ listsOf (b .n) (pattern b) = same-lists (a .n) (pattern a) (pattern b) (s .rows) ∙ ap (λ (n : ℕ). listsOf n (pattern b)) (s .columns) in
+      let lists : listsOf (a .n) (pattern a) ≡ listsOf (b .n) (pattern b) = same-lists (a .n) (pattern a) (pattern b) (s .rows) ∙ ap
+      (λ (n : ℕ). listsOf n (pattern b)) (s .columns) in
       let starts : a .starts ≡ b .starts = sym (starts-laid p) ∙ ap (startsFrom 0) lists ∙ starts-laid q in
       let rows : a .rows ≡ b .rows = sym (rows-laid p) ∙ ap flat lists ∙ rows-laid q in
       λ i. record { n = s .columns i; starts = starts i; rows = rows i; mark = s .marks i; limit = s .limits i }
 
   -- two jobs have one key just where they agree in n, mark, limit and the pattern rows of each column
   pub key-same-iff : (keyOf a ≡ keyOf b) ↔ Same a b
-  key-same-iff = (λ e. agree (got-inj (sym (key-back a (passes-iff a .0 pa)) ∙ ap readKey e ∙ key-back b (passes-iff b .0 pb)) .0), λ s. ap keyOf (same-job s))
+  key-same-iff =
+      (λ e. agree (got-inj (sym (key-back a (passes-iff a .0 pa)) ∙ ap readKey e ∙ key-back b (passes-iff b .0 pb)) .0), λ s. ap keyOf (same-job s))
     where
       agree : a ≡ b → Same a b
-      agree e = record { columns = ap (λ (j : Job). j .n) e; marks = ap (λ (j : Job). j .mark) e; limits = ap (λ (j : Job). j .limit) e; rows = λ j l h. ap (λ (x : Job). pattern x j) e }
+      agree e =
+          record {
+            columns = ap (λ (j : Job). j .n) e;
+            marks = ap (λ (j : Job). j .mark) e;
+            limits = ap (λ (j : Job). j .limit) e;
+            rows = λ j l h. ap (λ (x : Job). pattern x j) e;
+          }

@@ -108,7 +108,12 @@ module _ {n : ℕ} {starts rows : List ℕ} (s : Starts n starts rows) where
   rows-front (suc k) h =
       let a = start starts (suc k) in
       let b = start starts (suc (suc k)) in
-      rw (lists-more (columnOf starts rows) k, flat-append (listsOf k (columnOf starts rows)) (columnOf starts rows (suc k) ∷ []), append-nil (slice a b rows), rows-front k (omega arith))
+      rw (
+        lists-more (columnOf starts rows) k,
+        flat-append (listsOf k (columnOf starts rows)) (columnOf starts rows (suc k) ∷ []),
+        append-nil (slice a b rows),
+        rows-front k (omega arith),
+      )
       (ap (λ (l : List ℕ). l ++ slice a b rows) (sym (take-take a b rows (s .rising (suc k) (omega arith) h))) ∙ take-append-drop a (take b rows))
 
   starts-front : (k : ℕ) → k ≤ n → startsFrom 0 (listsOf k (columnOf starts rows)) ≡ take (suc k) starts
@@ -124,7 +129,14 @@ module _ {n : ℕ} {starts rows : List ℕ} (s : Starts n starts rows) where
       let u = start-within s (suc (suc k)) (omega arith) (omega arith) in
       let ends : 0 + length (flat (listsOf k (columnOf starts rows))) + length (columnOf starts rows (suc k)) ≡ b =
       omega (arith, ap length (rows-front k (omega arith)), length-take-le a rows (omega arith), column-length k h) in
-      rw (lists-more (columnOf starts rows) k, starts-more 0 (listsOf k (columnOf starts rows)) (columnOf starts rows (suc k)), ends, starts-front k (omega arith), take-suc starts (suc k) 0 (omega arith), ← start-at starts (suc k))
+      rw (
+        lists-more (columnOf starts rows) k,
+        starts-more 0 (listsOf k (columnOf starts rows)) (columnOf starts rows (suc k)),
+        ends,
+        starts-front k (omega arith),
+        take-suc starts (suc k) 0 (omega arith),
+        ← start-at starts (suc k),
+      )
 
   -- so the lists of the columns, laid, are the rows, and their starts the starts
   pub rows-laid : flat (listsOf n (columnOf starts rows)) ≡ rows

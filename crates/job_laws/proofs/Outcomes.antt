@@ -12,12 +12,14 @@ use Rattle.job_laws.proofs.Untouched.{job-untouched, answer-zero}
 
 module _ {C S : Type 0} (tests : List (C → Verdict)) (done : C → Outcome S) (zeroing : S → S) (call : C) (lent : S) where
   -- a refusal that leaves the lent slices as they were
-  pub outcome-untouched : {a : Answer} → first tests call ≡ refused a untouched → outcome tests done zeroing call lent ≡ record { answer = a; lent = lent }
+  pub outcome-untouched : {a : Answer} → first tests call ≡ refused a untouched
+      → outcome tests done zeroing call lent ≡ record { answer = a; lent = lent }
   unfolding outcome
   outcome-untouched e = rw (e, outcome)
 
   -- a refusal that leaves zeros
-  pub outcome-zeroed : {a : Answer} → first tests call ≡ refused a zeroed → outcome tests done zeroing call lent ≡ record { answer = a; lent = zeroing lent }
+  pub outcome-zeroed : {a : Answer} → first tests call ≡ refused a zeroed
+      → outcome tests done zeroing call lent ≡ record { answer = a; lent = zeroing lent }
   unfolding outcome
   outcome-zeroed e = rw (e, outcome)
 

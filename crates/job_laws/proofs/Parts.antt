@@ -49,12 +49,22 @@ module _ {n : ℕ} {plan : Plan} (fit : Fit n plan) where
         (sym (start-at (startsFrom 0 (plan .lists)) n) ∙ last-begin)
 
     -- a slice keeps its length, and its part is the list that it holds
-    pub parts-held : n ≤ length (before .order) → n ≤ length (before .pops) → n + 1 ≤ length (before .factorStarts) → length (flat (plan .lists)) ≤ length (before .factorRows)
+    pub parts-held : n ≤ length (before .order) → n ≤ length (before .pops) → n + 1 ≤ length (before .factorStarts)
+        → length (flat (plan .lists)) ≤ length (before .factorRows)
         → Parts n plan order pops starts rows
     parts-held o p s r = record {
-      order-long = omega (arith, ap length (held .columns), length-then-zeros (columnsIn (plan .steps)) (before .order) (omega (arith, length-columns)));
+      order-long = omega (
+        arith,
+        ap length (held .columns),
+        length-then-zeros (columnsIn (plan .steps)) (before .order) (omega (arith, length-columns)),
+      );
       pops-long = omega (arith, ap length (held .popped), length-then-zeros (popsIn (plan .steps)) (before .pops) (omega (arith, length-pops)));
-      starts-long = omega (arith, ap length (held .begins), length-then-zeros (startsFrom 0 (plan .lists)) (before .factorStarts) (omega (arith, length-begins)));
+      starts-long = omega (
+        arith,
+        ap length (held .begins),
+        length-then-zeros (startsFrom 0 (plan .lists)) (before .factorStarts)
+            (omega (arith, length-begins)),
+      );
       rows-long = omega (arith, last-is, ap length (held .listed), length-then-zeros (flat (plan .lists)) (before .factorRows) r);
       columns = rw (held .columns) (take-then-zeros _ _ length-columns);
       popped = rw (held .popped) (take-then-zeros _ _ length-pops);

@@ -55,7 +55,8 @@ module _ (n : ℕ) (starts rows : List ℕ) where
         ascends : (j : ℕ) → Asc j (columnOf starts rows j)
         ascends zero = rw no-column-0 tt
         ascends (suc j) =
-            ⊎-elim (λ (h : n < suc j). rw (no-column-over (suc j) h) tt) (λ (h : suc j ≤ n). p .ascending (suc j) (omega arith) h) (below-or n (suc j))
+            ⊎-elim (λ (h : n < suc j). rw (no-column-over (suc j) h) tt) (λ (h : suc j ≤ n). p .ascending (suc j) (omega arith) h)
+            (below-or n (suc j))
 
         inside : (i j : ℕ) → i ∈ columnOf starts rows j → i ≤ n
         inside i zero m = absurd (List·Memᴰ·not-nil (rw no-column-0 at m))
@@ -83,7 +84,13 @@ passes-iff job =
     let columns = over-passes-iff maxColumns (job .n) (answer 1 0 0) untouched in
     let mark = over-passes-iff maxMark (job .mark) (answer 2 0 0) untouched in
     let limit = over-passes-iff maxLimit (job .limit) (answer 3 0 0) untouched in (
-      λ e. let t = each .0 e in record { few = columns .0 (t .0); marked = mark .0 (t .1 .0); limited = limit .0 (t .1 .1 .0); lists = lists .0 (t .1 .1 .1 .0, t .1 .1 .1 .1 .0) },
+      λ e. let t = each .0 e in
+          record {
+            few = columns .0 (t .0);
+            marked = mark .0 (t .1 .0);
+            limited = limit .0 (t .1 .1 .0);
+            lists = lists .0 (t .1 .1 .1 .0, t .1 .1 .1 .1 .0);
+          },
       λ p. let l = lists .1 (p .lists) in each .1 (columns .1 (p .few), (mark .1 (p .marked), (limit .1 (p .limited), (l .0, (l .1, tt))))),
     )
 

@@ -61,9 +61,11 @@ key-only s bytes job at e =
     there ed to n tn mark tm limit tl lists end f g h k l (end-only _ job s end at x)
   where
     there : (ed to n tn mark tm limit tl : ℕ) (lists : List (List ℕ)) (end : ℕ)
-        → field edition edition s 0 ≡ got ed to → field 0 maxColumns s to ≡ got n tn → field 0 maxMark s tn ≡ got mark tm → field 0 maxLimit s tm ≡ got limit tl
+        → field edition edition s 0 ≡ got ed to → field 0 maxColumns s to ≡ got n tn → field 0 maxMark s tn ≡ got mark tm
+        → field 0 maxLimit s tm ≡ got limit tl
         → readLists n 1 n s tl ≡ got lists end
-        → (record { n = n; starts = startsFrom 0 lists; rows = flat lists; mark = mark; limit = limit } ≡ job) × (end ≡ at) × (length s ≤ at) → KeyRead s job at
+        → (record { n = n; starts = startsFrom 0 lists; rows = flat lists; mark = mark; limit = limit } ≡ job) × (end ≡ at) × (length s ≤ at)
+        → KeyRead s job at
     there ed to n tn mark tm limit tl lists end f g h k l (p, q, over) =
         let (c, fit, d) = lists-only n s bytes 1 n tl lists end l in
         let x = field-got edition edition s 0 ed to f in

@@ -97,7 +97,8 @@ rows-fine-iff n j before (r ∷ rs) l = go (row n j before r) (λ k. rows-fine-i
 
 module _ (n : ℕ) (starts rows : List ℕ) where
   -- column j is without fault just where its rows ascend above j, up to n
-  pub column-fine-iff : (j : ℕ) → (columnFault n starts rows j ≡ 0) ↔ (Asc j (columnOf starts rows j) × ((i : ℕ) → i ∈ columnOf starts rows j → i ≤ n))
+  pub column-fine-iff : (j : ℕ) → (columnFault n starts rows j ≡ 0) ↔ (Asc j (columnOf starts rows j) × ((i : ℕ) → i ∈ columnOf starts rows j
+      → i ≤ n))
   unfolding columnFault
   column-fine-iff j = rows-fine-iff n j j (columnOf starts rows j) (omega arith)
 

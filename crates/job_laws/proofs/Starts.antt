@@ -82,15 +82,18 @@ module _ (n : ℕ) (starts rows : List ℕ) where
 
   pub starts-verdict : StartsVerdict
   starts-verdict =
-      go (test (eqb (length starts) (n + 1))) (test (eqb (start starts 1) 0)) (least (falls starts) n) refl (test (eqb (start starts (suc n)) (length rows)))
+      go (test (eqb (length starts) (n + 1))) (test (eqb (start starts 1) 0)) (least (falls starts) n) refl
+      (test (eqb (start starts (suc n)) (length rows)))
     where
-      go : Test (eqb (length starts) (n + 1)) → Test (eqb (start starts 1) 0) → (p : ℕ) → least (falls starts) n ≡ p → Test (eqb (start starts (suc n)) (length rows))
+      go : Test (eqb (length starts) (n + 1)) → Test (eqb (start starts 1) 0) → (p : ℕ) → least (falls starts) n ≡ p
+          → Test (eqb (start starts (suc n)) (length rows))
           → StartsVerdict
       go (fails a) b p z d = four 0 (starts-few (eqb-false (length starts) (n + 1) a))
       go (passes a) (fails b) p z d = four 0 (starts-from (eqb-true (length starts) (n + 1) a) (eqb-false (start starts 1) 0 b))
       go (passes a) (passes b) (suc j) z d = four (suc j) (starts-fall (eqb-true (length starts) (n + 1) a) (eqb-true (start starts 1) 0 b) j z)
       go (passes a) (passes b) zero z (fails d) =
-          four n (starts-end (eqb-true (length starts) (n + 1) a) (eqb-true (start starts 1) 0 b) z (eqb-false (start starts (suc n)) (length rows) d))
+          four n (starts-end (eqb-true (length starts) (n + 1) a) (eqb-true (start starts 1) 0 b) z (eqb-false (start starts (suc n)) (length rows)
+          d))
       go (passes a) (passes b) zero z (passes d) =
           let long = eqb-true (length starts) (n + 1) a in
           let from-zero = eqb-true (start starts 1) 0 b in

@@ -9,7 +9,8 @@ use lib.Dec.{ltb}
 use Rattle.papers.specs.declared.Answer.{Answer}
 use Rattle.papers.specs.Bounds.{maxColumns, maxMark, maxLimit}
 use Rattle.papers.specs.Job.{Job, columnOf}
-use Rattle.papers.specs.Refusals.{answer, Leaves, untouched, Verdict, passed, refused, answerOf, first, refusedIf, columnsTest, markTest, limitTest, startsTest, columnFault, rowsTest, jobTests}
+use Rattle.papers.specs.Refusals.{answer, Leaves, untouched, Verdict, passed, refused, answerOf, first, refusedIf}
+use Rattle.papers.specs.Refusals.{columnsTest, markTest, limitTest, startsTest, columnFault, rowsTest, jobTests}
 use Rattle.job_laws.proofs.Firsts.{first-each}
 use Rattle.job_laws.proofs.Faults.{faults-each}
 use Rattle.job_laws.proofs.Starts.{StartsVerdict, four, fine, starts-verdict}
@@ -54,7 +55,8 @@ job-early job =
     )
 
 -- 1 to 6 leave all lent slices untouched, and count nothing
-pub job-untouched : (job : Job) {a : Answer} {l : Leaves} → first jobTests job ≡ refused a l → (l ≡ untouched) × (1 ≤ a .number) × (a .number ≤ 6) × (a .count ≡ 0)
+pub job-untouched : (job : Job) {a : Answer} {l : Leaves} → first jobTests job ≡ refused a l
+    → (l ≡ untouched) × (1 ≤ a .number) × (a .number ≤ 6) × (a .count ≡ 0)
 job-untouched job e = rw e at (job-early job)
 
 -- the number 0 is given only where nothing is refused

@@ -47,7 +47,8 @@ module _ {n : ℕ} {starts rows : List ℕ} {j end number place i before : ℕ} 
 
   module _ (f : ℕ) (h : i < end) (e : f ≡ rowFault n j before (getD rows i 0)) where
     column-fault : f ≢ 0 → columnFault n starts rows j ≡ f
-    column-fault z = sym (r .same) ∙ rw (slice-cons i end rows 0 h (r .fit)) (rows-fault n j before (getD rows i 0) (slice (suc i) end rows) (omega arith) ∙ sym e)
+    column-fault z =
+        sym (r .same) ∙ rw (slice-cons i end rows 0 h (r .fit)) (rows-fault n j before (getD rows i 0) (slice (suc i) end rows) (omega arith) ∙ sym e)
 
     pub next-row : f ≡ 0 → Rows n starts rows j end number place (i + 1) (getD rows i 0)
     next-row z =
@@ -55,7 +56,8 @@ module _ {n : ℕ} {starts rows : List ℕ} {j end number place i before : ℕ} 
           no-number = r .no-number;
           no-place = r .no-place;
           fit = r .fit;
-          same = rw add-one (sym (rows-next n j before (getD rows i 0) (slice (suc i) end rows) (sym e ∙ z)) ∙ rw (slice-cons i end rows 0 h (r .fit)) at (r .same));
+          same = rw add-one (sym (rows-next n j before (getD rows i 0) (slice (suc i) end rows) (sym e ∙ z)) ∙ rw (slice-cons i end rows 0 h (r .fit))
+              at (r .same));
         }
 
 module _ {n : ℕ} {starts rows : List ℕ} {number place done : ℕ} (k : Columns n starts rows number place done) where
@@ -63,7 +65,8 @@ module _ {n : ℕ} {starts rows : List ℕ} {number place done : ℕ} (k : Colum
   last-column l =
       let e : done ≡ n = let q = k .reached in omega arith in
       let none = subst (λ m. least (faulty (columnFault n starts rows)) m ≡ 0) e (k .none) in
-      rw (k .no-number, k .no-place) (answer-passed (rows-test-is n starts rows ∙ faults-pass (columnFault n starts rows) n (λ j. 0) untouched none) refl)
+      rw (k .no-number, k .no-place) (answer-passed (rows-test-is n starts rows ∙ faults-pass (columnFault n starts rows) n (λ j. 0) untouched none)
+      refl)
 
   module _ (l : done < n) where
     pub first-row : Rows n starts rows (done + 1) (getD starts (done + 1) 0) number place (getD starts done 0) (done + 1)
@@ -87,7 +90,9 @@ module _ {n : ℕ} {starts rows : List ℕ} {number place done : ℕ} (k : Colum
             none = rw add-one (faults-next (columnFault n starts rows) done (k .none) (rw add-one at (column-fine r h)));
           }
 
-      pub found : (f : ℕ) → i < end → f ≡ rowFault n (done + 1) before (getD rows i 0) → f ≢ 0 → answer f (done + 1) 0 ≡ answerOf (rowsTest n starts rows)
+      pub found : (f : ℕ) → i < end → f ≡ rowFault n (done + 1) before (getD rows i 0) → f ≢ 0
+          → answer f (done + 1) 0 ≡ answerOf (rowsTest n starts rows)
       found f h e z =
           let q = rw add-one at (column-fault r f h e z) in
-          answer-refused (rows-test-is n starts rows ∙ faults-refuse (columnFault n starts rows) n (λ j. 0) untouched done (k .none) (omega arith) (omega arith)) (rw (add-one, q))
+          answer-refused (rows-test-is n starts rows ∙ faults-refuse (columnFault n starts rows) n (λ j. 0) untouched done (k .none) (omega arith)
+          (omega arith)) (rw (add-one, q))

@@ -35,10 +35,12 @@ module _ {n : ℕ} {starts : List ℕ} {done : ℕ} (r : Rising n starts done) w
         long = r .long;
         from-zero = r .from-zero;
         reached = omega arith;
-        none = rw add-one (least-none (falls starts) done (r .none) (rw (falls-at starts done, ← add-one done) (le-ltb (getD starts (done + 1) 0) (getD starts done 0) h)));
+        none = rw add-one (least-none (falls starts) done (r .none) (rw (falls-at starts done, ← add-one done)
+            (le-ltb (getD starts (done + 1) 0) (getD starts done 0) h)));
       }
 
-  pub fall : (rows : List ℕ) → done < n → getD starts (done + 1) 0 < getD starts done 0 → startsTest n starts rows ≡ refused (answer 4 (done + 1) 0) untouched
+  pub fall : (rows : List ℕ) → done < n → getD starts (done + 1) 0 < getD starts done 0
+      → startsTest n starts rows ≡ refused (answer 4 (done + 1) 0) untouched
   fall rows l h =
       let f : falls starts (suc done) ≡ true = rw (falls-at starts done, ← add-one done) (lt-ltb (getD starts (done + 1) 0) (getD starts done 0) h) in
       rw add-one (starts-fall n starts rows (r .long) (r .from-zero) done (least-here (falls starts) done n (r .none) f (omega arith)))

@@ -93,7 +93,9 @@ module _ (job : Job) (bytes₀ : List ℕ) where
         let key = keyOf job in
         ⊎-elim
         (λ (short : length bytes₀ < length key).
-        outcome-zeroed keyTests keyDone zeros call bytes₀ (last-test ∙ over-refuses (length bytes₀) (length key) _ zeroed short) ∙ sym (short-is key bytes₀ short))
+        outcome-zeroed keyTests keyDone zeros call bytes₀ (last-test ∙ over-refuses (length bytes₀) (length key) _ zeroed short) ∙ sym
+        (short-is key bytes₀ short))
         (λ (whole : length key ≤ length bytes₀).
-        outcome-done keyTests keyDone zeros call bytes₀ (last-test ∙ over-passes-iff (length bytes₀) (length key) _ zeroed .1 whole) ∙ sym (whole-is key bytes₀ whole))
+        outcome-done keyTests keyDone zeros call bytes₀ (last-test ∙ over-passes-iff (length bytes₀) (length key) _ zeroed .1 whole) ∙ sym
+        (whole-is key bytes₀ whole))
         (below-or (length bytes₀) (length key))

@@ -1,4 +1,5 @@
--- The key held against the plan from its beginning: the first byte that is not there is the least place that differs, so what is found is what refusal
+-- The key held against the plan from its beginning: the first byte that is not there is the least place that differs, so what is found is what
+-- refusal
 -- 11 says.
 -- Assumes nothing.
 use Prim.Native.Nat.{ℕ, zero, suc, _+_, _-_, _<_, _≤_}
@@ -17,7 +18,8 @@ use Rattle.bytes_laws.proofs.NumberReading.{Stands, stands}
 use Rattle.key_match.specs.Matches.{matchFrom, keyMatch}
 use Rattle.key_match.specs.declared.KeyMatch.the-variants.{Begins, Differs}
 use Rattle.key_match.specs.declared.KeyMatch.{KeyMatch}
-use Rattle.key_match.proofs.Bytes.{begins-inj, begins-differs, byte-there, byte-differs, byte-lacks, Byte, there, differs, lacks, byte, bytes-inside}
+use Rattle.key_match.proofs.Bytes.{begins-inj, begins-differs, byte-there, byte-differs, byte-lacks, Byte, there, differs}
+use Rattle.key_match.proofs.Bytes.{lacks, byte, bytes-inside}
 
 -- ---- what is found is what refusal 11 says
 
@@ -33,18 +35,22 @@ module _ (key plan : List ℕ) where
   module _ (i : ℕ) where
     same-byte : i < length plan → getD plan i 0 ≡ getD key i 0 → keyDiffers key plan (suc i) ≡ false
     unfolding keyDiffers
-    same-byte h e = let q : suc i - 1 ≡ i = omega arith in rw (le-leb (suc i) (length plan) h, q, eq-eqb (getD key i 0) (getD plan i 0) (sym e), keyDiffers)
+    same-byte h e =
+        let q : suc i - 1 ≡ i = omega arith in rw (le-leb (suc i) (length plan) h, q, eq-eqb (getD key i 0) (getD plan i 0) (sym e), keyDiffers)
 
     other-byte : i < length plan → getD plan i 0 ≢ getD key i 0 → keyDiffers key plan (suc i) ≡ true
     unfolding keyDiffers
-    other-byte h n = let q : suc i - 1 ≡ i = omega arith in rw (le-leb (suc i) (length plan) h, q, ne-eqb (getD key i 0) (getD plan i 0) (λ e. n (sym e)), keyDiffers)
+    other-byte h n =
+        let q : suc i - 1 ≡ i = omega arith in
+        rw (le-leb (suc i) (length plan) h, q, ne-eqb (getD key i 0) (getD plan i 0) (λ e. n (sym e)), keyDiffers)
 
     no-byte : length plan ≤ i → keyDiffers key plan (suc i) ≡ true
     unfolding keyDiffers
     no-byte h = rw (lt-leb (suc i) (length plan) (omega arith), keyDiffers)
 
   -- the rest of the key, where no byte before it differs
-  rest-matches : (rest : List ℕ) (i : ℕ) → drop i key ≡ rest → i ≤ length key → least (keyDiffers key plan) i ≡ 0 → matchFrom rest plan i ≡ keyMatch key plan
+  rest-matches : (rest : List ℕ) (i : ℕ) → drop i key ≡ rest → i ≤ length key → least (keyDiffers key plan) i ≡ 0
+      → matchFrom rest plan i ≡ keyMatch key plan
   unfolding matchFrom
   rest-matches [] i d l z =
       let e : i ≡ length key = omega (arith, ap length d, length-drop i key) in
@@ -60,10 +66,12 @@ module _ (key plan : List ℕ) where
       found : keyDiffers key plan (suc i) ≡ true → matchFrom (b ∷ rest) plan i ≡ Differs (i + 1) → matchFrom (b ∷ rest) plan i ≡ keyMatch key plan
       found e f = f ∙ ap Differs (add-one i) ∙ sym (key-differs i (least-here (keyDiffers key plan) i (length key) z e (here .there)))
 
-      go : Byte b plan i → (drop (i + 1) key ≡ rest → i + 1 ≤ length key → least (keyDiffers key plan) (i + 1) ≡ 0 → matchFrom rest plan (i + 1) ≡ keyMatch key plan)
+      go : Byte b plan i → (drop (i + 1) key ≡ rest → i + 1 ≤ length key → least (keyDiffers key plan) (i + 1) ≡ 0
+          → matchFrom rest plan (i + 1) ≡ keyMatch key plan)
           → matchFrom (b ∷ rest) plan i ≡ keyMatch key plan
       go (there h e) ih =
-          byte-there b rest plan i h e ∙ ih (here .behind) (omega (arith, here .there)) (rw add-one (least-none (keyDiffers key plan) i z (same-byte i h (e ∙ at-key))))
+          byte-there b rest plan i h e ∙ ih (here .behind) (omega (arith, here .there))
+          (rw add-one (least-none (keyDiffers key plan) i z (same-byte i h (e ∙ at-key))))
       go (differs h e) ih = found (other-byte i h (λ q. e (q ∙ sym at-key))) (byte-differs b rest plan i h e)
       go (lacks h) ih = found (no-byte i h) (byte-lacks b rest plan i h)
 
@@ -77,7 +85,8 @@ module _ (key plan : List ℕ) {r : KeyMatch} (e : r ≡ keyMatch key plan) wher
   pub begins-key : {next : ℕ} → r ≡ Begins next → (least (keyDiffers key plan) (length key) ≡ 0) × (next ≡ length key) × (next ≤ length plan)
   begins-key {next} f = go (least (keyDiffers key plan) (length key)) refl
     where
-      go : (p : ℕ) → least (keyDiffers key plan) (length key) ≡ p → (least (keyDiffers key plan) (length key) ≡ 0) × (next ≡ length key) × (next ≤ length plan)
+      go : (p : ℕ) → least (keyDiffers key plan) (length key) ≡ p
+          → (least (keyDiffers key plan) (length key) ≡ 0) × (next ≡ length key) × (next ≤ length plan)
       go zero z = (z, begins-inj (sym f ∙ e ∙ key-begins key plan z), bytes-inside key plan 0 (omega arith) (key-matches key plan ∙ sym e ∙ f))
       go (suc p) z = absurd (begins-differs f (e ∙ key-differs key plan p z))
 

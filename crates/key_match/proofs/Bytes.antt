@@ -1,4 +1,5 @@
--- Bytes held against a plan, byte by byte: the first byte is there or not, and if it is, the rest is held against what follows. So bytes behind others
+-- Bytes held against a plan, byte by byte: the first byte is there or not, and if it is, the rest is held against what follows. So bytes behind
+-- others
 -- are held against what follows those.
 -- Assumes nothing.
 use Prim.Native.Nat.{ℕ, suc, _+_, _<_, _≤_}
@@ -60,7 +61,8 @@ unfolding matchFrom
 bytes-begin [] b plan at e = ap (matchFrom b plan) (begins-inj e)
 bytes-begin (x ∷ a) b plan at {k} e = go (byte x plan at) (bytes-begin a b plan (at + 1))
   where
-    go : Byte x plan at → (matchFrom a plan (at + 1) ≡ Begins k → matchFrom (a ++ b) plan (at + 1) ≡ matchFrom b plan k) → matchFrom (x ∷ (a ++ b)) plan at ≡ matchFrom b plan k
+    go : Byte x plan at → (matchFrom a plan (at + 1) ≡ Begins k → matchFrom (a ++ b) plan (at + 1) ≡ matchFrom b plan k)
+        → matchFrom (x ∷ (a ++ b)) plan at ≡ matchFrom b plan k
     go (there h f) ih = byte-there x (a ++ b) plan at h f ∙ ih (sym (byte-there x a plan at h f) ∙ e)
     go (differs h f) ih = absurd (begins-differs e (byte-differs x a plan at h f))
     go (lacks h) ih = absurd (begins-differs e (byte-lacks x a plan at h))
@@ -70,7 +72,8 @@ unfolding matchFrom
 bytes-differ [] b plan at e = absurd (begins-differs refl e)
 bytes-differ (x ∷ a) b plan at {place} e = go (byte x plan at) (bytes-differ a b plan (at + 1))
   where
-    go : Byte x plan at → (matchFrom a plan (at + 1) ≡ Differs place → matchFrom (a ++ b) plan (at + 1) ≡ Differs place) → matchFrom (x ∷ (a ++ b)) plan at ≡ Differs place
+    go : Byte x plan at → (matchFrom a plan (at + 1) ≡ Differs place → matchFrom (a ++ b) plan (at + 1) ≡ Differs place)
+        → matchFrom (x ∷ (a ++ b)) plan at ≡ Differs place
     go (there h f) ih = byte-there x (a ++ b) plan at h f ∙ ih (sym (byte-there x a plan at h f) ∙ e)
     go (differs h f) ih = byte-differs x (a ++ b) plan at h f ∙ sym (byte-differs x a plan at h f) ∙ e
     go (lacks h) ih = byte-lacks x (a ++ b) plan at h ∙ sym (byte-lacks x a plan at h) ∙ e
@@ -100,22 +103,28 @@ pub record Bytes (bytes plan : List ℕ) (at i : ℕ) : Type 0 where
   pub inside : at + i ≤ length plan
 
 pub bytes-start : (bytes plan : List ℕ) (at : ℕ) → at ≤ length plan → Bytes bytes plan at 0
-bytes-start bytes plan at h = let e : at + 0 ≡ at = omega arith in record { same = ap (matchFrom bytes plan) e; few = omega arith; inside = omega arith }
+bytes-start bytes plan at h =
+    let e : at + 0 ≡ at = omega arith in record { same = ap (matchFrom bytes plan) e; few = omega arith; inside = omega arith }
 
 module _ {bytes plan : List ℕ} {at i : ℕ} (l : Bytes bytes plan at i) where
   module _ (h : i < length bytes) where
     pub bytes-lack : length plan ≤ at + i → Differs (at + i + 1) ≡ matchFrom bytes plan at
-    bytes-lack g = sym (byte-lacks (getD bytes i 0) (drop (suc i) bytes) plan (at + i) g) ∙ ap (λ (x : List ℕ). matchFrom x plan (at + i)) (sym (drop-cons bytes i 0 h)) ∙ l .same
+    bytes-lack g =
+        sym (byte-lacks (getD bytes i 0) (drop (suc i) bytes) plan (at + i) g) ∙ ap (λ (x : List ℕ). matchFrom x plan (at + i))
+        (sym (drop-cons bytes i 0 h)) ∙ l .same
 
     module _ (g : at + i < length plan) where
       pub bytes-other : getD plan (at + i) 0 ≢ getD bytes i 0 → Differs (at + i + 1) ≡ matchFrom bytes plan at
-      bytes-other e = sym (byte-differs (getD bytes i 0) (drop (suc i) bytes) plan (at + i) g e) ∙ ap (λ (x : List ℕ). matchFrom x plan (at + i)) (sym (drop-cons bytes i 0 h)) ∙ l .same
+      bytes-other e =
+          sym (byte-differs (getD bytes i 0) (drop (suc i) bytes) plan (at + i) g e) ∙ ap (λ (x : List ℕ). matchFrom x plan (at + i))
+          (sym (drop-cons bytes i 0 h)) ∙ l .same
 
       pub bytes-turn : getD plan (at + i) 0 ≡ getD bytes i 0 → Bytes bytes plan at (i + 1)
       bytes-turn e =
           let q : at + (i + 1) ≡ at + i + 1 = omega arith in
           record {
-            same = rw (q, add-one) (sym (byte-there (getD bytes i 0) (drop (suc i) bytes) plan (at + i) g e) ∙ ap (λ (x : List ℕ). matchFrom x plan (at + i)) (sym (drop-cons bytes i 0 h)) ∙ l .same);
+            same = rw (q, add-one) (sym (byte-there (getD bytes i 0) (drop (suc i) bytes) plan (at + i) g e) ∙ ap
+                (λ (x : List ℕ). matchFrom x plan (at + i)) (sym (drop-cons bytes i 0 h)) ∙ l .same);
             few = omega arith;
             inside = omega arith;
           }

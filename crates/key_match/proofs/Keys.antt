@@ -42,5 +42,6 @@ module _ (job : Job) (plan : List ℕ) where
         pub behind-mark : {next : ℕ} → q ≡ Begins next → Left (keyNumbers job) plan 0 (keyLists job) next
         behind-mark h = left-numbers behind-size (job .mark ∷ job .limit ∷ []) (keyLists job) refl g h
 
-        pub lists-found : {next : ℕ} → q ≡ Begins next → {p : KeyMatch} → p ≡ matchFrom (encode (keyLists job)) plan next → p ≡ keyMatch (keyOf job) plan
+        pub lists-found : {next : ℕ} → q ≡ Begins next → {p : KeyMatch} → p ≡ matchFrom (encode (keyLists job)) plan next
+            → p ≡ keyMatch (keyOf job) plan
         lists-found h i = found (left-last (behind-mark h) i)

@@ -27,7 +27,10 @@ module _ {whole plan : List ℕ} {at : ℕ} where
       left-bytes : {next : ℕ} → r ≡ Begins next → Left whole plan at ys next
       left-bytes g =
           let h = sym f ∙ g in
-          record { same = sym (bytes-begin w (encode ys) plan k h) ∙ ap (λ (x : List ℕ). matchFrom x plan k) (sym e) ∙ l .same; inside = bytes-inside w plan k (l .inside) h }
+          record {
+            same = sym (bytes-begin w (encode ys) plan k h) ∙ ap (λ (x : List ℕ). matchFrom x plan k) (sym e) ∙ l .same;
+            inside = bytes-inside w plan k (l .inside) h;
+          }
 
       differs-bytes : {place : ℕ} → r ≡ Differs place → Differs place ≡ matchFrom (encode whole) plan at
       differs-bytes g = sym (bytes-differ w (encode ys) plan k (sym f ∙ g)) ∙ ap (λ (x : List ℕ). matchFrom x plan k) (sym e) ∙ l .same

@@ -29,7 +29,8 @@ module _ (n : ℕ) (s : List ℕ) (at : ℕ) where
     unfolding readMark
     no-limit f = faulty (then-got _ e ∙ then-bad _ f)
 
-    pub mark-limit : {limit next : ℕ} → field 0 maxLimit s m ≡ got limit next → Head (record { n = n; mark = mark; limit = limit }) next ≡ headReading (readMark n s at)
+    pub mark-limit : {limit next : ℕ} → field 0 maxLimit s m ≡ got limit next
+        → Head (record { n = n; mark = mark; limit = limit }) next ≡ headReading (readMark n s at)
     unfolding readMark headReading
     mark-limit f = ap headReading (sym (then-got _ e ∙ then-got _ f))
 
@@ -43,19 +44,22 @@ module _ (s : List ℕ) where
     unfolding readHead
     no-columns g = faulty (then-got _ f ∙ then-bad _ g)
 
-    pub columns-mark : {n next : ℕ} {r : HeadReading} → field 0 maxColumns s m ≡ got n next → r ≡ headReading (readMark n s next) → r ≡ headReading (readHead s)
+    pub columns-mark : {n next : ℕ} {r : HeadReading} → field 0 maxColumns s m ≡ got n next → r ≡ headReading (readMark n s next)
+        → r ≡ headReading (readHead s)
     unfolding readHead
     columns-mark g h = h ∙ ap headReading (sym (then-got _ f ∙ then-got _ g))
 
 -- ---- from the answer
 
 -- the head that is answered is read, and no other
-pub head-found : (found : Read JobHead) {r : HeadReading} {head : JobHead} {next : ℕ} → r ≡ headReading found → r ≡ Head head next → found ≡ got head next
+pub head-found : (found : Read JobHead) {r : HeadReading} {head : JobHead} {next : ℕ} → r ≡ headReading found → r ≡ Head head next
+    → found ≡ got head next
 unfolding headReading
 head-found (got h m) {head = head} {next = next} e g = let x : h ≡ head = cc in let y : m ≡ next = cc in rw (x, y)
 head-found (bad c p) e g = absurd (let z : _≡_ {A = ℕ} 0 1 = cc in omega arith)
 
-pub head-faulty : (found : Read JobHead) {r : HeadReading} → r ≡ headReading found → r ≡ Faulty → (number : ℕ) × (place : ℕ) × (found ≡ bad number place)
+pub head-faulty : (found : Read JobHead) {r : HeadReading} → r ≡ headReading found → r ≡ Faulty
+    → (number : ℕ) × (place : ℕ) × (found ≡ bad number place)
 unfolding headReading
 head-faulty (got h m) e g = absurd (let z : _≡_ {A = ℕ} 0 1 = cc in omega arith)
 head-faulty (bad c p) e g = (c, p, refl)

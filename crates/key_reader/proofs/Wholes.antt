@@ -1,4 +1,5 @@
--- A key is its head, its lists and the end (key-by-head), so its first part at fault makes it unreadable; where all are read it is the key of the job of
+-- A key is its head, its lists and the end (key-by-head), so its first part at fault makes it unreadable; where all are read it is the key of the job
+-- of
 -- that head and those lists.
 -- Assumes nothing.
 use Prim.Native.Nat.{ℕ, _+_, _<_, _≤_}
@@ -34,7 +35,8 @@ module _ (s : List ℕ) where
 
   key-by-head : readKey s ≡ then (readHead s) rest
   unfolding readKey readHead readMark rest then
-  key-by-head = sym (then-then (field edition edition s 0) (λ e at. with-columns at) rest ∙ ap (then (field edition edition s 0)) (λ i e at. from-columns at i))
+  key-by-head =
+      sym (then-then (field edition edition s 0) (λ e at. with-columns at) rest ∙ ap (then (field edition edition s 0)) (λ i e at. from-columns at i))
     where
       with-limit : ℕ → ℕ → ℕ → Read JobHead
       with-limit n mark at = then (field 0 maxLimit s at) λ limit at. got (record { n = n; mark = mark; limit = limit }) at
@@ -42,15 +44,21 @@ module _ (s : List ℕ) where
       with-columns : ℕ → Read JobHead
       with-columns at = then (field 0 maxColumns s at) λ n at. readMark n s at
 
-      from-limit : (n mark at : ℕ) → then (with-limit n mark at) rest ≡ then (field 0 maxLimit s at) (λ limit at. rest (record { n = n; mark = mark; limit = limit }) at)
+      from-limit : (n mark at : ℕ)
+          → then (with-limit n mark at) rest ≡ then (field 0 maxLimit s at) (λ limit at. rest (record { n = n; mark = mark; limit = limit }) at)
       from-limit n mark at = then-then (field 0 maxLimit s at) (λ limit at. got (record { n = n; mark = mark; limit = limit }) at) rest
 
-      from-mark : (n at : ℕ) → then (readMark n s at) rest ≡ then (field 0 maxMark s at) (λ mark at. then (field 0 maxLimit s at) (λ limit at. rest (record { n = n; mark = mark; limit = limit }) at))
+      from-mark : (n at : ℕ)
+          → then (readMark n s at) rest ≡ then (field 0 maxMark s at) (λ mark at. then (field 0 maxLimit s at)
+          (λ limit at. rest (record { n = n; mark = mark; limit = limit }) at))
       from-mark n at = then-then (field 0 maxMark s at) (with-limit n) rest ∙ ap (then (field 0 maxMark s at)) (λ i mark at. from-limit n mark at i)
 
       from-columns : (at : ℕ) → then (with-columns at) rest
-          ≡ then (field 0 maxColumns s at) (λ n at. then (field 0 maxMark s at) (λ mark at. then (field 0 maxLimit s at) (λ limit at. rest (record { n = n; mark = mark; limit = limit }) at)))
-      from-columns at = then-then (field 0 maxColumns s at) (λ n at. readMark n s at) rest ∙ ap (then (field 0 maxColumns s at)) (λ i n at. from-mark n at i)
+          ≡ then (field 0 maxColumns s at)
+          (λ n at. then (field 0 maxMark s at) (λ mark at. then (field 0 maxLimit s at)
+          (λ limit at. rest (record { n = n; mark = mark; limit = limit }) at)))
+      from-columns at =
+          then-then (field 0 maxColumns s at) (λ n at. readMark n s at) rest ∙ ap (then (field 0 maxColumns s at)) (λ i n at. from-mark n at i)
 
   pub no-head : {number place : ℕ} → readHead s ≡ bad number place → KeyTold s Unreadable
   no-head e = unreadable (key-by-head ∙ then-bad _ e) refl
@@ -77,7 +85,15 @@ module _ (s : List ℕ) where
       unfolding atEnd
       key-whole c h =
           let (few, inside) = head-fits s head at e in
-          reads {head = head} (record { lists = lists; end = end; whole = at-end ∙ rw (le-ltb end (length s) h, atEnd); stand = f; counted = c; few = few; inside = inside }) refl
+          reads {head = head} (record {
+            lists = lists;
+            end = end;
+            whole = at-end ∙ rw (le-ltb end (length s) h, atEnd);
+            stand = f;
+            counted = c;
+            few = few;
+            inside = inside;
+          }) refl
 
 -- what is told of a part that is also kept is told of it where nothing is
 pub told-alone : {A : Type 0} {f : A → ℕ} {Kept : A → Type 0} {found : Read A} {r : Reading} → Told f Kept found r → Told f (λ a. Unit {0}) found r

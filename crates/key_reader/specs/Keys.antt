@@ -19,7 +19,8 @@ use Rattle.key_reader.specs.declared.KeyReading.the-variants.{Whole, Unr
 
 -- mark and limit, behind the size n
 unfoldable pub readMark : ℕ → List ℕ → ℕ → Read JobHead
-readMark n s at = then (field 0 maxMark s at) λ mark at. then (field 0 maxLimit s at) λ limit at. got (record { n = n; mark = mark; limit = limit }) at
+readMark n s at =
+    then (field 0 maxMark s at) λ mark at. then (field 0 maxLimit s at) λ limit at. got (record { n = n; mark = mark; limit = limit }) at
 
 -- edition, size, mark and limit
 unfoldable pub readHead : List ℕ → Read JobHead

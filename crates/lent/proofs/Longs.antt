@@ -36,4 +36,5 @@ module _ (n : ℕ) (lent : Lent) where
 
   pub long-passes : LongEnough n lent → short ≡ false
   long-passes l =
-      sym (short-work n _ _ _ _ (length (lent .work)) (l .parents) (l .order) (l .pops) (l .starts)) ∙ le-ltb (length (lent .work)) (workLength n) (l .work)
+      sym (short-work n _ _ _ _ (length (lent .work)) (l .parents) (l .order) (l .pops) (l .starts)) ∙ le-ltb (length (lent .work)) (workLength n)
+      (l .work)

@@ -9,12 +9,14 @@ use Rattle.papers.specs.Bounds.{workLength, programColumns, programFactorRows}
 use Rattle.papers.specs.Refusals.{Lent}
 
 abbrev pub six : List ℕ → List ℕ → List ℕ → List ℕ → List ℕ → List ℕ → Lent
-six parents order pops starts rows work = record { parents = parents; order = order; pops = pops; factorStarts = starts; factorRows = rows; work = work }
+six parents order pops starts rows work =
+    record { parents = parents; order = order; pops = pops; factorStarts = starts; factorRows = rows; work = work }
 
 -- zeroed slices of the program's sizes
 abbrev pub zeroes : Lent
 zeroes =
-    six (replicate programColumns 0) (replicate programColumns 0) (replicate programColumns 0) (replicate (programColumns + 1) 0) (replicate programFactorRows 0) (replicate (workLength programColumns) 0)
+    six (replicate programColumns 0) (replicate programColumns 0) (replicate programColumns 0) (replicate (programColumns + 1) 0)
+    (replicate programFactorRows 0) (replicate (workLength programColumns) 0)
 
 -- one of them is below its fixed length for n columns, by their lengths
 abbrev pub isShort : ℕ → ℕ → ℕ → ℕ → ℕ → ℕ → Bool

@@ -28,14 +28,17 @@ use Rattle.lent_lists.specs.Listing.{Listing}
 module _ (n : ℕ) (l x : List ℕ) (e : length x ≡ length (take n l)) where
   -- it is as long as it was
   pub front-anew : length (x ++ drop n l) ≡ length l
-  front-anew = length-append x (drop n l) ∙ ap (λ (k : ℕ). k + length (drop n l)) e ∙ sym (length-append (take n l) (drop n l)) ∙ ap length (take-append-drop n l)
+  front-anew =
+      length-append x (drop n l) ∙ ap (λ (k : ℕ). k + length (drop n l)) e ∙ sym (length-append (take n l) (drop n l)) ∙ ap length
+      (take-append-drop n l)
 
   -- cleared behind the front
   behind-zero : {o : List ℕ} → n ≤ length l → o ≡ zerosFrom n (x ++ drop n l) → drop n o ≡ zeros (drop n l)
   unfolding zerosFrom
   behind-zero {o} h f =
       let m = x ++ drop n l in
-      ap (drop n) f ∙ drop-at (take n m) (zeros (drop n m)) n (length-take-le n m (omega (arith, front-anew))) ∙ ap zeros (drop-at x (drop n l) n (e ∙ sym (part-long n l h)))
+      ap (drop n) f ∙ drop-at (take n m) (zeros (drop n m)) n (length-take-le n m (omega (arith, front-anew))) ∙ ap zeros
+      (drop-at x (drop n l) n (e ∙ sym (part-long n l h)))
 
 -- ---- the lists
 
@@ -68,23 +71,31 @@ module _ {n : ℕ} {before : Lent} (long : LongEnough n before) where
       last-is : getD s n 0 ≡ length (flat (listsOf n (R A)))
       last-is =
           let fits : 0 + length (startsFrom 0 ls) ≤ length (before .factorStarts) = omega (arith, length-begins, long .starts) in
-          rw (whole .starts-are, sets-eq (startsFrom 0 ls) (before .factorStarts) 0 fits, List·getD-append (startsFrom 0 ls) _ 0 n (omega (arith, length-begins)))
+          rw (
+            whole .starts-are,
+            sets-eq (startsFrom 0 ls) (before .factorStarts) 0 fits,
+            List·getD-append (startsFrom 0 ls) _ 0 n (omega (arith, length-begins)),
+          )
           (sym (start-at (startsFrom 0 ls) n) ∙ (rw (length-lists (R A) n) at (laid-starts ls .last)))
 
       pub last-fits : getD s n 0 ≤ length r
       last-fits = omega (arith, last-is, whole .fits, ap length (whole .rows-are), length-sets (before .factorRows) 0 (flat ls))
 
       -- all are, and the slices are cleared behind them; x and y were left in the front of order and pops
-      pub all-listed : (x y w : List ℕ) {p′ o q s′ r′ : List ℕ} → length x ≡ length (take n (before .order)) → length y ≡ length (take n (before .pops)) → p′ ≡ zerosFrom n p
-          → o ≡ zerosFrom n (x ++ drop n (before .order)) → q ≡ zerosFrom n (y ++ drop n (before .pops)) → s′ ≡ zerosFrom (n + 1) s → r′ ≡ zerosFrom (getD s n 0) r
+      pub all-listed : (x y w : List ℕ) {p′ o q s′ r′ : List ℕ} → length x ≡ length (take n (before .order))
+          → length y ≡ length (take n (before .pops)) → p′ ≡ zerosFrom n p
+          → o ≡ zerosFrom n (x ++ drop n (before .order)) → q ≡ zerosFrom n (y ++ drop n (before .pops)) → s′ ≡ zerosFrom (n + 1) s
+          → r′ ≡ zerosFrom (getD s n 0) r
           → Listing n done A before (six p′ o q s′ r′ w)
       all-listed x y w a b ep eo eq es er = record {
         lacks = λ l. absurd (omega arith);
         all = λ l. record {
           fits = whole .fits;
           parents =
-              ep ∙ ap (zerosFrom n) (whole .parents-are) ∙ stored-from (map (parent A) (upTo n)) (before .parents) (length-map (upTo n) (parent A) ∙ length-upTo n) (long .parents);
-          starts = es ∙ ap (zerosFrom (n + 1)) (whole .starts-are) ∙ stored-from (startsFrom 0 ls) (before .factorStarts) length-begins (long .starts);
+              ep ∙ ap (zerosFrom n) (whole .parents-are) ∙ stored-from (map (parent A) (upTo n)) (before .parents)
+              (length-map (upTo n) (parent A) ∙ length-upTo n) (long .parents);
+          starts = es ∙ ap (zerosFrom (n + 1)) (whole .starts-are) ∙ stored-from (startsFrom 0 ls) (before .factorStarts) length-begins
+              (long .starts);
           rows = er ∙ rw (last-is, whole .rows-are) (stored-from (flat ls) (before .factorRows) refl (whole .fits));
           order = behind-zero n (before .order) x a (long .order) eo;
           pops = behind-zero n (before .pops) y b (long .pops) eq;

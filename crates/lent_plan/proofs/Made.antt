@@ -10,11 +10,13 @@ use Rattle.lent.proofs.Alike.{Alike, zeros-alike}
 use Rattle.lent_plan.specs.Made.{Made}
 
 -- a refusal, whatever it left
-pub made-refused : {job : Job} {before lent : Lent} {r : Answer} → r .number ≢ 0 → _≡_ {A = Outcome Lent} (record { answer = r; lent = allZero before }) (analysed job before)
+pub made-refused : {job : Job} {before lent : Lent} {r : Answer} → r .number ≢ 0
+    → _≡_ {A = Outcome Lent} (record { answer = r; lent = allZero before }) (analysed job before)
     → Made job before lent r
 made-refused z e = record { done = λ q. absurd (z q); refused = λ q. e }
 
 -- what it left is cleared
-pub made-cleared : {job : Job} {before lent after : Lent} {r : Answer} → Made job before lent r → Alike before lent → r .number ≢ 0 → after ≡ allZero lent
+pub made-cleared : {job : Job} {before lent after : Lent} {r : Answer} → Made job before lent r → Alike before lent → r .number ≢ 0
+    → after ≡ allZero lent
     → _≡_ {A = Outcome Lent} (record { answer = r; lent = after }) (analysed job before)
 made-cleared {before = before} {lent} m a z e = rw (zeros-alike before lent a e) (m .refused z)

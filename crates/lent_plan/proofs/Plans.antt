@@ -1,4 +1,5 @@
--- The lists and the order that were made in the lent slices are those of the job's plan. A list in front of what is cleared behind it is the result, then
+-- The lists and the order that were made in the lent slices are those of the job's plan. A list in front of what is cleared behind it is the result,
+-- then
 -- zeros; the tree and the rows that the order was made from are the pattern's (Ties).
 -- Assumes nothing.
 use Prim.Native.Nat.{ℕ, suc, _+_, _<_, _≤_}
@@ -41,7 +42,8 @@ module _ (job : Job) (p : first jobTests job ≡ passed) where
   below : Below (job .n) (pattern job)
   below = passed-below job passes
 
-  module _ {done : ℕ} {before mid : Lent} (long : LongEnough (job .n) before) (listing : Listing (job .n) done (pattern job) before mid) (alike : Alike before mid) where
+  module _ {done : ℕ} {before mid : Lent} (long : LongEnough (job .n) before) (listing : Listing (job .n) done (pattern job) before mid)
+      (alike : Alike before mid) where
     -- 8: where not all columns are done, the rows needed exceed the slice
     pub made-rows : {count : ℕ} {after : Lent} → done < job .n → count ≡ needed job → Made job before after (answer 8 0 count)
     made-rows h e = made-refused (λ z. omega arith) (way-rows job before p long exceeds (ap (answer 8 0) e) refl)
@@ -97,7 +99,8 @@ module _ (job : Job) (p : first jobTests job ≡ passed) where
 
       -- ---- the order is made
 
-      module _ {steps counts work : List ℕ} {most : ℕ} (ordering : Ordering (job .mark) n (mid .parents) (mid .order) (mid .pops) (mid .factorStarts) (mid .work) steps counts work most) where
+      module _ {steps counts work : List ℕ} {most : ℕ} (ordering : Ordering (job .mark) n (mid .parents) (mid .order) (mid .pops) (mid .factorStarts)
+          (mid .work) steps counts work most) where
         peak-is : most ≡ peakIn job
         peak-is = (rw (parents-front, starts-front) at (ordering .greatest)) ∙ same-peak below (job .mark)
 
@@ -109,18 +112,27 @@ module _ (job : Job) (p : first jobTests job ≡ passed) where
         pops-hold : counts ≡ thenZeros (map (popsOf n (pattern job)) order) (before .pops)
         pops-hold =
             (rw (parents-front, starts-front, listed .pops, same-pops below, same-order below (job .mark)) at (ordering .counts))
-            ∙ zeros-behind n (map (popsOf n (pattern job)) order) (before .pops) (length-map order (popsOf n (pattern job)) ∙ order-length below (job .mark))
+            ∙ zeros-behind n (map (popsOf n (pattern job)) order) (before .pops) (length-map order (popsOf n (pattern job)) ∙ order-length below
+            (job .mark))
 
         holds : six (mid .parents) steps counts (mid .factorStarts) (mid .factorRows) work ≡ holdingPlan job (planOf job) before
         unfolding holdingPlan holding planOf
         holds =
             sixes (listed .parents) (order-holds ∙ ap (λ l. thenZeros l (before .order)) (sym (map-map _ _ order ∙ map-id order)))
-            (pops-hold ∙ ap (λ l. thenZeros l (before .pops)) (sym (map-map _ _ order))) (listed .starts) (listed .rows) (ordering .cleared ∙ rw (alike .work))
+            (pops-hold ∙ ap (λ l. thenZeros l (before .pops)) (sym (map-map _ _ order))) (listed .starts) (listed .rows)
+            (ordering .cleared ∙ rw (alike .work))
 
         -- 9
-        pub made-peak : job .limit < most → Made job before (six (mid .parents) steps counts (mid .factorStarts) (mid .factorRows) work) (answer 9 0 most)
-        made-peak h = made-refused (λ z. omega arith) (way-peak job before p long (listed .fits) (omega (arith, peak-is)) (ap (answer 9 0) peak-is) refl)
+        pub made-peak : job .limit < most
+            → Made job before (six (mid .parents) steps counts (mid .factorStarts) (mid .factorRows) work) (answer 9 0 most)
+        made-peak h =
+            made-refused (λ z. omega arith) (way-peak job before p long (listed .fits) (omega (arith, peak-is)) (ap (answer 9 0) peak-is) refl)
 
         -- done
-        pub made-done : most ≤ job .limit → Made job before (six (mid .parents) steps counts (mid .factorStarts) (mid .factorRows) work) (answer 0 0 most)
-        made-done h = record { done = λ z. way-done job before p long (listed .fits) (omega (arith, peak-is)) (ap (answer 0 0) peak-is) holds; refused = λ z. absurd (z refl) }
+        pub made-done : most ≤ job .limit
+            → Made job before (six (mid .parents) steps counts (mid .factorStarts) (mid .factorRows) work) (answer 0 0 most)
+        made-done h =
+            record {
+              done = λ z. way-done job before p long (listed .fits) (omega (arith, peak-is)) (ap (answer 0 0) peak-is) holds;
+              refused = λ z. absurd (z refl);
+            }

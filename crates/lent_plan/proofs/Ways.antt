@@ -13,7 +13,8 @@ use Rattle.papers.specs.Fill.{R}
 use Rattle.papers.specs.Order.{orderOf, peak}
 use Rattle.papers.specs.Key.{listsOf}
 use Rattle.papers.specs.Plan.{planOf}
-use Rattle.papers.specs.Refusals.{answer, untouched, zeroed, passed, answerOf, first, Outcome, jobTests, Lent, allZero, lengthsTest, factorRowsTest, peakTest}
+use Rattle.papers.specs.Refusals.{answer, untouched, zeroed, passed, answerOf, first, Outcome, jobTests, Lent, allZero}
+use Rattle.papers.specs.Refusals.{lengthsTest, factorRowsTest, peakTest}
 use Rattle.papers.specs.Analysis.{AnalysisCall, holdingPlan, analysisTests, analysisDone, analysed}
 use Rattle.job_laws.proofs.Firsts.{first-passes, first-refuses, first-last, passed-if, refused-if, over-refuses, over-passes-iff}
 use Rattle.job_laws.proofs.Outcomes.{outcome-untouched, outcome-zeroed, outcome-done, job-refuses, job-passes}
@@ -45,7 +46,8 @@ module _ (job : Job) (lent : Lent) where
         (job-passes (λ c. c .job) _ call p ∙ first-refuses _ _ call (refused-if _ (answer 7 0 0) untouched e)))
 
     module _ (long : LongEnough (job .n) lent) where
-      from-8 : first analysisTests call ≡ first ((λ call. factorRowsTest (needed (call .job)) (call .lent)) ∷ (λ call. peakTest (call .job .limit) (peakIn (call .job))) ∷ []) call
+      from-8 : first analysisTests call ≡ first ((λ call. factorRowsTest (needed (call .job)) (call .lent)) ∷
+          (λ call. peakTest (call .job .limit) (peakIn (call .job))) ∷ []) call
       unfolding analysisTests lengthsTest planOf
       from-8 = job-passes (λ c. c .job) _ call p ∙ first-passes _ _ call (passed-if _ (answer 7 0 0) untouched (long-passes (job .n) lent long))
 

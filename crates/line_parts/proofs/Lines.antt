@@ -25,7 +25,10 @@ module _ {word d₀ : List ℕ} {at : ℕ} {d : List ℕ} {i : ℕ} (s : Spelled
   pub spelled-turn : i < length word → Spelled word d₀ at (set d (at + i) (getD word i 0)) (i + 1)
   spelled-turn h =
       let e : at + (i + 1) ≡ at + i + 1 = omega arith in
-      record { written = rw add-one (writes-part (getD word i 0 ∷ []) (drop (suc i) word) (s .written) (drop-cons word i 0 h) (omega arith) refl); passed = omega arith }
+      record {
+        written = rw add-one (writes-part (getD word i 0 ∷ []) (drop (suc i) word) (s .written) (drop-cons word i 0 h) (omega arith) refl);
+        passed = omega arith;
+      }
 
   pub spelled-stop : length word ≤ i → (at + i ≡ at + length word) × (d ≡ sets d₀ at word)
   spelled-stop h = writes-none (rw (drop-of-length-le word h) at (s .written))
@@ -46,8 +49,10 @@ module _ {rows d₀ : List ℕ} {at : ℕ} {d : List ℕ} {next i : ℕ} (l : Li
     pub listed-room : next + length (space ∷ decimalOf x) ≤ length d
     listed-room = room-part (space ∷ decimalOf x) (numbered (drop (i + 1) rows)) (l .written) number-next (l .room)
 
-    pub listed-turn : {m : ℕ} {d′ : List ℕ} → m ≡ next + length (space ∷ decimalOf x) → d′ ≡ sets d next (space ∷ decimalOf x) → Listed rows d₀ at d′ m (i + 1)
-    listed-turn f g = record { written = writes-part (space ∷ decimalOf x) (numbered (drop (i + 1) rows)) (l .written) number-next f g; room = l .room }
+    pub listed-turn : {m : ℕ} {d′ : List ℕ} → m ≡ next + length (space ∷ decimalOf x) → d′ ≡ sets d next (space ∷ decimalOf x)
+        → Listed rows d₀ at d′ m (i + 1)
+    listed-turn f g =
+        record { written = writes-part (space ∷ decimalOf x) (numbered (drop (i + 1) rows)) (l .written) number-next f g; room = l .room }
 
   pub listed-stop : length rows ≤ i → (next ≡ at + length (numbered rows)) × (d ≡ sets d₀ at (numbered rows))
   unfolding numbered
@@ -56,7 +61,8 @@ module _ {rows d₀ : List ℕ} {at : ℕ} {d : List ℕ} {next i : ℕ} (l : Li
 -- ---- a whole line
 
 -- a number behind a space
-pub spaced-number : (x : ℕ) (bytes : List ℕ) (at : ℕ) {d : List ℕ} {m : ℕ} → Put (decimalOf x) (set bytes at space) (at + 1) d m → Put (space ∷ decimalOf x) bytes at d m
+pub spaced-number : (x : ℕ) (bytes : List ℕ) (at : ℕ) {d : List ℕ} {m : ℕ} → Put (decimalOf x) (set bytes at space) (at + 1) d m
+    → Put (space ∷ decimalOf x) bytes at d m
 spaced-number x bytes at p = let h = p .0 in (omega arith, rw (add-one at) at (p .1))
 
 -- what stands behind the first word
@@ -112,7 +118,8 @@ module _ {whole d₀ : List ℕ} {at : ℕ} {d : List ℕ} {k : ℕ} where
     line-long = length-set d k newline ∙ w .long
 
 -- a word and two numbers, in front of those that are left
-module _ (word : List ℕ) (x y : ℕ) (xs d₀ : List ℕ) (at : ℕ) {d₁ : List ℕ} {k₁ : ℕ} (p₁ : Put word d₀ at d₁ k₁) {d₂ : List ℕ} {k₂ : ℕ} (p₂ : Put (space ∷ decimalOf x) d₁ k₁ d₂ k₂) where
+module _ (word : List ℕ) (x y : ℕ) (xs d₀ : List ℕ) (at : ℕ) {d₁ : List ℕ} {k₁ : ℕ} (p₁ : Put word d₀ at d₁ k₁) {d₂ : List ℕ} {k₂ : ℕ}
+    (p₂ : Put (space ∷ decimalOf x) d₁ k₁ d₂ k₂) where
   pub behind-one : Writes (printed word (x ∷ y ∷ xs)) d₀ at (tail (y ∷ xs)) d₂ k₂
   behind-one = behind-number x (y ∷ xs) (behind-word word (x ∷ y ∷ xs) d₀ at p₁) p₂
 

@@ -1,4 +1,5 @@
--- Bytes written one after the other into a lent slice: what is left to write, from the place reached, is on top of what was written the whole. So one part
+-- Bytes written one after the other into a lent slice: what is left to write, from the place reached, is on top of what was written the whole. So one
+-- part
 -- more is one rewriting, and where nothing is left the whole is written.
 -- Assumes nothing.
 use Prim.Native.Nat.{ℕ, _+_, _≤_}
@@ -21,7 +22,8 @@ pub record Writes (whole d₀ : List ℕ) (at : ℕ) (rest d : List ℕ) (k : �
 
 module _ {whole d₀ : List ℕ} {at : ℕ} where
   -- a part more
-  pub writes-part : {rest d e : List ℕ} {k m : ℕ} (part more : List ℕ) → Writes whole d₀ at rest d k → rest ≡ part ++ more → m ≡ k + length part → e ≡ sets d k part
+  pub writes-part : {rest d e : List ℕ} {k m : ℕ} (part more : List ℕ) → Writes whole d₀ at rest d k → rest ≡ part ++ more → m ≡ k + length part
+      → e ≡ sets d k part
       → Writes whole d₀ at more e m
   writes-part {d = d} {k = k} part more w f g h =
       let p = w .place in
@@ -37,7 +39,8 @@ module _ {whole d₀ : List ℕ} {at : ℕ} where
   room-part part more w f h = let p = w .place in let q = w .long in omega (arith, ap length f, length-append part more)
 
   -- the last part
-  pub writes-last : {rest d e : List ℕ} {k m : ℕ} → Writes whole d₀ at rest d k → m ≡ k + length rest → e ≡ sets d k rest → (m ≡ at + length whole) × (e ≡ sets d₀ at whole)
+  pub writes-last : {rest d e : List ℕ} {k m : ℕ} → Writes whole d₀ at rest d k → m ≡ k + length rest → e ≡ sets d k rest
+      → (m ≡ at + length whole) × (e ≡ sets d₀ at whole)
   writes-last w g h = (g ∙ w .place, h ∙ w .stored)
 
   -- nothing is left

@@ -30,12 +30,19 @@ further {n} {c} {fs} {w} {children} s h =
       is = l .is;
       child = s .each c (rw (l .is) (List·Memᴰ·head refl));
       most = s .most c (rw (l .is) (List·Memᴰ·head refl));
-      siblings = record { chain = l .chain; desc = f .1; each = λ x m. s .each x (rw (l .is) (List·Memᴰ·tail m)); most = λ x m. s .most x (rw (l .is) (List·Memᴰ·tail m)); links = s .links };
+      siblings = record {
+        chain = l .chain;
+        desc = f .1;
+        each = λ x m. s .each x (rw (l .is) (List·Memᴰ·tail m));
+        most = λ x m. s .most x (rw (l .is) (List·Memᴰ·tail m));
+        links = s .links;
+      };
       falls = f .0;
     }
 
 -- another work with the same links
-pub siblings-ext : {n c : ℕ} {fs w children : List ℕ} (w′ : List ℕ) → Siblings n c fs w children → ((p : ℕ) → p ≤ n + n → getD w′ p 0 ≡ getD w p 0) → length w′ ≡ length w
+pub siblings-ext : {n c : ℕ} {fs w children : List ℕ} (w′ : List ℕ) → Siblings n c fs w children → ((p : ℕ) → p ≤ n + n → getD w′ p 0 ≡ getD w p 0)
+    → length w′ ≡ length w
     → Siblings n c fs w′ children
 siblings-ext {n} {c} {fs} {w} {children} w′ s same l =
     record {

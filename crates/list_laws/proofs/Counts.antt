@@ -4,7 +4,8 @@ use Prim.Native.Nat.{ℕ, suc, _≤_}
 use mathlib.Core.Path.{_≡_, refl, sym, ap, _∙_}
 use mathlib.Core.Logic.{_⊎_, inl, inr, _≢_}
 use mathlib.Core.Bool.{true, false}
-use mathlib.Core.List.{List, [], _∷_, _++_, List·Memᴰ·head, List·Memᴰ·tail, List·Memᴰ·not-nil, List·Memᴰ·cases-cons, List·Memᴰ·append-cases, Memᴰ·append-left, Memᴰ·append-right, Memᴰ·cast}
+use mathlib.Core.List.{List, [], _∷_, _++_, List·Memᴰ·head, List·Memᴰ·tail, List·Memᴰ·not-nil}
+use mathlib.Core.List.{List·Memᴰ·cases-cons, List·Memᴰ·append-cases, Memᴰ·append-left, Memᴰ·append-right, Memᴰ·cast}
 use native.Mathlib.Omega.{arith}
 use lib.Dec.{eqb}
 use lib.ListN.{length}
@@ -23,7 +24,8 @@ unfolding without
 without-length x [] m = absurd (List·Memᴰ·not-nil m)
 without-length x (y ∷ ys) m = go (test (eqb x y)) (List·Memᴰ·cases-cons m) (λ t. without-length x ys t)
   where
-    go : Test (eqb x y) → (x ≡ y) ⊎ (x ∈ ys) → (x ∈ ys → suc (length (without x ys)) ≡ length ys) → suc (length (without x (y ∷ ys))) ≡ suc (length ys)
+    go : Test (eqb x y) → (x ≡ y) ⊎ (x ∈ ys) → (x ∈ ys → suc (length (without x ys)) ≡ length ys)
+        → suc (length (without x (y ∷ ys))) ≡ suc (length ys)
     go (passes q) c ih = rw (q, without)
     go (fails q) (inl e) ih = absurd (eqb-false x y q e)
     go (fails q) (inr t) ih = rw (q, without) (ap suc (ih t))
@@ -73,7 +75,8 @@ all-there xs ys d h l y m = go (test (member y xs))
   where
     go : Test (member y xs) → y ∈ xs
     go (passes e) = member-true y xs e
-    go (fails e) = absurd (omega (arith, distinct-length (y ∷ xs) ys (λ k. true-false (member-into y xs k) e, d) (λ i k. more i (List·Memᴰ·cases-cons k))))
+    go (fails e) =
+        absurd (omega (arith, distinct-length (y ∷ xs) ys (λ k. true-false (member-into y xs k) e, d) (λ i k. more i (List·Memᴰ·cases-cons k))))
       where
         more : (i : ℕ) → (i ≡ y) ⊎ (i ∈ xs) → i ∈ ys
         more i (inl q) = Memᴰ·cast q m

@@ -44,7 +44,8 @@ take-then-zeros {k} xs l e = take-at xs (replicate (length l - length xs) 0) k e
 -- a store in front of a run
 set-sets : (ws l : List ℕ) (i v k : ℕ) → i < k → set (sets l k ws) i v ≡ sets (set l i v) k ws
 set-sets [] l i v k h = refl
-set-sets (w ∷ ws) l i v k h = set-sets ws (set l k w) i v (suc k) (omega arith) ∙ ap (λ (m : List ℕ). sets m (suc k) ws) (set-comm l k i w v (λ e. omega arith))
+set-sets (w ∷ ws) l i v k h =
+    set-sets ws (set l k w) i v (suc k) (omega arith) ∙ ap (λ (m : List ℕ). sets m (suc k) ws) (set-comm l k i w v (λ e. omega arith))
 
 -- a run stored over one that is no longer
 pub sets-over : (ws vs l : List ℕ) (i : ℕ) → length ws ≤ length vs → sets (sets l i ws) i vs ≡ sets l i vs

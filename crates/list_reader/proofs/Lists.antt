@@ -1,4 +1,5 @@
--- The list of a column is its count and the rows behind it: the first number at fault is the list's fault, and rows read to the end are the list. Where
+-- The list of a column is its count and the rows behind it: the first number at fault is the list's fault, and rows read to the end are the list.
+-- Where
 -- the quick reader of rows leaves off, the other keeps its rows over those kept.
 -- Assumes nothing.
 use Prim.Native.Nat.{zero, suc, ℕ, _+_, _-_, _*_, _^_, _<_, _≤_}
@@ -55,7 +56,8 @@ module _ (n b : ℕ) (s : List ℕ) (at : ℕ) where
   rows-bad zero z e = absurd (omega arith)
   rows-bad (suc k) z e = then-bad _ e
 
-module _ {n : ℕ} {s : List ℕ} {j count at t : ℕ} {rows₀ rows : List ℕ} {k last left total : ℕ} (x : RowsRead n s j count at t rows₀ rows k last left total) where
+module _ {n : ℕ} {s : List ℕ} {j count at t : ℕ} {rows₀ rows : List ℕ} {k last left total : ℕ} (x : RowsRead n s j count at t rows₀ rows k last left
+    total) where
   pub rows-fault : {number place : ℕ} → 0 < left → field 1 (n - last) s k ≡ bad number place → readRows n j count s at ≡ bad number place
   rows-fault h e = fails (x .list) (x .whole) (rows-bad n last s k left h e)
 

@@ -1,4 +1,5 @@
--- A list that begins with given rows is these joined with the pattern rows just where all its other rows are pattern rows and no pattern row is missing.
+-- A list that begins with given rows is these joined with the pattern rows just where all its other rows are pattern rows and no pattern row is
+-- missing.
 -- Assumes nothing.
 use Prim.Native.Nat.{ℕ, _+_}
 use mathlib.Core.Path.{_≡_, sym, ap, _∙_}
@@ -22,7 +23,8 @@ use Rattle.row_marks.specs.Marked.{MarkedAre}
 use Rattle.row_tests.specs.Added.{addsOwn}
 use Rattle.row_marks.proofs.Judging.{asc-whole}
 
-module _ (n j : ℕ) (w own more list : List ℕ) (marks : MarkedAre n j w own) (so : Asc j own) (sl : Asc j list) (begins : take (length more) list ≡ more) where
+module _ (n j : ℕ) (w own more list : List ℕ) (marks : MarkedAre n j w own) (so : Asc j own) (sl : Asc j list)
+    (begins : take (length more) list ≡ more) where
   whole : list ≡ take (length more) list ++ drop (length more) list
   whole = sym (take-append-drop (length more) list)
 
@@ -39,7 +41,8 @@ module _ (n j : ℕ) (w own more list : List ℕ) (marks : MarkedAre n j w own) 
   from-end t = rw whole (Memᴰ·append-right (take (length more) list) t)
 
   -- the two tests hold, so the list is the one joined
-  joined-is : length (keep (isMarked n j w) list) ≡ length own → every (isMarked n j w) (drop (length more) list) ≡ true → Asc j more → list ≡ merge own more
+  joined-is : length (keep (isMarked n j w) list) ≡ length own → every (isMarked n j w) (drop (length more) list) ≡ true → Asc j more
+      → list ≡ merge own more
   joined-is many all sm =
       asc-ext j list (merge own more) sl (merge-asc j own more so sm)
       (λ i t. into i (List·Memᴰ·append-cases (take (length more) list) (rw whole at t)))
@@ -78,7 +81,8 @@ module _ (n j : ℕ) (w own more list : List ℕ) (marks : MarkedAre n j w own) 
   pub adds-exactly : Asc j more → addsOwn n j list (length more) own w ≡ same list (merge own more)
   adds-exactly sm = go (test (addsOwn n j list (length more) own w)) (test (same list (merge own more)))
     where
-      go : Test (addsOwn n j list (length more) own w) → Test (same list (merge own more)) → addsOwn n j list (length more) own w ≡ same list (merge own more)
+      go : Test (addsOwn n j list (length more) own w) → Test (same list (merge own more))
+          → addsOwn n j list (length more) own w ≡ same list (merge own more)
       go (passes e) (passes q) = e ∙ sym q
       go (fails e) (fails q) = e ∙ sym q
       go (passes e) (fails q) =

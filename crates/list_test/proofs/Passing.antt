@@ -80,7 +80,8 @@ module _ {n m : ℕ} {A : Pattern} {fs fr p₀ w₀ p w : List ℕ} (s : Passing
         least-of (m + 1) (rw add-one (sym (least-here (wrongIn A fs fr) m n (s .none) yes l)))
 
     -- it is right
-    module _ {lists : List (List ℕ)} (good : Below n A) (pl : PlanLists n lists fs fr) (w₁ : List ℕ) (e : true ≡ same list (R A (m + 1))) (g : Changed n (m + 1) w w₁) (lw : length w₁ ≡ length w) (q : ℕ) (first : q ≡ head0 list) where
+    module _ {lists : List (List ℕ)} (good : Below n A) (pl : PlanLists n lists fs fr) (w₁ : List ℕ) (e : true ≡ same list (R A (m + 1)))
+        (g : Changed n (m + 1) w w₁) (lw : length w₁ ≡ length w) (q : ℕ) (first : q ≡ head0 list) where
       right : list ≡ R A (m + 1)
       right = same-true list (R A (m + 1)) (sym e)
 
@@ -88,7 +89,8 @@ module _ {n m : ℕ} {A : Pattern} {fs fr p₀ w₀ p w : List ℕ} (s : Passing
       head = rw (right, add-one) (parent-is A (suc m))
 
       pub pass-hangable : Hangable n q (m + 1) w₁
-      pass-hangable = record { parent = rw (first, head) (parent-within good (suc m)); column = omega arith; long = omega (arith, s .stored .work-long) }
+      pass-hangable =
+          record { parent = rw (first, head) (parent-within good (suc m)); column = omega arith; long = omega (arith, s .stored .work-long) }
 
       pub pass-on : (w₂ : List ℕ) → w₂ ≡ hanging n q (m + 1) w₁ → length w₂ ≡ length w₁ → Passing n A fs fr p₀ w₀ (set p m q) w₂ (m + 1)
       pass-on w₂ k lv =
@@ -97,6 +99,7 @@ module _ {n m : ℕ} {A : Pattern} {fs fr p₀ w₀ p w : List ℕ} (s : Passing
             most = omega arith;
             stored = rw (add-one, k, first) (stored-on good (s .stored) l list right (stands-fits t list is) w₁ g lw (stands t list is p w₁));
             none = rw add-one (least-none (wrongIn A fs fr) m (s .none) (ap not (sym (rw (is, add-one) at e))));
-            parents-are = rw (add-one, map-upTo (parent A) m) (sets-more (map (parent A) (upTo m)) p₀ 0 (parent A (suc m)) m (s .parents-are) (rw (first, head)) (omega (arith, length-map (upTo m) (parent A), length-upTo m)));
+            parents-are = rw (add-one, map-upTo (parent A) m) (sets-more (map (parent A) (upTo m)) p₀ 0 (parent A (suc m)) m (s .parents-are)
+                (rw (first, head)) (omega (arith, length-map (upTo m) (parent A), length-upTo m)));
             long = lv ∙ lw ∙ s .long;
           }

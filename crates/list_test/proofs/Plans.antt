@@ -46,7 +46,13 @@ module _ {n : ℕ} {lists : List (List ℕ)} {fs fr : List ℕ} (p : PlanLists n
     plan-part =
         record {
           started = omega (arith, starts-long);
-          rises = rw (add-one, at-start m (omega arith), at-start (suc m) (omega arith), ← start-at (startsFrom 0 lists) m, ← start-at (startsFrom 0 lists) (suc m)) (laid .whole .rising (suc m) (omega arith) h);
+          rises = rw (
+            add-one,
+            at-start m (omega arith),
+            at-start (suc m) (omega arith),
+            ← start-at (startsFrom 0 lists) m,
+            ← start-at (startsFrom 0 lists) (suc m),
+          ) (laid .whole .rising (suc m) (omega arith) h);
           ends = omega (arith, ends-in (m + 1) (omega arith), rows-long);
         }
 
@@ -82,7 +88,12 @@ module _ {m : ℕ} {fs fr : List ℕ} (q : Part m fs fr) (list : List ℕ) (is :
   ends =
       let a = q .rises in
       let b = q .ends in
-      omega (arith, ap length taken, length-take-le (getD fs (m + 1) 0 - getD fs m 0) (drop (getD fs m 0) fr) (omega (arith, length-drop (getD fs m 0) fr)))
+      omega (
+        arith,
+        ap length taken,
+        length-take-le (getD fs (m + 1) 0 - getD fs m 0) (drop (getD fs m 0) fr)
+            (omega (arith, length-drop (getD fs m 0) fr)),
+      )
 
   pub stands-fits : length list ≤ length fr - getD fs m 0
   stands-fits = omega (arith, ends, q .ends)

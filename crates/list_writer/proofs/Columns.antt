@@ -47,7 +47,8 @@ module _ {n : ℕ} {starts rows : List ℕ} (few : n ≤ maxColumns) (p : Passed
         })
 
     -- its numbers come next
-    pub numbers-next : numbersFrom n starts rows k ≡ listNumbers (k + 1) (slice (getD starts k 0) (getD starts (k + 1) 0) rows) ++ numbersFrom n starts rows (k + 1)
+    pub numbers-next : numbersFrom n starts rows k ≡ listNumbers (k + 1) (slice (getD starts k 0) (getD starts (k + 1) 0) rows) ++ numbersFrom n
+        starts rows (k + 1)
     unfolding listsNumbers
     numbers-next =
         let l = length-lists (columnOf starts rows) n in
@@ -65,7 +66,13 @@ module _ {n : ℕ} {starts rows : List ℕ} (few : n ≤ maxColumns) (p : Passed
   unfolding listsNumbers listNumbers
   numbers-few j [] f = omega arith
   numbers-few j (l ∷ ls) f =
-      omega (arith, numbers-few (suc j) ls (f .1), asc-length n j l (f .0 .0) (f .0 .1), length-gaps j l, length-append (listNumbers j l) (listsNumbers (suc j) ls))
+      omega (
+        arith,
+        numbers-few (suc j) ls (f .1),
+        asc-length n j l (f .0 .0) (f .0 .1),
+        length-gaps j l,
+        length-append (listNumbers j l) (listsNumbers (suc j) ls),
+      )
 
   pub lists-few : length (listsNumbers 1 (listsOf n (columnOf starts rows))) ≤ (maxColumns + 1) * maxColumns
   lists-few =
@@ -89,7 +96,8 @@ module _ {n : ℕ} {starts rows d₀ : List ℕ} {first : ℕ} {d : List ℕ} {n
   list-near = let near = w .near in omega (arith, writes-near (w .written), lists-few (w .few) (w .lists))
 
   module _ (h : done < n) where
-    pub lists-turn : {m : ℕ} {d′ : List ℕ} → m ≡ next + length (encode (listNumbers (done + 1) (slice (getD starts done 0) (getD starts (done + 1) 0) rows)))
+    pub lists-turn : {m : ℕ} {d′ : List ℕ}
+        → m ≡ next + length (encode (listNumbers (done + 1) (slice (getD starts done 0) (getD starts (done + 1) 0) rows)))
         → d′ ≡ sets d next (encode (listNumbers (done + 1) (slice (getD starts done 0) (getD starts (done + 1) 0) rows)))
         → WritesColumns n starts rows d₀ first d′ m (done + 1)
     lists-turn e f =
@@ -97,10 +105,12 @@ module _ {n : ℕ} {starts rows d₀ : List ℕ} {first : ℕ} {d : List ℕ} {n
           few = w .few;
           lists = w .lists;
           high = omega arith;
-          written = writes-numbers (listNumbers (done + 1) (slice (getD starts done 0) (getD starts (done + 1) 0) rows)) (w .written) (numbers-next (w .few) (w .lists) h) e f;
+          written = writes-numbers (listNumbers (done + 1) (slice (getD starts done 0) (getD starts (done + 1) 0) rows)) (w .written)
+              (numbers-next (w .few) (w .lists) h) e f;
           near = w .near;
         }
 
   pub lists-stop : n ≤ done
-      → (next ≡ first + length (encode (listsNumbers 1 (listsOf n (columnOf starts rows))))) × (d ≡ sets d₀ first (encode (listsNumbers 1 (listsOf n (columnOf starts rows)))))
+      → (next ≡ first + length (encode (listsNumbers 1 (listsOf n (columnOf starts rows))))) ×
+      (d ≡ sets d₀ first (encode (listsNumbers 1 (listsOf n (columnOf starts rows)))))
   lists-stop h = writes-none (w .written) (numbers-none (w .few) (w .lists) h)

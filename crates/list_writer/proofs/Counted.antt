@@ -11,12 +11,14 @@ use Rattle.bytes_laws.proofs.Writing.{writes-all, writes-number, writes-last}
 use Rattle.gap_writer.specs.ListAt.{ListAt}
 use Rattle.gap_writer.proofs.Rows.{WritesRows, gaps-stop}
 
-pub list-is : {j : ℕ} {rows : List ℕ} {from to : ℕ} → ListAt j rows from to → listNumbers j (slice from to rows) ≡ (to - from) ∷ gapsOf j (slice from to rows)
+pub list-is : {j : ℕ} {rows : List ℕ} {from to : ℕ} → ListAt j rows from to
+    → listNumbers j (slice from to rows) ≡ (to - from) ∷ gapsOf j (slice from to rows)
 unfolding listNumbers
 list-is {j} {rows} {from} {to} l = ap (λ (n : ℕ). n ∷ gapsOf j (slice from to rows)) (length-slice from to rows (l .inside))
 
 -- the count is written, then the gaps
 pub list-stop : (entry : List ℕ) (at : ℕ) {j : ℕ} {rows : List ℕ} {from to first : ℕ} {d₀ d : List ℕ} {next before i : ℕ} → ListAt j rows from to
-    → first ≡ at + length (bytesOf (to - from)) → d₀ ≡ sets entry at (bytesOf (to - from)) → WritesRows j rows from to d₀ first d next before i → to ≤ i
+    → first ≡ at + length (bytesOf (to - from)) → d₀ ≡ sets entry at (bytesOf (to - from)) → WritesRows j rows from to d₀ first d next before i
+    → to ≤ i
     → (next ≡ at + length (encode (listNumbers j (slice from to rows)))) × (d ≡ sets entry at (encode (listNumbers j (slice from to rows))))
 list-stop entry at l e f w h = let (p, q) = gaps-stop w h in writes-last (writes-number (writes-all {d₀ = entry}) (list-is l) e f) p q

@@ -1,4 +1,5 @@
--- A list cut in two behind some of its rows: the gaps of the first rows come first, those of the rest follow behind the last of the first. So a list is
+-- A list cut in two behind some of its rows: the gaps of the first rows come first, those of the rest follow behind the last of the first. So a list
+-- is
 -- written run by run.
 -- Assumes nothing.
 use Prim.Native.Nat.{ℕ, suc, _+_, _-_, _<_, _≤_}
@@ -77,10 +78,17 @@ module _ {rows : List ℕ} {to before i : ℕ} (l : RowsLeft rows to before i) (
   pub rows-cut : RowsLeft rows to (getD rows (e - 1) 0) e
   rows-cut =
       let few = l .few in
-      record { inside = l .inside; high = b; ascending = ascends .1; few = omega arith; within = λ k m. l .within k (rw cut (Memᴰ·append-right (slice i e rows) m)) }
+      record {
+        inside = l .inside;
+        high = b;
+        ascending = ascends .1;
+        few = omega arith;
+        within = λ k m. l .within k (rw cut (Memᴰ·append-right (slice i e rows) m));
+      }
 
 -- a run of a list that is being written
-module _ {j : ℕ} {rows : List ℕ} {from to : ℕ} {d₀ : List ℕ} {first : ℕ} {d : List ℕ} {next before i : ℕ} (w : WritesRows j rows from to d₀ first d next before i)
+module _ {j : ℕ} {rows : List ℕ} {from to : ℕ} {d₀ : List ℕ} {first : ℕ} {d : List ℕ} {next before i : ℕ} (w : WritesRows j rows from to d₀ first d
+    next before i)
     {e : ℕ} (a : i < e) (b : e ≤ to) where
   pub run-turn : {row m : ℕ} {d′ : List ℕ} → row ≡ getD rows (e - 1) 0 → m ≡ next + length (encode (gapsOf before (slice i e rows)))
       → d′ ≡ sets d next (encode (gapsOf before (slice i e rows))) → WritesRows j rows from to d₀ first d′ m row e

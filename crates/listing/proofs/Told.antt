@@ -1,4 +1,5 @@
--- What is read of a text is the job that is printed: its lists lie in the fronts of the buffers, its rows as they are kept, and neither the analysis nor what
+-- What is read of a text is the job that is printed: its lists lie in the fronts of the buffers, its rows as they are kept, and neither the analysis
+-- nor what
 -- is printed of it sees the difference.
 -- Assumes nothing.
 use Prim.Native.Nat.{ℕ, _+_, _≤_}
@@ -33,7 +34,8 @@ same-job j a b c d e i = record { n = a i; starts = b i; rows = c i; mark = d i;
 -- ---- a text that is refused
 
 module _ (input : Input) where
-  pub told-refusal : {starts₀ rows₀ starts rows : List ℕ} {r : JobRead} {number place : ℕ} → JobTold input starts₀ rows₀ starts rows r → r ≡ read.Refused number place
+  pub told-refusal : {starts₀ rows₀ starts rows : List ℕ} {r : JobRead} {number place : ℕ} → JobTold input starts₀ rows₀ starts rows r
+      → r ≡ read.Refused number place
       → programPrints input ≡ refusalLine (answer number place 0)
   unfolding programPrints
   told-refusal (job-read p e s k) g = absurd (let z : _≡_ {A = ℕ} 0 1 = cc in omega arith)
@@ -54,7 +56,8 @@ pub record JobFound (input : Input) (starts₀ rows₀ starts rows : List ℕ) (
   pub started : starts ≡ sets starts₀ 0 (textJob (input .text) .starts)
   pub kept : rows ≡ sets rows₀ 0 (map narrowed (textJob (input .text) .rows))
 
-pub told-job : {input : Input} {starts₀ rows₀ starts rows : List ℕ} {r : JobRead} {head : JobHead} {count : ℕ} → JobTold input starts₀ rows₀ starts rows r → r ≡ read.Job head count
+pub told-job : {input : Input} {starts₀ rows₀ starts rows : List ℕ} {r : JobRead} {head : JobHead} {count : ℕ}
+    → JobTold input starts₀ rows₀ starts rows r → r ≡ read.Job head count
     → JobFound input starts₀ rows₀ starts rows head count
 told-job {input} {head = head} {count = count} (job-read p e s k) g =
     let job = textJob (input .text) in
@@ -72,7 +75,8 @@ told-job {input} {head = head} {count = count} (job-read p e s k) g =
 told-job (text-refused c q p e) g = absurd (let z : _≡_ {A = ℕ} 0 1 = cc in omega arith)
 
 -- in the program's zeroed buffers
-module _ {input : Input} {starts rows : List ℕ} {head : JobHead} {count : ℕ} (f : JobFound input (replicate (programColumns + 1) 0) (replicate programRows 0) starts rows head count) where
+module _ {input : Input} {starts rows : List ℕ} {head : JobHead} {count : ℕ} (f : JobFound input (replicate (programColumns + 1) 0)
+    (replicate programRows 0) starts rows head count) where
   sizes : Sizes (input .text)
   sizes = passed-sizes input (f .passes)
 
@@ -89,32 +93,41 @@ module _ {input : Input} {starts rows : List ℕ} {head : JobHead} {count : ℕ}
   long = length-replicate {A = ℕ} programRows 0
 
   pub starts-long : head .n + 1 ≤ length starts
-  starts-long = omega (arith, found-columns, ap length (f .started), length-sets (replicate (programColumns + 1) 0) 0 (textJob (input .text) .starts), wide)
+  starts-long =
+      omega (arith, found-columns, ap length (f .started), length-sets (replicate (programColumns + 1) 0) 0 (textJob (input .text) .starts), wide)
 
   pub rows-long : count ≤ length rows
-  rows-long = omega (arith, found-rows, ap length (f .kept), length-sets (replicate programRows 0) 0 (map narrowed (textJob (input .text) .rows)), long)
+  rows-long =
+      omega (arith, found-rows, ap length (f .kept), length-sets (replicate programRows 0) 0 (map narrowed (textJob (input .text) .rows)), long)
 
   job-is : jobOf head (take (head .n + 1) starts) (take count rows) ≡ keptJob (textJob (input .text))
   job-is =
       let job = textJob (input .text) in
       same-job (keptJob job) (f .columns)
-      (front (job .starts) (replicate (programColumns + 1) 0) (head .n + 1) (f .started) (omega (arith, f .columns, sizes .starts)) (omega (arith, found-columns, wide)))
-      (front (map narrowed (job .rows)) (replicate programRows 0) count (f .kept) (omega (arith, f .counted, length-map (job .rows) narrowed)) (omega (arith, found-rows, long)))
+      (front (job .starts) (replicate (programColumns + 1) 0) (head .n + 1) (f .started) (omega (arith, f .columns, sizes .starts))
+      (omega (arith, found-columns, wide)))
+      (front (map narrowed (job .rows)) (replicate programRows 0) count (f .kept) (omega (arith, f .counted, length-map (job .rows) narrowed))
+      (omega (arith, found-rows, long)))
       (f .marked) (f .limited)
 
   -- what is printed of it is what is printed of the text
-  pub found-printed : programPrints input ≡ jobPrinted (jobOf head (take (head .n + 1) starts) (take count rows)) (analysed (jobOf head (take (head .n + 1) starts) (take count rows)) buffers .answer)
+  pub found-printed : programPrints input ≡ jobPrinted (jobOf head (take (head .n + 1) starts) (take count rows))
+      (analysed (jobOf head (take (head .n + 1) starts) (take count rows)) buffers .answer)
   unfolding programPrints
-  found-printed = rw (f .passes, programPrints) (sym (kept-printed (textJob (input .text)) buffers) ∙ ap (λ (j : Job). jobPrinted j (analysed j buffers .answer)) (sym job-is))
+  found-printed =
+      rw (f .passes, programPrints) (sym (kept-printed (textJob (input .text)) buffers) ∙ ap (λ (j : Job). jobPrinted j (analysed j buffers .answer))
+      (sym job-is))
 
 -- ---- zeroed slices of the program's sizes are its buffers
 
 module _ (job : Job) (bytes₀ : List ℕ) where
-  pub fits-in : length (jobPrinted job (analysed job buffers .answer)) ≤ length bytes₀ → length (jobPrinted job (analysed job zeroes .answer)) ≤ length bytes₀
+  pub fits-in : length (jobPrinted job (analysed job buffers .answer)) ≤ length bytes₀
+      → length (jobPrinted job (analysed job zeroes .answer)) ≤ length bytes₀
   unfolding buffers
   fits-in h = h
 
-  pub printed-in : {r : ℕ} {bytes : List ℕ} → (r ≡ length (jobPrinted job (analysed job zeroes .answer))) × (bytes ≡ sets bytes₀ 0 (jobPrinted job (analysed job zeroes .answer)))
+  pub printed-in : {r : ℕ} {bytes : List ℕ}
+      → (r ≡ length (jobPrinted job (analysed job zeroes .answer))) × (bytes ≡ sets bytes₀ 0 (jobPrinted job (analysed job zeroes .answer)))
       → (r ≡ length (jobPrinted job (analysed job buffers .answer))) × (bytes ≡ sets bytes₀ 0 (jobPrinted job (analysed job buffers .answer)))
   unfolding buffers
   printed-in w = w

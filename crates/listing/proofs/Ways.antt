@@ -23,7 +23,8 @@ module _ (input : Input) (bytes : List ℕ) where
   pub way-short : length bytes < listingBytes → record { answer = answer 7 0 0; lent = bytes } ≡ listed input bytes
   unfolding listed listingTests
   way-short h =
-      sym (outcome-untouched listingTests listingDone zeros call bytes (first-last _ call ∙ over-refuses (length bytes) listingBytes (answer 7 0 0) untouched h))
+      sym (outcome-untouched listingTests listingDone zeros call bytes (first-last _ call ∙ over-refuses (length bytes) listingBytes (answer 7 0 0)
+      untouched h))
 
   module _ (h : listingBytes ≤ length bytes) {cleared : List ℕ} (z : cleared ≡ zeros bytes) where
     -- what is printed fits
@@ -37,4 +38,5 @@ module _ (input : Input) (bytes : List ℕ) where
     way-printed w =
         let fits = program-fits input in
         rw (w .0, w .1, z, sets-zeros (programPrints input) bytes (omega arith))
-        (sym (outcome-done listingTests listingDone zeros call bytes (first-last _ call ∙ over-passes-iff (length bytes) listingBytes (answer 7 0 0) untouched .1 h)))
+        (sym (outcome-done listingTests listingDone zeros call bytes (first-last _ call ∙ over-passes-iff (length bytes) listingBytes (answer 7 0 0)
+        untouched .1 h)))

@@ -1,4 +1,5 @@
--- The answers that a listing may print of a job are refusals of numbers that are not large: places are columns, and counts the rows needed or a peak, which
+-- The answers that a listing may print of a job are refusals of numbers that are not large: places are columns, and counts the rows needed or a peak,
+-- which
 -- a job that passes its tests keeps small.
 -- Assumes nothing.
 use Prim.Native.Nat.{ℕ, zero, suc, _+_, _*_, _^_, _<_, _≤_}
@@ -17,7 +18,9 @@ use Rattle.papers.specs.Job.{Job, Pattern, pattern, start, columnOf}
 use Rattle.papers.specs.Fill.{R}
 use Rattle.papers.specs.Key.{listsOf}
 use Rattle.papers.specs.Plan.{planOf}
-use Rattle.papers.specs.Refusals.{answer, Leaves, untouched, zeroed, Verdict, passed, refused, first, refusedIf, columnsTest, markTest, limitTest, falls, startsTest, columnFault, rowsTest, jobTests, Lent, lengthsTest, factorRowsTest, peakTest}
+use Rattle.papers.specs.Refusals.{answer, Leaves, untouched, zeroed, Verdict, passed, refused, first, refusedIf, columnsTest}
+use Rattle.papers.specs.Refusals.{markTest, limitTest, falls, startsTest, columnFault, rowsTest, jobTests, Lent, lengthsTest}
+use Rattle.papers.specs.Refusals.{factorRowsTest, peakTest}
 use Rattle.papers.specs.Analysis.{AnalysisCall, analysisTests}
 use Rattle.list_laws.proofs.Tests.{Test, passes, fails, test}
 use Rattle.list_laws.proofs.Leasts.{least-found-iff}
@@ -54,27 +57,35 @@ small-at number place a b c = (a, omega arith, c, omega arith)
 
 starts-small : (n : ℕ) (starts rows : List ℕ) → n < 2 ^ 64 → SmallIn (startsTest n starts rows)
 starts-small n starts rows h =
-    go (test (eqb (length starts) (n + 1))) (test (eqb (start starts 1) 0)) (least (falls starts) n) refl (test (eqb (start starts (suc n)) (length rows)))
+    go (test (eqb (length starts) (n + 1))) (test (eqb (start starts 1) 0)) (least (falls starts) n) refl
+    (test (eqb (start starts (suc n)) (length rows)))
   where
-    go : Test (eqb (length starts) (n + 1)) → Test (eqb (start starts 1) 0) → (p : ℕ) → least (falls starts) n ≡ p → Test (eqb (start starts (suc n)) (length rows))
+    go : Test (eqb (length starts) (n + 1)) → Test (eqb (start starts 1) 0) → (p : ℕ) → least (falls starts) n ≡ p
+        → Test (eqb (start starts (suc n)) (length rows))
         → SmallIn (startsTest n starts rows)
-    go (fails a) b p z d = rw (starts-few n starts rows (eqb-false (length starts) (n + 1) a)) (small-at 4 0 (omega arith) (omega arith) (omega arith))
+    go (fails a) b p z d =
+        rw (starts-few n starts rows (eqb-false (length starts) (n + 1) a)) (small-at 4 0 (omega arith) (omega arith) (omega arith))
     go (passes a) (fails b) p z d =
-        rw (starts-from n starts rows (eqb-true (length starts) (n + 1) a) (eqb-false (start starts 1) 0 b)) (small-at 4 0 (omega arith) (omega arith) (omega arith))
+        rw (starts-from n starts rows (eqb-true (length starts) (n + 1) a) (eqb-false (start starts 1) 0 b)) (small-at 4 0 (omega arith) (omega arith)
+        (omega arith))
     go (passes a) (passes b) (suc j) z d =
         let f = least-found-iff (falls starts) n j .0 z .0 in
-        rw (starts-fall n starts rows (eqb-true (length starts) (n + 1) a) (eqb-true (start starts 1) 0 b) j z) (small-at 4 (suc j) (omega arith) (omega arith) (omega arith))
+        rw (starts-fall n starts rows (eqb-true (length starts) (n + 1) a) (eqb-true (start starts 1) 0 b) j z)
+        (small-at 4 (suc j) (omega arith) (omega arith) (omega arith))
     go (passes a) (passes b) zero z (fails d) =
-        rw (starts-end n starts rows (eqb-true (length starts) (n + 1) a) (eqb-true (start starts 1) 0 b) z (eqb-false (start starts (suc n)) (length rows) d))
+        rw (starts-end n starts rows (eqb-true (length starts) (n + 1) a) (eqb-true (start starts 1) 0 b) z
+        (eqb-false (start starts (suc n)) (length rows) d))
         (small-at 4 n (omega arith) (omega arith) h)
     go (passes a) (passes b) zero z (passes d) =
-        rw (starts-pass n starts rows (eqb-true (length starts) (n + 1) a) (eqb-true (start starts 1) 0 b) z (eqb-true (start starts (suc n)) (length rows) d)) tt
+        rw (starts-pass n starts rows (eqb-true (length starts) (n + 1) a) (eqb-true (start starts 1) 0 b) z
+        (eqb-true (start starts (suc n)) (length rows) d)) tt
 
 rows-small : (n : ℕ) (starts rows : List ℕ) → n < 2 ^ 64 → SmallIn (rowsTest n starts rows)
 unfolding columnFault
 rows-small n starts rows h =
     rw (rows-test-is n starts rows)
-    (faults-each (columnFault n starts rows) n (λ j. 0) untouched SmallIn tt (λ k l u f. small-at (columnFault n starts rows k) k f (omega (arith, rows-at-most n k k (columnOf starts rows k))) (omega arith)))
+    (faults-each (columnFault n starts rows) n (λ j. 0) untouched SmallIn tt (λ k l u f. small-at (columnFault n starts rows k) k f
+    (omega (arith, rows-at-most n k k (columnOf starts rows k))) (omega arith)))
 
 job-small : (job : Job) → job .n < 2 ^ 64 → SmallIn (first jobTests job)
 unfolding jobTests columnsTest markTest limitTest
@@ -106,7 +117,8 @@ analysis-small job lent h = go (first jobTests job) refl
   where
     go : (v : Verdict) → first jobTests job ≡ v → SmallIn (first analysisTests (record { job = job; lent = lent }))
     go (refused a l) e =
-        rw (first-append-refused (map (λ test (c : AnalysisCall). test (c .job)) jobTests) _ (record { job = job; lent = lent }) (first-map (λ (c : AnalysisCall). c .job) jobTests (record { job = job; lent = lent }) ∙ e))
+        rw (first-append-refused (map (λ test (c : AnalysisCall). test (c .job)) jobTests) _ (record { job = job; lent = lent })
+        (first-map (λ (c : AnalysisCall). c .job) jobTests (record { job = job; lent = lent }) ∙ e))
         (rw e at (job-small job h))
     go passed e =
         let p = passes-iff job .0 e in
@@ -118,5 +130,8 @@ analysis-small job lent h = go (first jobTests job) refl
         rw (job-passes (λ (c : AnalysisCall). c .job) _ (record { job = job; lent = lent }) e)
         (first-each SmallIn _ (record { job = job; lent = lent }) tt (
           small-if _ _ untouched (small-at 7 0 (omega arith) (omega arith) (omega arith)),
-          (small-if _ _ zeroed (omega arith, omega arith, omega arith, omega arith), (small-if _ _ zeroed (omega arith, omega arith, omega arith, omega arith), tt)),
+          (
+            small-if _ _ zeroed (omega arith, omega arith, omega arith, omega arith),
+            (small-if _ _ zeroed (omega arith, omega arith, omega arith, omega arith), tt),
+          ),
         ))

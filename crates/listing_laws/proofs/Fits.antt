@@ -30,7 +30,12 @@ pops-few : (n : ℕ) (A : Pattern) (j : ℕ) → popsOf n A j ≤ n
 unfolding children
 pops-few n A j =
     let child : ℕ → Bool = λ c. eqb (parent A c) j in
-    omega (arith, distinct-length (keep child (upTo n)) (upTo n) (keep-distinct child (upTo n) (upTo-distinct n)) (λ i m. keep-from child (upTo n) m .0), length-upTo n)
+    omega (
+      arith,
+      distinct-length (keep child (upTo n)) (upTo n) (keep-distinct child (upTo n) (upTo-distinct n))
+          (λ i m. keep-from child (upTo n) m .0),
+      length-upTo n,
+    )
 
 module _ {n : ℕ} {A : Pattern} (below : Below n A) (few : n ≤ programColumns) (rows : length (flat (listsOf n (R A))) ≤ programFactorRows) where
   module _ (order : List ℕ) (ordered : Ordered (parent A) n order) where
@@ -51,7 +56,8 @@ module _ {n : ℕ} {A : Pattern} (below : Below n A) (few : n ≤ programColumns
         )
 
 -- the whole listing
-pub listing-fits : (job : Job) → Below (job .n) (pattern job) → job .n ≤ programColumns → job .mark ≤ maxMark → length (flat (listsOf (job .n) (R (pattern job)))) ≤ programFactorRows
+pub listing-fits : (job : Job) → Below (job .n) (pattern job) → job .n ≤ programColumns → job .mark ≤ maxMark
+    → length (flat (listsOf (job .n) (R (pattern job)))) ≤ programFactorRows
     → length (listingOf job (peak (job .n) (pattern job) (orderOf (job .mark) (job .n) (pattern job)))) ≤ listingBytes
 unfolding listingOf
 listing-fits job below few marked rows =

@@ -28,7 +28,12 @@ length-next word x xs = omega (arith, length-append word (space ∷ printed (dec
 length-printed : (word xs : List ℕ) → ((x : ℕ) → x ∈ xs → x < 1000) → length (printed word xs) ≤ length word + 4 * length xs + 1
 length-printed word [] h = omega (arith, length-none word)
 length-printed word (x ∷ xs) h =
-    omega (arith, length-next word x xs, length-printed (decimalOf x) xs (λ y m. h y (List·Memᴰ·tail m)), length-decimal 2 x (h x (List·Memᴰ·head refl)))
+    omega (
+      arith,
+      length-next word x xs,
+      length-printed (decimalOf x) xs (λ y m. h y (List·Memᴰ·tail m)),
+      length-decimal 2 x (h x (List·Memᴰ·head refl)),
+    )
 
 -- the line of a refusal, whatever 64-bit numbers it has
 pub refusal-short : (a : Answer) → a .number < 2 ^ 64 → a .place < 2 ^ 64 → a .count < 2 ^ 64 → length (refusalLine a) ≤ 71

@@ -3,7 +3,8 @@
 use Prim.Native.Nat.{ℕ, _+_, _≤_}
 use mathlib.Core.Path.{_≡_, refl, sym, ap}
 use mathlib.Core.Logic.{_⊎_, inl, inr}
-use mathlib.Core.List.{List, [], _∷_, _++_, map, map-append, List·Memᴰ·head, List·Memᴰ·tail, List·Memᴰ·not-nil, List·Memᴰ·cases-cons, List·Memᴰ·append-cases, Memᴰ·append-left, Memᴰ·append-right, Memᴰ·cast}
+use mathlib.Core.List.{List, [], _∷_, _++_, map, map-append, List·Memᴰ·head, List·Memᴰ·tail, List·Memᴰ·not-nil}
+use mathlib.Core.List.{List·Memᴰ·cases-cons, List·Memᴰ·append-cases, Memᴰ·append-left, Memᴰ·append-right, Memᴰ·cast}
 use native.Mathlib.Omega.{arith}
 use lib.ListN.{length, length-append}
 use Rattle.papers.specs.Lists.{_∈_, Distinct, flat}
@@ -47,7 +48,8 @@ module _ (B : ℕ → List ℕ) where
       let a = around x ys (h x (List·Memᴰ·head refl)) in
       let p = a .before in
       let q = a .behind in
-      let fewer = distinct-rows xs (p ++ q) (d .1) (λ i m. other i m (a .whole) (List·Memᴰ·append-cases p (rw (a .whole) at (h i (List·Memᴰ·tail m))))) in
+      let fewer = distinct-rows xs (p ++ q) (d .1)
+      (λ i m. other i m (a .whole) (List·Memᴰ·append-cases p (rw (a .whole) at (h i (List·Memᴰ·tail m))))) in
       omega (arith, fewer, rows-cons x xs, rows-append p q, rows-append p (x ∷ q), rows-cons x q, ap rows (a .whole))
     where
       other : (i : ℕ) → i ∈ xs → {p q : List ℕ} → ys ≡ p ++ (x ∷ q) → (i ∈ p) ⊎ (i ∈ (x ∷ q)) → i ∈ (p ++ q)

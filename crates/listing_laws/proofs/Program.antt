@@ -1,4 +1,5 @@
--- What the listing program prints fits the listing's slice, whatever it reads: a refusal is one short line, and a listing is that of a job of the program's sizes.
+-- What the listing program prints fits the listing's slice, whatever it reads: a refusal is one short line, and a listing is that of a job of the
+-- program's sizes.
 -- Assumes nothing.
 use Prim.Native.Nat.{ℕ, zero, suc, _≤_}
 use mathlib.Core.Path.{_≡_, refl, sym, ap, _∙_}
@@ -12,7 +13,8 @@ use Rattle.papers.specs.Job.{Job, pattern}
 use Rattle.papers.specs.Fill.{R}
 use Rattle.papers.specs.Key.{listsOf}
 use Rattle.papers.specs.Plan.{planOf}
-use Rattle.papers.specs.Refusals.{answer, untouched, zeroed, Leaves, Verdict, passed, refused, first, Outcome, jobTests, Lent, allZero, factorRowsTest}
+use Rattle.papers.specs.Refusals.{answer, untouched, zeroed, Leaves, Verdict, passed, refused, first, Outcome, jobTests}
+use Rattle.papers.specs.Refusals.{Lent, allZero, factorRowsTest}
 use Rattle.papers.specs.Analysis.{AnalysisCall, analysisTests, analysisDone, analysed}
 use Rattle.papers.specs.Text.{textHead, textJob, Input, headTest, textTests, refusalLine, listingOf, buffers, jobPrinted, programPrints}
 use Rattle.list_laws.proofs.Tests.{Test, passes, fails, test}
@@ -53,10 +55,13 @@ module _ (input : Input) where
   unfolding programPrints
   text-passed e = rw (e, programPrints)
 
-  job-refused : (a : Answer) (l : Leaves) → first analysisTests call ≡ refused a l → Small a → jobPrinted job (analysed job buffers .answer) ≡ refusalLine a
+  job-refused : (a : Answer) (l : Leaves) → first analysisTests call ≡ refused a l → Small a
+      → jobPrinted job (analysed job buffers .answer) ≡ refusalLine a
   unfolding analysed
-  job-refused a untouched e s = ap (λ (o : Outcome Lent). jobPrinted job (o .answer)) (outcome-untouched analysisTests analysisDone allZero call buffers e) ∙ line job a s
-  job-refused a zeroed e s = ap (λ (o : Outcome Lent). jobPrinted job (o .answer)) (outcome-zeroed analysisTests analysisDone allZero call buffers e) ∙ line job a s
+  job-refused a untouched e s =
+      ap (λ (o : Outcome Lent). jobPrinted job (o .answer)) (outcome-untouched analysisTests analysisDone allZero call buffers e) ∙ line job a s
+  job-refused a zeroed e s =
+      ap (λ (o : Outcome Lent). jobPrinted job (o .answer)) (outcome-zeroed analysisTests analysisDone allZero call buffers e) ∙ line job a s
 
   job-passed : first analysisTests call ≡ passed → jobPrinted job (analysed job buffers .answer) ≡ listingOf job (planOf job .peak)
   unfolding analysed analysisDone jobPrinted
@@ -80,7 +85,8 @@ module _ (input : Input) where
         go : (v : Verdict) → first jobTests job ≡ v → first jobTests job ≡ passed
         go passed q = q
         go (refused a l) q =
-            absurd (refused-passed (first-append-refused (map (λ test (c : AnalysisCall). test (c .job)) jobTests) _ call (first-map (λ (c : AnalysisCall). c .job) jobTests call ∙ q)) e)
+            absurd (refused-passed (first-append-refused (map (λ test (c : AnalysisCall). test (c .job)) jobTests) _ call
+            (first-map (λ (c : AnalysisCall). c .job) jobTests call ∙ q)) e)
 
     rows-few : length (flat (listsOf (job .n) (R (pattern job)))) ≤ programFactorRows
     unfolding analysisTests factorRowsTest planOf buffers
@@ -95,13 +101,15 @@ pub program-fits : (input : Input) → length (programPrints input) ≤ listingB
 unfolding textJob planOf
 program-fits input = go (first textTests input) refl (text-small input)
   where
-    listing : first textTests input ≡ passed → first analysisTests (call input) ≡ passed → length (listingOf (textJob (input .text)) (planOf (textJob (input .text)) .peak)) ≤ listingBytes
+    listing : first textTests input ≡ passed → first analysisTests (call input) ≡ passed
+        → length (listingOf (textJob (input .text)) (planOf (textJob (input .text)) .peak)) ≤ listingBytes
     listing e f =
         let p = passes-iff (textJob (input .text)) .0 (job-passes-all input f) in
         let few = columns-few input e in
         listing-fits (textJob (input .text)) (passed-below (textJob (input .text)) p) few (p .marked) (rows-few input f)
 
-    analysis : first textTests input ≡ passed → (v : Verdict) → first analysisTests (call input) ≡ v → SmallIn v → length (programPrints input) ≤ listingBytes
+    analysis : first textTests input ≡ passed → (v : Verdict) → first analysisTests (call input) ≡ v → SmallIn v
+        → length (programPrints input) ≤ listingBytes
     analysis e passed f s = rw (text-passed input e, job-passed input f) (listing e f)
     analysis e (refused a l) f s = rw (text-passed input e, job-refused input a l f s) (refusal-fits a s)
 

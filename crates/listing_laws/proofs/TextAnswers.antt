@@ -10,7 +10,8 @@ use borrow.Author.Tests.{ltb-true}
 use Rattle.papers.specs.Bounds.{maxDigits, programRows}
 use Rattle.papers.specs.Lists.{least, flat}
 use Rattle.papers.specs.Refusals.{untouched, first}
-use Rattle.papers.specs.Text.{headOf, isRowLine, numbersAt, textHead, textLists, Input, inputTest, headTest, lineFault, rowLinesTest, endTest, textTests}
+use Rattle.papers.specs.Text.{headOf, isRowLine, numbersAt, textHead, textLists, Input, inputTest, headTest, lineFault}
+use Rattle.papers.specs.Text.{rowLinesTest, endTest, textTests}
 use Rattle.list_laws.proofs.Tests.{Test, passes, fails, test}
 use Rattle.list_laws.proofs.Leasts.{least-found-iff}
 use Rattle.text_laws.proofs.ByWords.{first-line-iff}
@@ -47,7 +48,8 @@ row-lines-small input = go (least (λ j. ltb 0 (lineFault (input .text) j)) (tex
     go (suc j) e =
         let f = least-found-iff (λ j. ltb 0 (lineFault (input .text) j)) (textHead (input .text) .n) j .0 e in
         let n = head-short (input .text) in
-        rw (e, rowLinesTest) (small-at (lineFault (input .text) (suc j)) (suc (suc j)) (ltb-true 0 _ (f .1)) (line-fault (input .text) (suc j)) (omega (arith, f .0)))
+        rw (e, rowLinesTest) (small-at (lineFault (input .text) (suc j)) (suc (suc j)) (ltb-true 0 _ (f .1)) (line-fault (input .text) (suc j))
+        (omega (arith, f .0)))
 
 head-small : (input : Input) → SmallIn (headTest input)
 unfolding headTest

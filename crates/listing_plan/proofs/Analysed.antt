@@ -64,39 +64,44 @@ module _ (job : Job) {order pops starts rows : List ℕ} (parts : Parts (job .n)
     parts-printable = rw (order-is, pops-is, starts-is, rows-is) (steps-printable good (job .mark) (valid .few) (valid .marked))
 
     parts-printed : (count : ℕ)
-        → listingOf job count ≡ planLines (job .n) (job .mark) count (take (job .n) order) (take (job .n) pops) (take (job .n + 1) starts) (take (getD starts (job .n) 0) rows)
+        → listingOf job count ≡ planLines (job .n) (job .mark) count (take (job .n) order) (take (job .n) pops) (take (job .n + 1) starts)
+        (take (getD starts (job .n) 0) rows)
     unfolding listingOf
     parts-printed count = rw (order-is, pops-is, starts-is, rows-is, lines-same good (job .mark))
 
 -- ---- an analysis, in the words of its contract
 
-module _ (job : Job) (lent : Lent) {r : Answer} {after : Lent} (e : _≡_ {A = Outcome Lent} (record { answer = r; lent = after }) (analysed job lent)) where
-  answer-is : analysed job lent .answer ≡ r
-  answer-is = sym (ap (λ (o : Outcome Lent). o .answer) e)
+module _ (job : Job) (lent : Lent) {r : Answer} {after : Lent} (e : _≡_ {A = Outcome Lent} (record { answer = r; lent = after }) (analysed job lent))
+  where
+    answer-is : analysed job lent .answer ≡ r
+    answer-is = sym (ap (λ (o : Outcome Lent). o .answer) e)
 
-  -- its refusal's line
-  pub refused-printed : r .number ≢ 0 → jobPrinted job (analysed job lent .answer) ≡ refusalLine r
-  unfolding jobPrinted
-  refused-printed z = ap (jobPrinted job) answer-is ∙ go (r .number) refl
-    where
-      go : (m : ℕ) → r .number ≡ m → jobPrinted job r ≡ refusalLine r
-      go zero q = absurd (z q)
-      go (suc m) q = let w : r ≡ answer (suc m) (r .place) (r .count) = λ i. record { number = q i; place = r .place; count = r .count } in rw w
+    -- its refusal's line
+    pub refused-printed : r .number ≢ 0 → jobPrinted job (analysed job lent .answer) ≡ refusalLine r
+    unfolding jobPrinted
+    refused-printed z = ap (jobPrinted job) answer-is ∙ go (r .number) refl
+      where
+        go : (m : ℕ) → r .number ≡ m → jobPrinted job r ≡ refusalLine r
+        go zero q = absurd (z q)
+        go (suc m) q = let w : r ≡ answer (suc m) (r .place) (r .count) = λ i. record { number = q i; place = r .place; count = r .count } in rw w
 
-  listing-printed : r .number ≡ 0 → jobPrinted job r ≡ listingOf job (r .count)
-  unfolding jobPrinted
-  listing-printed z = rw (z, jobPrinted)
+    listing-printed : r .number ≡ 0 → jobPrinted job r ≡ listingOf job (r .count)
+    unfolding jobPrinted
+    listing-printed z = rw (z, jobPrinted)
 
-  module _ (z : r .number ≡ 0) where
-    -- it has a step for each column
-    pub done-steps : length (take (job .n) (after .order)) ≡ job .n
-    done-steps = length-take-le (job .n) (after .order) (done-parts job lent e z .order-long)
+    module _ (z : r .number ≡ 0) where
+      -- it has a step for each column
+      pub done-steps : length (take (job .n) (after .order)) ≡ job .n
+      done-steps = length-take-le (job .n) (after .order) (done-parts job lent e z .order-long)
 
-    -- its steps can be printed
-    pub done-printable : Printable (take (job .n) (after .order)) (take (job .n) (after .pops)) (take (job .n + 1) (after .factorStarts)) (take (getD (after .factorStarts) (job .n) 0) (after .factorRows))
-    done-printable = parts-printable job (done-parts job lent e z) (done-valid job lent e z)
+      -- its steps can be printed
+      pub done-printable : Printable (take (job .n) (after .order)) (take (job .n) (after .pops)) (take (job .n + 1) (after .factorStarts))
+          (take (getD (after .factorStarts) (job .n) 0) (after .factorRows))
+      done-printable = parts-printable job (done-parts job lent e z) (done-valid job lent e z)
 
-    -- and are what is printed
-    pub done-printed : jobPrinted job (analysed job lent .answer)
-        ≡ planLines (job .n) (job .mark) (r .count) (take (job .n) (after .order)) (take (job .n) (after .pops)) (take (job .n + 1) (after .factorStarts)) (take (getD (after .factorStarts) (job .n) 0) (after .factorRows))
-    done-printed = ap (jobPrinted job) answer-is ∙ listing-printed z ∙ parts-printed job (done-parts job lent e z) (done-valid job lent e z) (r .count)
+      -- and are what is printed
+      pub done-printed : jobPrinted job (analysed job lent .answer)
+          ≡ planLines (job .n) (job .mark) (r .count) (take (job .n) (after .order)) (take (job .n) (after .pops))
+          (take (job .n + 1) (after .factorStarts)) (take (getD (after .factorStarts) (job .n) 0) (after .factorRows))
+      done-printed =
+          ap (jobPrinted job) answer-is ∙ listing-printed z ∙ parts-printed job (done-parts job lent e z) (done-valid job lent e z) (r .count)

@@ -16,11 +16,13 @@ module _ (header lines bytes₀ : List ℕ) where
     pub lines-fit : length (header ++ lines) ≤ length bytes₀ → first + length lines ≤ length bytes
     lines-fit h = omega (arith, w .0, ap length (w .1), length-sets bytes₀ 0 header, length-append header lines)
 
-    pub both-written : {r : ℕ} {after : List ℕ} → (r ≡ first + length lines) × (after ≡ sets bytes first lines) → (r ≡ length (header ++ lines)) × (after ≡ sets bytes₀ 0 (header ++ lines))
+    pub both-written : {r : ℕ} {after : List ℕ} → (r ≡ first + length lines) × (after ≡ sets bytes first lines)
+        → (r ≡ length (header ++ lines)) × (after ≡ sets bytes₀ 0 (header ++ lines))
     both-written v =
         let e : 0 + length header ≡ first = omega (arith, w .0) in
         (omega (arith, w .0, v .0, length-append header lines), rw (sets-append header bytes₀ 0 lines, ← (w .1), e) (v .1))
 
 -- what is written is what it is the same as
-pub written-as : {xs ys : List ℕ} → xs ≡ ys → (bytes₀ : List ℕ) {r : ℕ} {bytes : List ℕ} → (r ≡ length ys) × (bytes ≡ sets bytes₀ 0 ys) → (r ≡ length xs) × (bytes ≡ sets bytes₀ 0 xs)
+pub written-as : {xs ys : List ℕ} → xs ≡ ys → (bytes₀ : List ℕ) {r : ℕ} {bytes : List ℕ} → (r ≡ length ys) × (bytes ≡ sets bytes₀ 0 ys)
+    → (r ≡ length xs) × (bytes ≡ sets bytes₀ 0 xs)
 written-as e bytes₀ w = rw e w

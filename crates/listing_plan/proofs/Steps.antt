@@ -49,23 +49,40 @@ module _ (n : ℕ) (A : Pattern) where
   length-rooms held [] = refl
   length-rooms held (j ∷ js) = ap (λ (k : ℕ). suc k) (length-rooms _ js)
 
-  module _ (order starts rows : List ℕ) (sized : rowsIn starts ≡ rowCount A) (listed : (k : ℕ) → k < length order → columnOf starts rows (getD order k 0) ≡ R A (getD order k 0)) where
+  module _ (order starts rows : List ℕ) (sized : rowsIn starts ≡ rowCount A) (listed : (k : ℕ) → k < length order
+      → columnOf starts rows (getD order k 0) ≡ R A (getD order k 0)) where
     abbrev pops : List ℕ
     pops = map (popsOf n A) order
 
     -- the line of a step
     line-is : (k : ℕ) → k < length order
         → lineBehind order (map (popsOf n A) order) starts rows k
-        ≡ printed (decimalOf (getD order k 0)) (popsOf n A (getD order k 0) ∷ roomAt (popsOf n A (getD order k 0)) (rowCount A (getD order k 0)) (heldAfterAll (rowCount A) (popsOf n A) [] (take k order)) ∷ R A (getD order k 0))
+        ≡ printed (decimalOf (getD order k 0)) (popsOf n A (getD order k 0) ∷ roomAt (popsOf n A (getD order k 0)) (rowCount A (getD order k 0))
+        (heldAfterAll (rowCount A) (popsOf n A) [] (take k order)) ∷ R A (getD order k 0))
     unfolding lineBehind
     line-is k h =
-        rw (← (column-at pops k), held-by-steps (rowsIn starts) (popsOf n A) order k (omega arith), pops-here (rowsIn starts) (popsOf n A) order k h, column-at order k, sized, listed k h)
+        rw (
+          ← (column-at pops k),
+          held-by-steps (rowsIn starts) (popsOf n A) order k (omega arith),
+          pops-here (rowsIn starts) (popsOf n A) order k h,
+          column-at order k,
+          sized,
+          listed k h,
+        )
 
-    lines-to : (k : ℕ) → k ≤ length order → linesTo order (map (popsOf n A) order) starts rows k ≡ stepLines n A (take k order) (rooms (rowCount A) (popsOf n A) [] (take k order))
+    lines-to : (k : ℕ) → k ≤ length order
+        → linesTo order (map (popsOf n A) order) starts rows k ≡ stepLines n A (take k order) (rooms (rowCount A) (popsOf n A) [] (take k order))
     unfolding linesTo stepLines
     lines-to zero h = refl
     lines-to (suc k) h =
-        rw (lines-to k (omega arith), line-is k (omega arith), take-suc order k 0 (omega arith), rooms-append (rowCount A) (popsOf n A) [] (take k order) (getD order k 0 ∷ []), rooms-cons, rooms-nil)
+        rw (
+          lines-to k (omega arith),
+          line-is k (omega arith),
+          take-suc order k 0 (omega arith),
+          rooms-append (rowCount A) (popsOf n A) [] (take k order) (getD order k 0 ∷ []),
+          rooms-cons,
+          rooms-nil,
+        )
         (sym (lines-snoc (take k order) _ (getD order k 0) _ (sym (length-rooms [] (take k order)))))
 
     pub lines-all : linesTo order (map (popsOf n A) order) starts rows (length order) ≡ stepLines n A order (roomsOf n A order)
@@ -89,15 +106,19 @@ module _ {n : ℕ} {A : Pattern} (good : Below n A) where
     in-range : (k : ℕ) → k < length (orderOf mark n A) → (1 ≤ getD (orderOf mark n A) k 0) × (getD (orderOf mark n A) k 0 ≤ n)
     in-range k h = order-ordered good mark .each (getD order k 0) .0 (at-place order k h)
 
-    pub lines-same : linesTo (orderOf mark n A) (map (popsOf n A) (orderOf mark n A)) (startsOf n A) (flat (listsOf n (R A))) (length (orderOf mark n A))
+    pub lines-same : linesTo (orderOf mark n A) (map (popsOf n A) (orderOf mark n A)) (startsOf n A) (flat (listsOf n (R A)))
+        (length (orderOf mark n A))
         ≡ stepLines n A (orderOf mark n A) (roomsOf n A (orderOf mark n A))
-    lines-same = lines-all n A order (startsOf n A) rowsOf (λ i j. rows-tie good j i) (λ k h. column-is (getD order k 0) (in-range k h .0) (in-range k h .1))
+    lines-same =
+        lines-all n A order (startsOf n A) rowsOf (λ i j. rows-tie good j i) (λ k h. column-is (getD order k 0) (in-range k h .0) (in-range k h .1))
 
-    pub steps-printable : n ≤ maxColumns → mark ≤ maxMark → Printable (orderOf mark n A) (map (popsOf n A) (orderOf mark n A)) (startsOf n A) (flat (listsOf n (R A)))
+    pub steps-printable : n ≤ maxColumns → mark ≤ maxMark
+        → Printable (orderOf mark n A) (map (popsOf n A) (orderOf mark n A)) (startsOf n A) (flat (listsOf n (R A)))
     steps-printable few marked =
         record {
           stepped = peak-asked given (sym (same-order good mark)) (rw (same-pops good, same-order good mark));
-          inside = λ k h. rw (← (start-at (startsOf n A) (getD order k 0))) (start-within (laid-starts (listsOf n (R A))) (suc (getD order k 0)) (omega arith) (omega (arith, in-range k h .1, length-lists (R A) n)));
+          inside = λ k h. rw (← (start-at (startsOf n A) (getD order k 0))) (start-within (laid-starts (listsOf n (R A))) (suc (getD order k 0))
+              (omega arith) (omega (arith, in-range k h .1, length-lists (R A) n)));
         }
       where
         given : Given mark (parentsOf n A) (startsOf n A) (length (parentsOf n A)) (length (parentsOf n A)) (8 * length (parentsOf n A) + 8)

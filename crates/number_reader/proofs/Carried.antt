@@ -48,10 +48,18 @@ pub record Carried (s : List ℕ) (at i low w k : ℕ) : Type 0 where
 
 pub start : (s : List ℕ) (at : ℕ) → Carried s at at 0 1 maxGroups
 unfolding readNumber
-start s at = record { found = rw (eq-eqb at at refl) (carry-none (readFrom maxGroups true s at)); passed = omega arith; few = omega arith; weight = refl; small = omega arith }
+start s at =
+    record {
+      found = rw (eq-eqb at at refl) (carry-none (readFrom maxGroups true s at));
+      passed = omega arith;
+      few = omega arith;
+      weight = refl;
+      small = omega arith;
+    }
 
 -- a group and its place keep within the machine's numbers
-pub carried-below : {s : List ℕ} {at i low w k : ℕ} (b : ℕ) → Carried s at i low w k → b < 128 → (w ≤ 2 ^ (7 * maxGroups)) × (low + w * b < 2 ^ (7 * suc maxGroups))
+pub carried-below : {s : List ℕ} {at i low w k : ℕ} (b : ℕ) → Carried s at i low w k → b < 128
+    → (w ≤ 2 ^ (7 * maxGroups)) × (low + w * b < 2 ^ (7 * suc maxGroups))
 carried-below {low = low} {w = w} {k = k} b r h =
     let p : 2 ^ (7 * (maxGroups - k)) ≤ 2 ^ (7 * maxGroups) = pow-mono {i = 7 * (maxGroups - k)} {j = 7 * maxGroups} (omega arith) in
     let n : b ≤ 127 = omega arith in

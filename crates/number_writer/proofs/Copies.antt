@@ -24,12 +24,14 @@ pub copied-none : (d : List ℕ) (at : ℕ) (bytes : List ℕ) → Copied d at b
 copied-none d at bytes = record { stored = refl; passed = omega arith; long = refl }
 
 -- the next byte of the little array, which has room for n, is copied
-pub copied-more : (bytes : List ℕ) (n i : ℕ) {array d₀ d d′ : List ℕ} {at : ℕ} → array ≡ sets (replicate n 0) 0 bytes → length bytes ≤ n → i < length bytes
+pub copied-more : (bytes : List ℕ) (n i : ℕ) {array d₀ d d′ : List ℕ} {at : ℕ} → array ≡ sets (replicate n 0) 0 bytes → length bytes ≤ n
+    → i < length bytes
     → Copied d₀ at bytes d i → d′ ≡ set d (at + i) (getD array i 0) → Copied d₀ at bytes d′ (i + 1)
 copied-more bytes n i {array} {d₀} {d} {at = at} e few h p f =
     let q : at + i ≡ at + length (take i bytes) = rw (length-take-le i bytes (p .passed)) in
     record {
-      stored = rw (add-one, take-suc bytes i 0 h, ← array-byte bytes n i e few h, f) (sets-more (take i bytes) d₀ at (getD array i 0) (at + i) (p .stored) refl q);
+      stored = rw (add-one, take-suc bytes i 0 h, ← array-byte bytes n i e few h, f) (sets-more (take i bytes) d₀ at (getD array i 0) (at + i)
+          (p .stored) refl q);
       passed = omega arith;
       long = ap length f ∙ length-set d (at + i) (getD array i 0) ∙ p .long;
     }

@@ -64,7 +64,12 @@ module _ {parents factor : List ℕ} (rowed : Rowed parents factor) where
 
   -- children are lower columns with rows
   pub kin-of : Kin (rowsIn factor) (kidsIn parents)
-  kin-of = record { lower = kids-lower parents (rowed .tree); update = λ j c z m. let (l, u, e) = children-are (parentIn parents) n j c .0 m in rows c (omega arith) (rowsIn factor c) refl }
+  kin-of =
+      record {
+        lower = kids-lower parents (rowed .tree);
+        update = λ j c z m. let (l, u, e) = children-are (parentIn parents) n j c .0 m in rows c
+            (omega arith) (rowsIn factor c) refl;
+      }
     where
       rows : (c : ℕ) → 0 < parentIn parents c → (r : ℕ) → rowsIn factor c ≡ r → 0 < r
       rows c h zero e = absurd (omega (arith, roots-all c .0 e))
@@ -74,7 +79,8 @@ module _ {parents factor : List ℕ} (rowed : Rowed parents factor) where
   family-of mark h = record { kin = kin-of; column = column-of; rows = rows-few; short = steps-short (rowed .tree) mark (rowsIn factor); few = h }
 
 -- ---- lists that lie one behind the other are those of the children, of every number
-module _ (parents : List ℕ) {starts list : List ℕ} (tree : TreeIn parents) (lie : Lie (kidsIn parents) (length parents) starts list) (long : length starts ≡ length parents + 2) where
+module _ (parents : List ℕ) {starts list : List ℕ} (tree : TreeIn parents) (lie : Lie (kidsIn parents) (length parents) starts list)
+    (long : length starts ≡ length parents + 2) where
   -- past the last column there is none
   pub lists-end : (l : List ℕ) (j : ℕ) → length parents < j → kidsAt starts l j ≡ []
   lists-end l j h =
@@ -83,7 +89,8 @@ module _ (parents : List ℕ) {starts list : List ℕ} (tree : TreeIn parents) (
 
   pub kids-end : (j : ℕ) → length parents < j → kidsIn parents j ≡ []
   unfolding children
-  kids-end j h = keep-none (λ c. eqb (parentIn parents c) j) (upTo (length parents)) (λ c m. ne-eqb (parentIn parents c) j (λ e. omega (arith, tree .within c)))
+  kids-end j h =
+      keep-none (λ c. eqb (parentIn parents c) j) (upTo (length parents)) (λ c m. ne-eqb (parentIn parents c) j (λ e. omega (arith, tree .within c)))
 
   same-at : (j : ℕ) → kidsAt starts list j ≡ kidsIn parents j
   same-at j = go (below-or (length parents) j)

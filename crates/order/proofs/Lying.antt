@@ -17,7 +17,8 @@ use Rattle.tree.proofs.Parts.{part-length, part-same}
 use Rattle.order.proofs.Families.{family-of, lists-end, lists-are}
 use Rattle.order.proofs.Walked.{Lists}
 
-module _ {mark : ℕ} {parents factor list work : List ℕ} {order pops lent : ℕ} (given : Given mark parents factor order pops lent) (laid : LaidOut parents list work)
+module _ {mark : ℕ} {parents factor list work : List ℕ} {order pops lent : ℕ} (given : Given mark parents factor order pops lent)
+    (laid : LaidOut parents list work)
     (list-kept : length list ≡ pops) (work-kept : length work ≡ lent)
   where
     abbrev columns : ℕ
@@ -48,7 +49,8 @@ module _ {mark : ℕ} {parents factor list work : List ℕ} {order pops lent : �
     pub arrange-asked : Arrangeable mark factor list work order w k
     arrange-asked = record {
       family = rw (list-length, kids-lie) (family-of (given .rowed) mark (given .columns));
-      rise = λ j h. rw (start-at j (omega (arith, list-length)), start-at (j + 1) (omega (arith, list-length))) (laid .lie .rise j (omega (arith, list-length)));
+      rise = λ j h. rw (start-at j (omega (arith, list-length)), start-at (j + 1) (omega (arith, list-length)))
+          (laid .lie .rise j (omega (arith, list-length)));
       inside = λ j h. rw (start-at (j + 1) (omega (arith, list-length))) (laid .lie .inside j (omega (arith, list-length)));
       starts = omega (arith, list-length);
       rooms = omega (arith, list-length);
@@ -86,7 +88,8 @@ module _ {mark : ℕ} {parents factor list work : List ℕ} {order pops lent : �
       -- the starts are those of the children's lists
       pub starts-lie : Starts parents (take m work′)
       starts-lie = rw front-same (record {
-        count = λ j h. sym (length-slice (getD (take m work) j 0) (getD (take m work) (j + 1) 0) list (laid .lie .inside j h)) ∙ ap length (sym (kids-are (take m work) list j) ∙ laid .lie .same j h);
+        count = λ j h. sym (length-slice (getD (take m work) j 0) (getD (take m work) (j + 1) 0) list (laid .lie .inside j h)) ∙ ap length
+            (sym (kids-are (take m work) list j) ∙ laid .lie .same j h);
         rise = λ j h. laid .lie .rise j h;
         inside = λ j h. omega (arith, laid .lie .inside j h, list-length);
       })

@@ -37,18 +37,21 @@ module _ (mark : ℕ) (size : ℕ → ℕ) (kids lists : ℕ → List ℕ) (n : 
     unfolding blocks
     block-marked = strong (λ j. 0 < j → j ≤ n → block lists j ≡ stepsOf mark size kids n j) step
       where
-        step : (j : ℕ) → ((c : ℕ) → c < j → 0 < c → c ≤ n → block lists c ≡ stepsOf mark size kids n c) → 0 < j → j ≤ n → block lists j ≡ stepsOf mark size kids n j
+        step : (j : ℕ) → ((c : ℕ) → c < j → 0 < c → c ≤ n → block lists c ≡ stepsOf mark size kids n c) → 0 < j → j ≤ n
+            → block lists j ≡ stepsOf mark size kids n j
         step j ih l u =
             let cs = arranged mark size kids (stepsOf mark size kids n) j in
             let before : flatMap (block lists) (lists j) ≡ flatMap (stepsOf mark size kids n) cs =
-            rw (same j l u) (flatMap-same (block lists) (stepsOf mark size kids n) cs (λ c m. let (a, b) = lower j c l (arranged-elements mark size kids (stepsOf mark size kids n) j c .0 m) in ih c b a (omega arith))) in
+            rw (same j l u) (flatMap-same (block lists) (stepsOf mark size kids n) cs
+            (λ c m. let (a, b) = lower j c l (arranged-elements mark size kids (stepsOf mark size kids n) j c .0 m) in ih c b a (omega arith))) in
             block-is lists lists-lower j l
             ∙ (ap (λ s. s ++ (j ∷ [])) before ∙ sym (steps-enough mark size kids lower n (suc n) j l u (omega arith) ∙ steps-suc mark size kids n j))
 
 -- ---- subtrees of a tree
 module _ {par : ℕ → ℕ} {n : ℕ} (tree : Tree par n) where
   steps-once : (mark : ℕ) (size : ℕ → ℕ) (f j : ℕ) → 0 < j → j ≤ f → Distinct (stepsOf mark size (children par n) f j)
-  steps-once mark size f j l u = valid-distinct par (stepsOf mark size (children par n) f j) [] (steps-order tree mark size f j l u .valid [] (λ x s m. List·Memᴰ·not-nil m)) .0
+  steps-once mark size f j l u =
+      valid-distinct par (stepsOf mark size (children par n) f j) [] (steps-order tree mark size f j l u .valid [] (λ x s m. List·Memᴰ·not-nil m)) .0
 
   -- as many steps under every mark
   pub steps-count : (mark other : ℕ) (size size′ : ℕ → ℕ) (f g j : ℕ) → 0 < j → j ≤ f → j ≤ g
@@ -56,13 +59,19 @@ module _ {par : ℕ → ℕ} {n : ℕ} (tree : Tree par n) where
   steps-count mark other size size′ f g j l u v =
       let a = steps-order tree mark size f j l u in
       let b = steps-order tree other size′ g j l v in
-      same-length _ _ (steps-once mark size f j l u) (steps-once other size′ g j l v) (λ x m. b .all x .1 (a .all x .0 m)) (λ x m. a .all x .1 (b .all x .0 m))
+      same-length _ _ (steps-once mark size f j l u) (steps-once other size′ g j l v) (λ x m. b .all x .1 (a .all x .0 m))
+      (λ x m. a .all x .1 (b .all x .0 m))
 
   -- at most n
   pub steps-short : (mark : ℕ) (size : ℕ → ℕ) (j : ℕ) → 0 < j → j ≤ n → length (stepsOf mark size (children par n) n j) ≤ n
   steps-short mark size j l u =
       let a = steps-order tree mark size n j l u in
-      omega (arith, length-upTo n, distinct-length (stepsOf mark size (children par n) n j) (upTo n) (steps-once mark size n j l u) (λ x m. let (p, q) = under-range tree j x l u (a .all x .0 m) in upTo-into n x p q))
+      omega (
+        arith,
+        length-upTo n,
+        distinct-length (stepsOf mark size (children par n) n j) (upTo n) (steps-once mark size n j l u)
+            (λ x m. let (p, q) = under-range tree j x l u (a .all x .0 m) in upTo-into n x p q),
+      )
 
 -- ---- the order of a mark
 module _ {par : ℕ → ℕ} {n : ℕ} (tree : Tree par n) (mark : ℕ) (size : ℕ → ℕ) (roots : (j : ℕ) → (size j ≡ 0) ↔ (par j ≡ 0)) where

@@ -43,7 +43,9 @@ module _ {mark : ℕ} {parents factor : List ℕ} {order-room pops-room lent : �
     front-length = length-take-le (length parents + 2) work (omega (arith, given .work-length))
 
     counted : Counted front steps
-    counted k h = let (l, u) = at-step k h in (omega (arith, front-length), starts .rise (getD steps k 0) u, omega (arith, starts .inside (getD steps k 0) u, given .columns))
+    counted k h =
+        let (l, u) = at-step k h in
+        (omega (arith, front-length), starts .rise (getD steps k 0) u, omega (arith, starts .inside (getD steps k 0) u, given .columns))
 
     pub pops-asked : {order : List ℕ} → order ≡ steps → Counted front order
     pops-asked e = rw e counted
@@ -55,7 +57,8 @@ module _ {mark : ℕ} {parents factor : List ℕ} {order-room pops-room lent : �
   stepped : Stepped factor steps (map (popsIn parents) steps)
   stepped = record {
     column = λ k h. let (l, u) = at-step k h in column-of (given .rowed) (getD steps k 0) l u;
-    enough = λ k h. enough-by-steps (rowsIn factor) (popsIn parents) steps k h (order-enough (given .rowed .tree) mark (rowsIn factor) (roots-all (given .rowed)) k h);
+    enough = λ k h. enough-by-steps (rowsIn factor) (popsIn parents) steps k h (order-enough (given .rowed .tree) mark (rowsIn factor)
+        (roots-all (given .rowed)) k h);
     same = length-map steps (popsIn parents);
     few = omega (arith, steps-length, given .columns);
   }
@@ -63,6 +66,7 @@ module _ {mark : ℕ} {parents factor : List ℕ} {order-room pops-room lent : �
   pub peak-asked : {order pops : List ℕ} → order ≡ steps → pops ≡ map (popsIn parents) steps → Stepped factor order pops
   peak-asked e q = rw (e, q) stepped
 
-  pub peak-found : {order pops : List ℕ} {r : ℕ} → order ≡ steps → pops ≡ map (popsIn parents) steps → r ≡ peakOf (rowsAt factor order) (popsAt pops) (upTo (length order))
+  pub peak-found : {order pops : List ℕ} {r : ℕ} → order ≡ steps → pops ≡ map (popsIn parents) steps
+      → r ≡ peakOf (rowsAt factor order) (popsAt pops) (upTo (length order))
       → r ≡ peakOf (rowsIn factor) (popsIn parents) steps
   peak-found e q p = (rw (e, q) at p) ∙ peak-by-steps (rowsIn factor) (popsIn parents) steps

@@ -64,29 +64,43 @@ module _ {mark : ℕ} {parents factor starts list counts : List ℕ} (lying : Li
     few = omega (arith, lying .few, lying .many);
     long = omega (arith, lying .long, lying .many);
     inside = λ j b. lying .inside j (omega (arith, lying .many));
-    known = λ j c b m. let (l, u, e) = children-are (parentIn parents) n j c .0 (member j c (omega (arith, lying .many)) m) in (omega arith, omega (arith, lying .many));
+    known = λ j c b m. let (l, u, e) = children-are (parentIn parents) n j c .0 (member j c (omega (arith, lying .many)) m) in
+        (omega arith, omega (arith, lying .many));
     lower = lower;
     counted = λ j l b.
-        omega (arith, lying .descendants j (omega (arith, lying .many)), block-count kids (kids-lower parents (lying .rowed .tree)) j l, ap length (own-steps j l (omega (arith, lying .many))), steps-count (lying .rowed .tree) mark 0 (rowsIn factor) (λ c. 0) n j j l (omega (arith, lying .many)) (omega arith));
+        omega (
+          arith,
+          lying .descendants j (omega (arith, lying .many)),
+          block-count kids (kids-lower parents (lying .rowed .tree)) j l,
+          ap length (own-steps j l (omega (arith, lying .many))),
+          steps-count (lying .rowed .tree) mark 0 (rowsIn factor) (λ c. 0) n j j l
+              (omega (arith, lying .many)) (omega arith),
+        );
   }
 
   steps-are : kidsSteps starts list 0 ≡ orderIn mark parents factor
   unfolding blocks
   steps-are =
       ap (flatMap (block (kidsAt starts list))) (lying .roots)
-      ∙ flatMap-same (block (kidsAt starts list)) (stepsIn mark parents factor) (kids 0) (λ c m. let (l, u, e) = children-are (parentIn parents) n 0 c .0 m in own-steps c l u)
+      ∙ flatMap-same (block (kidsAt starts list)) (stepsIn mark parents factor) (kids 0) (λ c m. let (l, u, e) = children-are (parentIn parents) n 0
+      c .0 m in own-steps c l u)
 
   -- what the walk asks
   pub walk-asked : (room : ℕ) → room ≡ n → Asked starts list counts 0 n 0 room (kidsSteps starts list 0)
   walk-asked room e = record {
     laid = laid;
     known = omega (arith, lying .many);
-    count = omega (arith, ap length steps-are, ordered-length (orderIn mark parents factor) (marked-ordered (lying .rowed .tree) mark (rowsIn factor)));
+    count = omega (
+      arith,
+      ap length steps-are,
+      ordered-length (orderIn mark parents factor) (marked-ordered (lying .rowed .tree) mark (rowsIn factor)),
+    );
     fits = omega arith;
   }
 
   -- what it writes
-  pub walk-wrote : (order : List ℕ) {order′ : List ℕ} → length order ≡ n → order′ ≡ sets order 0 (kidsSteps starts list 0) → order′ ≡ orderIn mark parents factor
+  pub walk-wrote : (order : List ℕ) {order′ : List ℕ} → length order ≡ n → order′ ≡ sets order 0 (kidsSteps starts list 0)
+      → order′ ≡ orderIn mark parents factor
   walk-wrote order e q =
       let steps = orderIn mark parents factor in
       let count : length steps ≡ length order = ordered-length steps (marked-ordered (lying .rowed .tree) mark (rowsIn factor)) ∙ sym e in

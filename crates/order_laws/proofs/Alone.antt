@@ -52,7 +52,8 @@ module _ (mark : ℕ) (size : ℕ → ℕ) (kids : ℕ → List ℕ) (kin : Kin 
   siblings-in-turn f [] held h = (tt, refl)
   siblings-in-turn f (c ∷ cs) held h =
       let (a, z) = h c (List·Memᴰ·head refl) in
-      let e : heldAfterAll size pops held (steps f c) ≡ t (size c) ∷ held = held-above size pops (steps f c) [] held (a .enough) ∙ ap (λ l. l ++ held) (a .left ∙ leaves-update (size c) z) in
+      let e : heldAfterAll size pops held (steps f c) ≡ t (size c) ∷ held = held-above size pops (steps f c) [] held (a .enough) ∙ ap (λ l. l ++ held)
+      (a .left ∙ leaves-update (size c) z) in
       let (s, q) = siblings-in-turn f cs (t (size c) ∷ held) (λ d m. h d (List·Memᴰ·tail m)) in (
         enough-append size pops held (steps f c) (flatMap (steps f) cs) (enough-above size pops (steps f c) [] held (a .enough)) (rw e s),
         held-append size pops held (steps f c) (flatMap (steps f) cs) ∙ rw e q,
@@ -63,9 +64,17 @@ module _ (mark : ℕ) (size : ℕ → ℕ) (kids : ℕ → List ℕ) (kin : Kin 
   arrangedKids f j = arranged mark size kids (steps f) j
 
   stacked-length : (f j : ℕ) → pops j ≡ length (stacked size (arrangedKids f j) [])
-  stacked-length f j = omega (arith, length-reverseAux (map (λ c. t (size c)) (arrangedKids f j)) [], length-map (arrangedKids f j) (λ c. t (size c)), arranged-length mark size kids (steps f) j)
+  stacked-length f j =
+      omega (
+        arith,
+        length-reverseAux (map (λ c. t (size c)) (arrangedKids f j)) [],
+        length-map (arrangedKids f j) (λ c. t (size c)),
+        arranged-length mark size kids (steps f) j,
+      )
 
-  then-parent : (f j : ℕ) → Enough size pops [] (flatMap (steps f) (arrangedKids f j)) × (heldAfterAll size pops [] (flatMap (steps f) (arrangedKids f j)) ≡ stacked size (arrangedKids f j) [])
+  then-parent : (f j : ℕ)
+      → Enough size pops [] (flatMap (steps f) (arrangedKids f j)) × (heldAfterAll size pops [] (flatMap (steps f) (arrangedKids f j)) ≡ stacked size
+      (arrangedKids f j) [])
       → DoneAlone size pops j (steps (suc f) j)
   unfolding heldAfterAll
   then-parent f j (s, q) =
@@ -80,10 +89,12 @@ module _ (mark : ℕ) (size : ℕ → ℕ) (kids : ℕ → List ℕ) (kin : Kin 
   Deep f = (j : ℕ) → 0 < j → j ≤ f → DoneAlone size pops j (steps f j)
 
   children-done : (f j : ℕ) (held : List ℕ) → Deep f → 0 < j → j ≤ suc f
-      → Enough size pops held (flatMap (steps f) (arrangedKids f j)) × (heldAfterAll size pops held (flatMap (steps f) (arrangedKids f j)) ≡ stacked size (arrangedKids f j) held)
+      → Enough size pops held (flatMap (steps f) (arrangedKids f j)) × (heldAfterAll size pops held (flatMap (steps f) (arrangedKids f j)) ≡ stacked
+      size (arrangedKids f j) held)
   children-done f j held deep l u =
       siblings-in-turn f (arrangedKids f j) held
-      (λ c m. let k = arranged-elements mark size kids (steps f) j c .0 m in let (a, b) = kin .lower j c l k in (deep c a (omega arith), kin .update j c l k))
+      (λ c m. let k = arranged-elements mark size kids (steps f) j c .0 m in let (a, b) = kin .lower j c l k in
+      (deep c a (omega arith), kin .update j c l k))
 
   -- the steps of a subtree find enough and leave what its top leaves
   pub steps-alone : (f j : ℕ) → 0 < j → j ≤ f → DoneAlone size pops j (stepsOf mark size kids f j)
@@ -91,7 +102,8 @@ module _ (mark : ℕ) (size : ℕ → ℕ) (kids : ℕ → List ℕ) (kin : Kin 
   steps-alone (suc f) j l u = then-parent f j (children-done f j [] (λ c a b. steps-alone f c a b) l u)
 
   -- the children of j done, their updates lie on top of what was held
-  pub children-held : (f j : ℕ) (held : List ℕ) → 0 < j → j ≤ suc f → heldAfterAll size pops held (flatMap (stepsOf mark size kids f) (arrangedKids f j)) ≡ stacked size (arrangedKids f j) held
+  pub children-held : (f j : ℕ) (held : List ℕ) → 0 < j → j ≤ suc f
+      → heldAfterAll size pops held (flatMap (stepsOf mark size kids f) (arrangedKids f j)) ≡ stacked size (arrangedKids f j) held
   children-held f j held l u = children-done f j held (steps-alone f) l u .1
 
   -- above what is held: one update more
@@ -99,5 +111,6 @@ module _ (mark : ℕ) (size : ℕ → ℕ) (kids : ℕ → List ℕ) (kin : Kin 
   steps-held f j held l u = let a = steps-alone f j l u in held-above size pops (steps f j) [] held (a .enough) ∙ ap (λ q. q ++ held) (a .left)
 
   -- and the room of the subtree done alone, above it
-  pub steps-rooms : (f j : ℕ) (held : List ℕ) → 0 < j → j ≤ f → rooms size pops held (stepsOf mark size kids f j) ≡ map (λ r. sum held + r) (rooms size pops [] (stepsOf mark size kids f j))
+  pub steps-rooms : (f j : ℕ) (held : List ℕ) → 0 < j → j ≤ f
+      → rooms size pops held (stepsOf mark size kids f j) ≡ map (λ r. sum held + r) (rooms size pops [] (stepsOf mark size kids f j))
   steps-rooms f j held l u = rooms-above size pops (steps f j) [] held (steps-alone f j l u .enough)

@@ -37,12 +37,14 @@ module _ (mark : ℕ) (size : ℕ → ℕ) (kids : ℕ → List ℕ) where
 
   -- ---- the steps of a subtree
 
-  pub steps-suc : (f j : ℕ) → stepsOf mark size kids (suc f) j ≡ flatMap (stepsOf mark size kids f) (arranged mark size kids (stepsOf mark size kids f) j) ++ (j ∷ [])
+  pub steps-suc : (f j : ℕ)
+      → stepsOf mark size kids (suc f) j ≡ flatMap (stepsOf mark size kids f) (arranged mark size kids (stepsOf mark size kids f) j) ++ (j ∷ [])
   unfolding stepsOf
   steps-suc f j = refl
 
   -- a depth of j is enough for column j, where children are lower columns
-  pub steps-enough : ((j c : ℕ) → 0 < j → c ∈ kids j → (0 < c) × (c < j)) → (f g j : ℕ) → 0 < j → j ≤ f → j ≤ g → stepsOf mark size kids f j ≡ stepsOf mark size kids g j
+  pub steps-enough : ((j c : ℕ) → 0 < j → c ∈ kids j → (0 < c) × (c < j)) → (f g j : ℕ) → 0 < j → j ≤ f → j ≤ g
+      → stepsOf mark size kids f j ≡ stepsOf mark size kids g j
   steps-enough lower zero zero j l u w = refl
   steps-enough lower zero (suc g) j l u w = absurd (omega arith)
   steps-enough lower (suc f) zero j l u w = absurd (omega arith)
@@ -51,5 +53,6 @@ module _ (mark : ℕ) (size : ℕ → ℕ) (kids : ℕ → List ℕ) where
       let b = stepsOf mark size kids g in
       let same : (c : ℕ) → c ∈ kids j → a c ≡ b c = λ c m. let (p, q) = lower j c l m in steps-enough lower f g c p (omega arith) (omega arith) in
       let kin = arranged mark size kids b j in
-      let children : flatMap a (arranged mark size kids a j) ≡ flatMap b kin = ap (flatMap a) (arranged-same a b j same) ∙ flatMap-same a b kin (λ c m. same c (arranged-elements b j c .0 m)) in
+      let children : flatMap a (arranged mark size kids a j) ≡ flatMap b kin = ap (flatMap a) (arranged-same a b j same) ∙ flatMap-same a b kin
+      (λ c m. same c (arranged-elements b j c .0 m)) in
       rw (steps-suc f j, steps-suc g j, children)

@@ -30,7 +30,8 @@ module _ (size pops : ℕ → ℕ) where
   room-at-step held (j ∷ js) (suc s) h = room-at-step (heldAfter (pops j) (size j) held) js s (omega arith)
 
   module _ (par : ℕ → ℕ) (roots : (j : ℕ) → (size j ≡ 0) ↔ (par j ≡ 0)) where
-    entries-after : (j p : ℕ) (held : List ℕ) → heldAfter p (size j) (map (λ c. t (size c)) held) ≡ map (λ c. t (size c)) (pushedOn par j (drop p held))
+    entries-after : (j p : ℕ) (held : List ℕ)
+        → heldAfter p (size j) (map (λ c. t (size c)) held) ≡ map (λ c. t (size c)) (pushedOn par j (drop p held))
     entries-after j p held = go (size j) refl
       where
         above : (q : ℕ) → par j ≡ q → size j ≢ 0 → 0 < q
@@ -39,12 +40,16 @@ module _ (size pops : ℕ → ℕ) where
 
         go : (r : ℕ) → size j ≡ r → heldAfter p r (map (λ c. t (size c)) held) ≡ map (λ c. t (size c)) (pushedOn par j (drop p held))
         go zero e = rw (held-root, pushed-root par j (drop p held) (roots j .0 e)) (drop-map (λ c. t (size c)) p held)
-        go (suc r) e = rw (held-update p (suc r) _ (omega arith), pushed-update par j (drop p held) (above (par j) refl (λ z. absurd (omega arith))), e) (ap (λ l. t (suc r) ∷ l) (drop-map (λ c. t (size c)) p held))
+        go (suc r) e =
+            rw (held-update p (suc r) _ (omega arith), pushed-update par j (drop p held) (above (par j) refl (λ z. absurd (omega arith))), e)
+            (ap (λ l. t (suc r) ∷ l) (drop-map (λ c. t (size c)) p held))
 
     -- the entries held after s steps, by the columns held
-    pub held-entries : (order : List ℕ) (s : ℕ) → s ≤ length order → heldAfterAll size pops [] (take s order) ≡ map (λ c. t (size c)) (heldColumns par pops order s)
+    pub held-entries : (order : List ℕ) (s : ℕ) → s ≤ length order
+        → heldAfterAll size pops [] (take s order) ≡ map (λ c. t (size c)) (heldColumns par pops order s)
     unfolding heldAfterAll heldColumns
     held-entries order zero h = refl
     held-entries order (suc s) h =
         let j = getD order s 0 in
-        rw (take-suc order s 0 (omega arith), held-append size pops [] (take s order) (j ∷ []), held-entries order s (omega arith), column-at order s) (entries-after j (pops j) (heldColumns par pops order s))
+        rw (take-suc order s 0 (omega arith), held-append size pops [] (take s order) (j ∷ []), held-entries order s (omega arith), column-at order s)
+        (entries-after j (pops j) (heldColumns par pops order s))

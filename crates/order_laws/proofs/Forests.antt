@@ -3,7 +3,9 @@
 use Prim.Native.Nat.{ℕ, _<_}
 use mathlib.Core.Path.{_≡_, refl}
 use mathlib.Core.Logic.{_⊎_, inl, inr, _↔_, _≢_}
-use mathlib.Core.List.{List, [], _∷_, _++_, flatMap, reverse, reverseAux, reverseAux-eq, List·Memᴰ·head, List·Memᴰ·tail, List·Memᴰ·not-nil, List·Memᴰ·cases-cons, List·Memᴰ·append-cases, Memᴰ·append-left, Memᴰ·append-right, Memᴰ·cast}
+use mathlib.Core.List.{List, [], _∷_, _++_, flatMap, reverse, reverseAux, reverseAux-eq, List·Memᴰ·head}
+use mathlib.Core.List.{List·Memᴰ·tail, List·Memᴰ·not-nil, List·Memᴰ·cases-cons, List·Memᴰ·append-cases}
+use mathlib.Core.List.{Memᴰ·append-left, Memᴰ·append-right, Memᴰ·cast}
 use native.Mathlib.Omega.{arith}
 use lib.Dec.{eqb}
 use borrow.Author.Tests.{eqb-true, eqb-false}
@@ -35,13 +37,16 @@ module _ (par : ℕ → ℕ) where
 module _ {par : ℕ → ℕ} {n : ℕ} (tree : Tree par n) where
   forest-cons : (j : ℕ) (v : ℕ → List ℕ) (c : ℕ) (cs : List ℕ) → Distinct (c ∷ cs) → ((d : ℕ) → d ∈ (c ∷ cs) → (par d ≡ j) × SubtreeOrder par d (v d))
       → ForestOrder par cs (flatMap v cs) → ForestOrder par (c ∷ cs) (v c ++ flatMap v cs)
-  forest-cons j v c cs d h rest = record { valid = valid; from = λ x m. from x (List·Memᴰ·append-cases (v c) m); into = λ b x m s. into b x (List·Memᴰ·cases-cons m) s }
+  forest-cons j v c cs d h rest =
+      record { valid = valid; from = λ x m. from x (List·Memᴰ·append-cases (v c) m); into = λ b x m s. into b x (List·Memᴰ·cases-cons m) s }
     where
       own : SubtreeOrder par c (v c)
       own = h c (List·Memᴰ·head refl) .1
 
-      off : (done : List ℕ) → ((b x : ℕ) → b ∈ (c ∷ cs) → Under par b x → ¬ (x ∈ done)) → (b x : ℕ) → b ∈ cs → Under par b x → (x ∈ v c) ⊎ (x ∈ done) → ⊥
-      off done k b x m s (inl u) = apart tree j c b x (h c (List·Memᴰ·head refl) .0) (h b (List·Memᴰ·tail m) .0) (λ e. d .0 (Memᴰ·cast e m)) (own .all x .0 u) s
+      off : (done : List ℕ) → ((b x : ℕ) → b ∈ (c ∷ cs) → Under par b x → ¬ (x ∈ done)) → (b x : ℕ) → b ∈ cs → Under par b x → (x ∈ v c) ⊎ (x ∈ done)
+          → ⊥
+      off done k b x m s (inl u) =
+          apart tree j c b x (h c (List·Memᴰ·head refl) .0) (h b (List·Memᴰ·tail m) .0) (λ e. d .0 (Memᴰ·cast e m)) (own .all x .0 u) s
       off done k b x m s (inr u) = k b x (List·Memᴰ·tail m) s u
 
       valid : (done : List ℕ) → ((b x : ℕ) → b ∈ (c ∷ cs) → Under par b x → ¬ (x ∈ done)) → Valid par done (v c ++ flatMap v cs)
@@ -58,7 +63,8 @@ module _ {par : ℕ → ℕ} {n : ℕ} (tree : Tree par n) where
       into b x (inr m) s = Memᴰ·append-right (v c) (rest .into b x m s)
 
   -- siblings one after the other
-  pub forest : (j : ℕ) (v : ℕ → List ℕ) (cs : List ℕ) → Distinct cs → ((c : ℕ) → c ∈ cs → (par c ≡ j) × SubtreeOrder par c (v c)) → ForestOrder par cs (flatMap v cs)
+  pub forest : (j : ℕ) (v : ℕ → List ℕ) (cs : List ℕ) → Distinct cs → ((c : ℕ) → c ∈ cs → (par c ≡ j) × SubtreeOrder par c (v c))
+      → ForestOrder par cs (flatMap v cs)
   unfolding flatMap
   forest j v [] d h = record { valid = λ done k. tt; from = λ x m. absurd (List·Memᴰ·not-nil m); into = λ c x m s. absurd (List·Memᴰ·not-nil m) }
   forest j v (c ∷ cs) d h = forest-cons j v c cs d h (forest j v cs (d .1) (λ b m. h b (List·Memᴰ·tail m)))
@@ -69,8 +75,10 @@ module _ {par : ℕ → ℕ} {n : ℕ} (tree : Tree par n) where
     where
       child-of : (c x : ℕ) → c ∈ cs → Under par c x → Under par j x × (x ≢ j)
       child-of c x m s =
-          let e = k c .0 m in
-          (under-trans par j c x (under-child par j c z e) s, λ q. absurd (omega (arith, under-le par (tree .above) c x s, tree .above c (omega arith))))
+          let e = k c .0 m in (
+            under-trans par j c x (under-child par j c z e) s,
+            λ q. absurd (omega (arith, under-le par (tree .above) c x s, tree .above c (omega arith))),
+          )
 
       proper : (x : ℕ) → x ∈ v → Under par j x × (x ≢ j)
       proper x m = let (c, u, s) = f .from x m in child-of c x u s

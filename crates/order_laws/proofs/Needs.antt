@@ -19,7 +19,8 @@ use Rattle.order_laws.proofs.Alone.{leaves-update, stacked, steps-held,
 
 -- ---- one sibling more
 
-pub in-turn-next : (size need : ℕ → ℕ) (h : ℕ) (cs : List ℕ) (c : ℕ) → inTurn size need h (cs ++ (c ∷ [])) ≡ max (inTurn size need h cs) (h + sum (map (λ d. t (size d)) cs) + need c)
+pub in-turn-next : (size need : ℕ → ℕ) (h : ℕ) (cs : List ℕ) (c : ℕ)
+    → inTurn size need h (cs ++ (c ∷ [])) ≡ max (inTurn size need h cs) (h + sum (map (λ d. t (size d)) cs) + need c)
 unfolding inTurn sum
 in-turn-next size need h [] c = omega arith
 in-turn-next size need h (d ∷ cs) c = omega (arith, in-turn-next size need (h + t (size d)) cs c)
@@ -33,7 +34,8 @@ but-last-next size (d ∷ e ∷ cs) c = ap (λ m. t (size d) + m) (but-last-next
 -- ---- a column after its children
 
 -- the front of a column over its children's updates
-front-over : (size : ℕ → ℕ) (r : ℕ) (c : ℕ) (cs held : List ℕ) (p : ℕ) → 0 < p → roomAt p r (stacked size (c ∷ cs) held) ≡ sum held + butLast size (c ∷ cs) + t (suc r)
+front-over : (size : ℕ → ℕ) (r : ℕ) (c : ℕ) (cs held : List ℕ) (p : ℕ) → 0 < p
+    → roomAt p r (stacked size (c ∷ cs) held) ≡ sum held + butLast size (c ∷ cs) + t (suc r)
 unfolding butLast sum
 front-over size r c [] held p h = room-over p r (t (size c)) held h ∙ omega arith
 front-over size r c (d ∷ cs) held p h = front-over size r d cs (t (size c) ∷ held) p h ∙ omega arith
@@ -55,7 +57,8 @@ module _ (mark : ℕ) (size : ℕ → ℕ) (kids : ℕ → List ℕ) (kin : Kin 
 
   some-step : (f j : ℕ) → 0 < j → j ≤ f → 0 < length (steps f j)
   some-step zero j l u = absurd (omega arith)
-  some-step (suc f) j l u = rw (steps-suc mark size kids f j) (omega (arith, length-append (flatMap (steps f) (arranged mark size kids (steps f) j)) (j ∷ [])))
+  some-step (suc f) j l u =
+      rw (steps-suc mark size kids f j) (omega (arith, length-append (flatMap (steps f) (arranged mark size kids (steps f) j)) (j ∷ [])))
 
   needs-in-turn : (f : ℕ) (cs held : List ℕ) → ((c : ℕ) → c ∈ cs → (0 < c) × (c ≤ f) × (0 < size c))
       → greatest (rooms size pops held (flatMap (steps f) cs)) ≡ inTurn size (need f) (sum held) cs
@@ -65,19 +68,24 @@ module _ (mark : ℕ) (size : ℕ → ℕ) (kids : ℕ → List ℕ) (kin : Kin 
       let later = flatMap (steps f) cs in
       let (l, u, z) = h c (List·Memᴰ·head refl) in
       let own : greatest (rooms size pops held (steps f c)) ≡ sum held + need f c =
-      ap greatest (steps-rooms mark size kids kin f c held l u) ∙ greatest-raised (sum held) (rooms size pops [] (steps f c)) (omega (arith, rooms-length size pops [] (steps f c), some-step f c l u)) in
-      let left : heldAfterAll size pops held (steps f c) ≡ t (size c) ∷ held = steps-held mark size kids kin f c held l u ∙ ap (λ q. q ++ held) (leaves-update (size c) z) in
+      ap greatest (steps-rooms mark size kids kin f c held l u) ∙ greatest-raised (sum held) (rooms size pops [] (steps f c))
+      (omega (arith, rooms-length size pops [] (steps f c), some-step f c l u)) in
+      let left : heldAfterAll size pops held (steps f c) ≡ t (size c) ∷ held = steps-held mark size kids kin f c held l u ∙ ap (λ q. q ++ held)
+      (leaves-update (size c) z) in
       let rest = needs-in-turn f cs (t (size c) ∷ held) (λ d m. h d (List·Memᴰ·tail m)) in
       let sums : t (size c) + sum held ≡ sum held + t (size c) = omega arith in
       rw (rooms-append size pops held (steps f c) later, left, greatest-append, own, rest, sums)
 
   -- the need of a subtree, from its children's
-  pub need-children : (f j : ℕ) → 0 < j → j ≤ suc f → let cs = arranged mark size kids (steps f) j in need (suc f) j ≡ max (inTurn size (need f) 0 cs) (butLast size cs + t (suc (size j)))
+  pub need-children : (f j : ℕ) → 0 < j → j ≤ suc f
+      → let cs = arranged mark size kids (steps f) j in need (suc f) j ≡ max (inTurn size (need f) 0 cs) (butLast size cs + t (suc (size j)))
   unfolding peakOf rooms greatest sum
   need-children f j l u =
       let cs = arranged mark size kids (steps f) j in
       let before = flatMap (steps f) cs in
-      let turns = needs-in-turn f cs [] (λ c m. let k = arranged-elements mark size kids (steps f) j c .0 m in let (a, b) = kin .lower j c l k in (a, omega arith, kin .update j c l k)) in
-      let front : roomAt (pops j) (size j) (stacked size cs []) ≡ butLast size cs + t (suc (size j)) = rw (← (arranged-length mark size kids (steps f) j)) (front-room size (size j) cs) in
+      let turns = needs-in-turn f cs [] (λ c m. let k = arranged-elements mark size kids (steps f) j c .0 m in let (a, b) = kin .lower j c l k in
+      (a, omega arith, kin .update j c l k)) in
+      let front : roomAt (pops j) (size j) (stacked size cs []) ≡ butLast size cs + t (suc (size j)) = rw
+      (← (arranged-length mark size kids (steps f) j)) (front-room size (size j) cs) in
       rw (steps-suc mark size kids f j, rooms-append size pops [] before (j ∷ []), greatest-append, children-held mark size kids kin f j [] l u)
       (omega (arith, turns, front))

@@ -3,7 +3,9 @@
 use Prim.Native.Nat.{ℕ, suc, _+_, _-_, _<_, _≤_}
 use mathlib.Core.Path.{_≡_, refl, sym, ap, _∙_}
 use mathlib.Core.Logic.{_⊎_, inl, inr, _↔_, _≢_}
-use mathlib.Core.List.{List, [], _∷_, _++_, reverse, reverseAux, reverse-append, reverse-reverse, List·Memᴰ·head, List·Memᴰ·tail, List·Memᴰ·not-nil, List·Memᴰ·cases-cons, List·Memᴰ·append-cases, Memᴰ·append-left, Memᴰ·append-right, Memᴰ·cast, List·Memᴰ·eq-of-singleton}
+use mathlib.Core.List.{List, [], _∷_, _++_, reverse, reverseAux, reverse-append, reverse-reverse, List·Memᴰ·head}
+use mathlib.Core.List.{List·Memᴰ·tail, List·Memᴰ·not-nil, List·Memᴰ·cases-cons, List·Memᴰ·append-cases}
+use mathlib.Core.List.{Memᴰ·append-left, Memᴰ·append-right, Memᴰ·cast, List·Memᴰ·eq-of-singleton}
 use native.Mathlib.Omega.{arith}
 use native.Mathlib.Numerals.{add-one}
 use lib.Dec.{eqb}
@@ -30,11 +32,18 @@ module _ (par : ℕ → ℕ) (pre : List ℕ) (j : ℕ) (rest : List ℕ) where
   -- the steps that end at j
   slice-here : (a : ℕ) → a ≤ length pre → slice a (suc (length pre)) (pre ++ (j ∷ rest)) ≡ drop a pre ++ (j ∷ [])
   slice-here a h =
-      let through : take (suc (length pre)) (pre ++ (j ∷ rest)) ≡ pre ++ (j ∷ []) = rw (← (add-one (length pre))) (take-append-add pre (j ∷ rest) 1) in
+      let through : take (suc (length pre)) (pre ++ (j ∷ rest)) ≡ pre ++ (j ∷ []) = rw (← (add-one (length pre)))
+      (take-append-add pre (j ∷ rest) 1) in
       rw through (drop-append-le a pre (j ∷ []) h)
 
   ready-piece : Ready par (reverse pre) j → Piece par (pre ++ (j ∷ rest)) (suc (length pre))
-  ready-piece r = record { from = length (r .before); earlier = omega (arith, fits); all = λ x. rw (slice-here (length (r .before)) fits, inner, column-here) (λ m. from x (List·Memᴰ·append-cases (reverse (r .inside)) m), into x) }
+  ready-piece r =
+      record {
+        from = length (r .before);
+        earlier = omega (arith, fits);
+        all = λ x. rw (slice-here (length (r .before)) fits, inner, column-here)
+            (λ m. from x (List·Memᴰ·append-cases (reverse (r .inside)) m), into x);
+      }
     where
       pre-is : pre ≡ reverse (r .before) ++ reverse (r .inside)
       pre-is = sym (reverse-reverse pre) ∙ (ap reverse (r .split) ∙ reverse-append (r .inside) (r .before))
@@ -43,7 +52,9 @@ module _ (par : ℕ → ℕ) (pre : List ℕ) (j : ℕ) (rest : List ℕ) where
       fits = omega (arith, ap length (r .split), length-append (r .inside) (r .before), length-reverse pre)
 
       inner : drop (length (r .before)) pre ≡ reverse (r .inside)
-      inner = ap (drop (length (r .before))) pre-is ∙ drop-at (reverse (r .before)) (reverse (r .inside)) (length (r .before)) (length-reverse (r .before))
+      inner =
+          ap (drop (length (r .before))) pre-is ∙ drop-at (reverse (r .before)) (reverse (r .inside)) (length (r .before))
+          (length-reverse (r .before))
 
       from : (x : ℕ) → (x ∈ reverse (r .inside)) ⊎ (x ∈ (j ∷ [])) → Under par j x
       from x (inl m) = r .all x .0 (reversed-mem (r .inside) .0 m) .0
@@ -72,7 +83,8 @@ module _ (par : ℕ → ℕ) (pre : List ℕ) (j : ℕ) (rest : List ℕ) where
       piece x = rw (slice-here a (omega (arith, p .earlier)), column-here) at (p .all x)
 
       from : (x : ℕ) → x ∈ drop a pre → Under par j x × (x ≢ j)
-      from x m = (piece x .0 (Memᴰ·append-left (j ∷ []) m), λ e. new (Memᴰ·cast (sym e) (rw (take-append-drop a pre) at (Memᴰ·append-right (take a pre) m))))
+      from x m =
+          (piece x .0 (Memᴰ·append-left (j ∷ []) m), λ e. new (Memᴰ·cast (sym e) (rw (take-append-drop a pre) at (Memᴰ·append-right (take a pre) m))))
 
       into : (x : ℕ) → Under par j x → x ≢ j → x ∈ drop a pre
       into x u h = go (List·Memᴰ·append-cases (drop a pre) (piece x .1 u))
@@ -111,10 +123,12 @@ module _ {par : ℕ → ℕ} {n : ℕ} (tree : Tree par n) (order : List ℕ) wh
       together s l u =
           let k : s - 1 < length order = omega arith in
           let e = split-at order (s - 1) 0 k in
-          at (take (s - 1) order) (getD order (s - 1) 0) (drop (suc (s - 1)) order) (sym e) (omega (arith, length-take-le (s - 1) order (omega arith)))
+          at (take (s - 1) order) (getD order (s - 1) 0) (drop (suc (s - 1)) order) (sym e)
+          (omega (arith, length-take-le (s - 1) order (omega arith)))
         where
           at : (pre : List ℕ) (j : ℕ) (rest : List ℕ) → pre ++ (j ∷ rest) ≡ order → suc (length pre) ≡ s → Together par order s
-          at pre j rest e q = piece-together par order s l u once (rw (e, q) at (ready-piece par pre j rest (valid-at par pre j rest [] (rw (← e) at v))))
+          at pre j rest e q =
+              piece-together par order s l u once (rw (e, q) at (ready-piece par pre j rest (valid-at par pre j rest [] (rw (← e) at v))))
 
   -- and in an order each step finds it there
   pub ordered-ready : Ordered par n order → (s : ℕ) → s < length order → Ready par (reverse (take s order)) (columnAt order (suc s))
@@ -127,5 +141,6 @@ module _ {par : ℕ → ℕ} {n : ℕ} (tree : Tree par n) (order : List ℕ) wh
           let (l, u) = v .each j .0 (Memᴰ·append-right pre (List·Memᴰ·head refl)) in
           let whole : (x : ℕ) → Under par (columnAt (pre ++ (j ∷ rest)) (suc (length pre))) x → x ∈ (pre ++ (j ∷ rest)) =
           λ x s. v .each x .1 (under-range tree j x l u (rw (column-here par pre j rest) at s)) in
-          let piece = together-piece par (pre ++ (j ∷ rest)) (suc (length pre)) (omega arith) size whole (v .together (suc (length pre)) (omega arith) size) in
+          let piece = together-piece par (pre ++ (j ∷ rest)) (suc (length pre)) (omega arith) size whole (v .together (suc (length pre)) (omega arith)
+          size) in
           piece-ready par pre j rest (λ m. distinct-append pre (j ∷ rest) (v .once) .2 j m (List·Memᴰ·head refl)) piece

@@ -25,7 +25,8 @@ ordered-length {par} {n} order o =
     omega (
       arith,
       length-upTo n,
-      same-length order (upTo n) (o .once) (upTo-distinct n) (λ i m. let (l, u) = o .each i .0 m in upTo-into n i l u) (λ i m. o .each i .1 (upTo-range n i m)),
+      same-length order (upTo n) (o .once) (upTo-distinct n) (λ i m. let (l, u) = o .each i .0 m in upTo-into n i l u)
+          (λ i m. o .each i .1 (upTo-range n i m)),
     )
 
 module _ {par : ℕ → ℕ} {n : ℕ} (tree : Tree par n) (mark : ℕ) (size : ℕ → ℕ) where
@@ -38,12 +39,18 @@ module _ {par : ℕ → ℕ} {n : ℕ} (tree : Tree par n) (mark : ℕ) (size : 
   steps-order (suc f) j l u =
       let kin = arranged mark size (children par n) (steps f) j in
       let names : (c : ℕ) → (c ∈ kin) ↔ (par c ≡ j) =
-      λ c. (λ m. children-of tree j c l .0 (arranged-elements mark size (children par n) (steps f) j c .0 m), λ e. arranged-elements mark size (children par n) (steps f) j c .1 (children-of tree j c l .1 e)) in
+      λ c. (
+        λ m. children-of tree j c l .0 (arranged-elements mark size (children par n) (steps f) j c .0 m),
+        λ e. arranged-elements mark size (children par n) (steps f) j c .1 (children-of tree j c l .1 e),
+      ) in
       let below : (c : ℕ) → c ∈ kin → SubtreeOrder par c (steps f c) =
-      λ c m. let k = children-are par n j c .0 (arranged-elements mark size (children par n) (steps f) j c .0 m) in steps-order f c (k .0) (omega (arith, k .2, tree .above c (omega (arith, k .2)))) in
+      λ c m. let k =
+      children-are par n j c .0 (arranged-elements mark size (children par n) (steps f) j c .0 m) in
+      steps-order f c (k .0) (omega (arith, k .2, tree .above c (omega (arith, k .2)))) in
       rw (steps-suc mark size (children par n) f j)
       (column-last tree j kin (flatMap (steps f) kin) l names
-      (forest tree j (steps f) kin (arranged-distinct mark size (children par n) (steps f) j (children-distinct par n j)) (λ c m. (names c .0 m, below c m))))
+      (forest tree j (steps f) kin (arranged-distinct mark size (children par n) (steps f) j (children-distinct par n j))
+      (λ c m. (names c .0 m, below c m))))
 
   roots-order : ForestOrder par (children par n 0) (flatMap (steps n) (children par n 0))
   roots-order =
@@ -52,7 +59,9 @@ module _ {par : ℕ → ℕ} {n : ℕ} (tree : Tree par n) (mark : ℕ) (size : 
 
   -- the subtrees of the roots, ascending, siblings by any mark
   pub marked-ordered : Ordered par n (flatMap (stepsOf mark size (children par n) n) (children par n 0))
-  marked-ordered = valid-ordered tree (flatMap (steps n) (children par n 0)) (λ x. (from x, λ r. into x (r .0) (r .1))) (roots-order .valid [] (λ c x m s k. List·Memᴰ·not-nil k))
+  marked-ordered =
+      valid-ordered tree (flatMap (steps n) (children par n 0)) (λ x. (from x, λ r. into x (r .0) (r .1)))
+      (roots-order .valid [] (λ c x m s k. List·Memᴰ·not-nil k))
     where
       from : (x : ℕ) → x ∈ flatMap (steps n) (children par n 0) → (1 ≤ x) × (x ≤ n)
       from x m =
@@ -63,4 +72,8 @@ module _ {par : ℕ → ℕ} {n : ℕ} (tree : Tree par n) (mark : ℕ) (size : 
       into : (x : ℕ) → 1 ≤ x → x ≤ n → x ∈ flatMap (steps n) (children par n 0)
       into x l u =
           let r = rooted tree x in
-          roots-order .into (r .root) x (children-are par n 0 (r .root) .1 (omega (arith, under-le par (tree .above) (r .root) x (r .under)), top-within tree (r .root) x u (r .under), r .free)) (r .under)
+          roots-order .into (r .root) x (children-are par n 0 (r .root) .1 (
+            omega (arith, under-le par (tree .above) (r .root) x (r .under)),
+            top-within tree (r .root) x u (r .under),
+            r .free,
+          )) (r .under)

@@ -15,7 +15,8 @@ use Rattle.order_laws.proofs.Rooms.{rooms-append, rooms-length}
 use Rattle.order_laws.proofs.Greatest.{greatest-bound, greatest-in, greatest-append}
 
 -- one step more
-pub peak-next : (size pops : ℕ → ℕ) (js : List ℕ) (j : ℕ) → peakOf size pops (js ++ (j ∷ [])) ≡ max (peakOf size pops js) (roomAt (pops j) (size j) (heldAfterAll size pops [] js))
+pub peak-next : (size pops : ℕ → ℕ) (js : List ℕ) (j : ℕ)
+    → peakOf size pops (js ++ (j ∷ [])) ≡ max (peakOf size pops js) (roomAt (pops j) (size j) (heldAfterAll size pops [] js))
 unfolding peakOf rooms greatest
 peak-next size pops js j = rw (rooms-append size pops [] js (j ∷ []), greatest-append) (omega arith)
 

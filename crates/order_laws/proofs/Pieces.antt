@@ -23,7 +23,9 @@ module _ (par : ℕ → ℕ) (order : List ℕ) (s : ℕ) (l : 1 ≤ s) (u : s �
   together-piece whole t = record { from = t .from - 1; earlier = omega (arith, t .steps s l u .0 top .0); all = λ x. (from x, into x) }
     where
       from : (x : ℕ) → x ∈ slice (t .from - 1) s order → Under par (columnAt order s) x
-      from x m = let p = slice-steps order x (t .from - 1) s u .0 m in rw (p .is) at (t .steps (p .step) (omega arith) (omega arith) .1 (omega arith, p .within))
+      from x m =
+          let p = slice-steps order x (t .from - 1) s u .0 m in
+          rw (p .is) at (t .steps (p .step) (omega arith) (omega arith) .1 (omega arith, p .within))
 
       into : (x : ℕ) → Under par (columnAt order s) x → x ∈ slice (t .from - 1) s order
       into x v =
@@ -32,7 +34,19 @@ module _ (par : ℕ → ℕ) (order : List ℕ) (s : ℕ) (l : 1 ≤ s) (u : s �
           slice-steps order x (t .from - 1) s u .1 (record { step = p .step; behind = omega arith; within = b; is = p .is })
 
   pub piece-together : Distinct order → Piece par order s → Together par order s
-  piece-together d p = record { from = suc (p .from); steps = λ k a b. (into k a b, λ (f, g). p .all (columnAt order k) .0 (slice-steps order (columnAt order k) (p .from) s u .1 (record { step = k; behind = omega arith; within = g; is = refl }))) }
+  piece-together d p =
+      record {
+        from = suc (p .from);
+        steps = λ k a b. (
+          into k a b,
+          λ (f, g). p .all (columnAt order k) .0 (slice-steps order (columnAt order k) (p .from) s u .1 (record {
+            step = k;
+            behind = omega arith;
+            within = g;
+            is = refl;
+          })),
+        );
+      }
     where
       into : (k : ℕ) → 1 ≤ k → k ≤ length order → Under par (columnAt order s) (columnAt order k) → (suc (p .from) ≤ k) × (k ≤ s)
       into k a b v =

@@ -3,7 +3,8 @@
 use Prim.Native.Nat.{ℕ}
 use mathlib.Core.Path.{_≡_, sym}
 use mathlib.Core.Logic.{_⊎_, inl, inr, _↔_}
-use mathlib.Core.List.{List, [], _∷_, reverse, reverseAux, reverse-cons, List·Memᴰ·head, List·Memᴰ·tail, List·Memᴰ·not-nil, List·Memᴰ·cases-cons, List·Memᴰ·eq-of-singleton, Memᴰ·cast}
+use mathlib.Core.List.{List, [], _∷_, reverse, reverseAux, reverse-cons, List·Memᴰ·head, List·Memᴰ·tail}
+use mathlib.Core.List.{List·Memᴰ·not-nil, List·Memᴰ·cases-cons, List·Memᴰ·eq-of-singleton, Memᴰ·cast}
 use Rattle.papers.specs.Lists.{_∈_, Distinct}
 use Rattle.list_laws.proofs.Counts.{distinct-join}
 
@@ -43,4 +44,5 @@ pub reverse-distinct : (l : List ℕ) → Distinct l → Distinct (reverse l)
 reverse-distinct [] d = tt
 reverse-distinct (x ∷ l) d =
     rw (reverse-cons x l)
-    (distinct-join (reverse l) (x ∷ []) (reverse-distinct l (d .1)) (λ m. List·Memᴰ·not-nil m, tt) (λ i m k. d .0 (Memᴰ·cast (sym (List·Memᴰ·eq-of-singleton k)) (reversed-mem l .0 m))))
+    (distinct-join (reverse l) (x ∷ []) (reverse-distinct l (d .1)) (λ m. List·Memᴰ·not-nil m, tt)
+    (λ i m k. d .0 (Memᴰ·cast (sym (List·Memᴰ·eq-of-singleton k)) (reversed-mem l .0 m))))

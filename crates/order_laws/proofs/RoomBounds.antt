@@ -45,7 +45,8 @@ module _ (size pops : ℕ → ℕ) (n b : ℕ) where
   rooms-bound held [] fronts updates count r m = absurd (List·Memᴰ·not-nil (rw (rooms-nil size pops held) at m))
   rooms-bound held (j ∷ js) fronts updates count r m =
       go (List·Memᴰ·cases-cons (rw (rooms-cons size pops held j js) at m))
-      (λ k. rooms-bound (heldAfter (pops j) (size j) held) js (λ i q. fronts i (List·Memᴰ·tail q)) (λ x q. held′ x (held-from (pops j) (size j) held q)) (omega (arith, held-more (pops j) (size j) held)) r k)
+      (λ k. rooms-bound (heldAfter (pops j) (size j) held) js (λ i q. fronts i (List·Memᴰ·tail q))
+      (λ x q. held′ x (held-from (pops j) (size j) held q)) (omega (arith, held-more (pops j) (size j) held)) r k)
     where
       front : t (suc (size j)) ≤ b
       front = fronts j (List·Memᴰ·head refl)
@@ -65,7 +66,8 @@ module _ (size pops : ℕ → ℕ) (n b : ℕ) where
       go (inr k) ih = ih k
 
 -- the peak of at most n steps of the columns 1 to n
-module _ {n : ℕ} {A : Pattern} (below : Below n A) (order : List ℕ) (count : length order ≤ n) (columns : (j : ℕ) → j ∈ order → (1 ≤ j) × (j ≤ n)) where
+module _ {n : ℕ} {A : Pattern} (below : Below n A) (order : List ℕ) (count : length order ≤ n) (columns : (j : ℕ) → j ∈ order
+    → (1 ≤ j) × (j ≤ n)) where
   pub peak-bound : peak n A order ≤ n * t n
   unfolding peak peakOf
   peak-bound =

@@ -45,11 +45,13 @@ module _ (size pops : ℕ → ℕ) where
   unfolding rooms
   rooms-nil held = refl
 
-  pub rooms-cons : (held : List ℕ) (j : ℕ) (js : List ℕ) → rooms size pops held (j ∷ js) ≡ roomAt (pops j) (size j) held ∷ rooms size pops (heldAfter (pops j) (size j) held) js
+  pub rooms-cons : (held : List ℕ) (j : ℕ) (js : List ℕ)
+      → rooms size pops held (j ∷ js) ≡ roomAt (pops j) (size j) held ∷ rooms size pops (heldAfter (pops j) (size j) held) js
   unfolding rooms
   rooms-cons held j js = refl
 
-  pub rooms-append : (held js ks : List ℕ) → rooms size pops held (js ++ ks) ≡ rooms size pops held js ++ rooms size pops (heldAfterAll size pops held js) ks
+  pub rooms-append : (held js ks : List ℕ)
+      → rooms size pops held (js ++ ks) ≡ rooms size pops held js ++ rooms size pops (heldAfterAll size pops held js) ks
   unfolding rooms heldAfterAll
   rooms-append held [] ks = refl
   rooms-append held (j ∷ js) ks = ap (λ l. roomAt (pops j) (size j) held ∷ l) (rooms-append (heldAfter (pops j) (size j) held) js ks)

@@ -14,7 +14,8 @@ use Rattle.order_laws.specs.Subtrees.{siblingsOf}
 use Rattle.order_laws.proofs.Subtrees.{children-asc}
 
 -- siblings stand by descending key of the mark, and of one key the lower number first
-pub siblings-by-mark : (mark n : ℕ) (A : Pattern) (j : ℕ) → Sorted (λ c. siblingKey mark (rowCount A j) (rowCount A c) (W mark n A c)) (siblingsOf mark n A j)
+pub siblings-by-mark : (mark n : ℕ) (A : Pattern) (j : ℕ)
+    → Sorted (λ c. siblingKey mark (rowCount A j) (rowCount A c) (W mark n A c)) (siblingsOf mark n A j)
 unfolding siblingsOf
 siblings-by-mark mark n A j = sort-sorted _ 0 (childrenOf n A j) (children-asc (parent A) n j)
 

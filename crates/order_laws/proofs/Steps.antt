@@ -71,7 +71,8 @@ unfolding columnAt
 column-in order s l u = at-place order (s - 1) (omega arith)
 
 -- and no other step
-pub one-step : (order : List ℕ) → Distinct order → (s k : ℕ) → 1 ≤ s → s ≤ length order → 1 ≤ k → k ≤ length order → columnAt order s ≡ columnAt order k → s ≡ k
+pub one-step : (order : List ℕ) → Distinct order → (s k : ℕ) → 1 ≤ s → s ≤ length order → 1 ≤ k → k ≤ length order
+    → columnAt order s ≡ columnAt order k → s ≡ k
 unfolding columnAt
 one-step order d s k a b c f e = omega (arith, places-apart order d (s - 1) (k - 1) (omega arith) (omega arith) e)
 

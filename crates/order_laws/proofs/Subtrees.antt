@@ -45,7 +45,10 @@ is-under par (suc f) j x e = go (test (eqb x j)) (test (eqb (par x) 0)) (λ q. i
 module _ {par : ℕ → ℕ} {n : ℕ} (tree : Tree par n) where
   -- a column other than 0 has the children that name it
   pub children-of : (j x : ℕ) → 0 < j → (x ∈ children par n j) ↔ (par x ≡ j)
-  children-of j x z = (λ m. children-are par n j x .0 m .2, λ e. children-are par n j x .1 (positive x e, omega (arith, tree .above x (omega arith), tree .within x), e))
+  children-of j x z = (
+    λ m. children-are par n j x .0 m .2,
+    λ e. children-are par n j x .1 (positive x e, omega (arith, tree .above x (omega arith), tree .within x), e),
+  )
     where
       positive : (x : ℕ) → par x ≡ j → 1 ≤ x
       positive zero e = absurd (omega (arith, tree .none))

@@ -62,7 +62,8 @@ module _ {par : ℕ → ℕ} {n : ℕ} (tree : Tree par n) (order : List ℕ) (o
   -- the updates held are those of the columns done whose parent is not done
   pub held-are : (s x : ℕ) → s ≤ length order → (x ∈ heldColumns par pops order s) ↔ ((x ∈ take s order) × (0 < par x) × (¬ (par x ∈ take s order)))
   held-are s x h = rw (held-waiting s h) (
-    λ m. let (a, b, c) = waiting-are par (reverse (take s order)) x .0 m in (reversed-mem (take s order) .0 a, b, λ k. c (reversed-mem (take s order) .1 k)),
+    λ m. let (a, b, c) = waiting-are par (reverse (take s order)) x .0 m in
+        (reversed-mem (take s order) .0 a, b, λ k. c (reversed-mem (take s order) .1 k)),
     λ (a, b, c). waiting-are par (reverse (take s order)) x .1 (reversed-mem (take s order) .1 a, b, λ k. c (reversed-mem (take s order) .0 k)),
   )
 
@@ -71,13 +72,15 @@ module _ {par : ℕ → ℕ} {n : ℕ} (tree : Tree par n) (order : List ℕ) (o
     pub step-enough : pops (columnAt order (suc s)) ≤ length (heldColumns par pops order s)
     step-enough =
         rw (held-waiting s (omega arith))
-        (waiting-enough tree (reverse (take s order)) (columnAt order (suc s)) (range s h .0) (ordered-ready tree order o s h) (distinct-so-far s) (parent-later s h))
+        (waiting-enough tree (reverse (take s order)) (columnAt order (suc s)) (range s h .0) (ordered-ready tree order o s h) (distinct-so-far s)
+        (parent-later s h))
 
     -- and those on top are its column's children
     pub step-takes : (x : ℕ) → (x ∈ take (pops (columnAt order (suc s))) (heldColumns par pops order s)) ↔ (par x ≡ columnAt order (suc s))
     step-takes x =
         rw (held-waiting s (omega arith))
-        (waiting-taken tree (reverse (take s order)) (columnAt order (suc s)) (range s h .0) (ordered-ready tree order o s h) (distinct-so-far s) (parent-later s h) x)
+        (waiting-taken tree (reverse (take s order)) (columnAt order (suc s)) (range s h .0) (ordered-ready tree order o s h) (distinct-so-far s)
+        (parent-later s h) x)
 
   -- at the end nothing is held
   pub held-none : heldColumns par pops order (length order) ≡ []

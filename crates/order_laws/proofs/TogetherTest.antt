@@ -59,7 +59,9 @@ module _ {par : ℕ → ℕ} {n : ℕ} (tree : Tree par n) (order : List ℕ) (e
       inside x m = under-test tree j x .0 (every-all (isUnder par n j) (slice (s - w) s order) .0 e x m)
 
       all : (x : ℕ) → x ∈ subtreeOf par n j → x ∈ slice (s - w) s order
-      all = all-there (slice (s - w) s order) (subtreeOf par n j) (slice-distinct order (s - w) s once) (λ i m. in-subtree i .1 (inside i m)) (omega (arith, fits, length-slice (s - w) s order u))
+      all =
+          all-there (slice (s - w) s order) (subtreeOf par n j) (slice-distinct order (s - w) s once) (λ i m. in-subtree i .1 (inside i m))
+          (omega (arith, fits, length-slice (s - w) s order u))
 
       some : 0 < w
       some = nonempty (subtreeOf par n j) (in-subtree j .1 top)
@@ -72,17 +74,21 @@ module _ {par : ℕ → ℕ} {n : ℕ} (tree : Tree par n) (order : List ℕ) (e
   unfolding j w
   piece-test p =
       let part = slice (p .from) s order in
-      let count = same-length part (subtreeOf par n j) (slice-distinct order (p .from) s once) (subtree-distinct par n j) (λ i m. in-subtree i .1 (p .all i .0 m)) (λ i m. p .all i .1 (in-subtree i .0 m)) in
+      let count = same-length part (subtreeOf par n j) (slice-distinct order (p .from) s once) (subtree-distinct par n j)
+      (λ i m. in-subtree i .1 (p .all i .0 m)) (λ i m. p .all i .1 (in-subtree i .0 m)) in
       let long = length-slice (p .from) s order u in
       let here : s - w ≡ p .from = omega (arith, count, long, p .earlier) in
       (omega (arith, count, long), rw here (every-all (isUnder par n j) part .1 (λ x m. under-test tree j x .1 (p .all x .0 m))))
 
   -- the steps of the subtree whose top is done at step s: the test and the rule agree
-  pub together-test : ((leb (length (subtreeOf par n (columnAt order s))) s && every (isUnder par n (columnAt order s)) (slice (s - length (subtreeOf par n (columnAt order s))) s order)) ≡ true) ↔ Together par order s
+  pub together-test : ((leb (length (subtreeOf par n (columnAt order s))) s && every (isUnder par n (columnAt order s))
+      (slice (s - length (subtreeOf par n (columnAt order s))) s order)) ≡ true) ↔ Together par order s
   unfolding j w
   together-test = (
-    λ e. let (a, b) = and-both (leb w s) (every (isUnder par n j) (slice (s - w) s order)) e in piece-together par order s l u once (test-piece (leb-true w s a) b),
-    λ t. let (a, b) = piece-test (together-piece par order s l u (λ x v. each x .1 (under-range tree j x (range .0) (range .1) v)) t) in rw (le-leb w s a) b,
+    λ e. let (a, b) = and-both (leb w s) (every (isUnder par n j) (slice (s - w) s order)) e in
+        piece-together par order s l u once (test-piece (leb-true w s a) b),
+    λ t. let (a, b) = piece-test (together-piece par order s l u (λ x v. each x .1 (under-range tree j x (range .0) (range .1) v)) t) in
+        rw (le-leb w s a) b,
   )
 
   pub scattered-test : (scattered par n order s ≡ false) ↔ Together par order s

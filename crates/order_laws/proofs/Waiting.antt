@@ -43,7 +43,8 @@ waiting-are par done x = (
   λ (a, c, d). keep-into (λ y. missing done (par y)) done a (missing-yes done (par x) c d),
 )
 
-module _ {par : ℕ → ℕ} {n : ℕ} (tree : Tree par n) (done : List ℕ) (j : ℕ) (pos : 0 < j) (ready : Ready par done j) (distinct : Distinct done) (later : ¬ (par j ∈ done)) where
+module _ {par : ℕ → ℕ} {n : ℕ} (tree : Tree par n) (done : List ℕ) (j : ℕ) (pos : 0 < j) (ready : Ready par done j) (distinct : Distinct done)
+    (later : ¬ (par j ∈ done)) where
   open Ready ready using (inside, before, split, all, new)
 
   waits : List ℕ → ℕ → Bool
@@ -92,25 +93,31 @@ module _ {par : ℕ → ℕ} {n : ℕ} (tree : Tree par n) (done : List ℕ) (j 
   -- what waited: the children of j, and what waits still
   waited : waiting par done ≡ keep isChild inside ++ keep (waits done) before
   unfolding waiting waits
-  waited = ap (keep (waits done)) split ∙ (keep-append (waits done) inside before ∙ ap (λ l. l ++ keep (waits done) before) (keep-same (waits done) isChild inside inside-before))
+  waited =
+      ap (keep (waits done)) split ∙ (keep-append (waits done) inside before ∙ ap (λ l. l ++ keep (waits done) before)
+      (keep-same (waits done) isChild inside inside-before))
 
   still : keep (waits (j ∷ done)) done ≡ keep (waits done) before
   still =
       ap (keep (waits (j ∷ done))) split
       ∙ (keep-append (waits (j ∷ done)) inside before
-      ∙ (ap (λ l. l ++ keep (waits (j ∷ done)) before) (keep-none (waits (j ∷ done)) inside inside-after) ∙ keep-same (waits (j ∷ done)) (waits done) before before-after))
+      ∙ (ap (λ l. l ++ keep (waits (j ∷ done)) before) (keep-none (waits (j ∷ done)) inside inside-after) ∙ keep-same (waits (j ∷ done)) (waits done)
+      before before-after))
 
   waits-then : waiting par (j ∷ done) ≡ pushedOn par j (keep (waits done) before)
   unfolding waiting waits missing
   waits-then = go (test (eqb (par j) 0))
     where
       go : Test (eqb (par j) 0) → keep (waits (j ∷ done)) (j ∷ done) ≡ pushedOn par j (keep (waits done) before)
-      go (passes e) = keep-no (waits (j ∷ done)) j done (rw (eqb-true (par j) 0 e, missing)) ∙ (still ∙ sym (pushed-root par j (keep (waits done) before) (eqb-true (par j) 0 e)))
+      go (passes e) =
+          keep-no (waits (j ∷ done)) j done (rw (eqb-true (par j) 0 e, missing))
+          ∙ (still ∙ sym (pushed-root par j (keep (waits done) before) (eqb-true (par j) 0 e)))
       go (fails e) =
           let z : par j ≢ 0 = eqb-false (par j) 0 e in
           let h : 0 < par j = omega arith in
           let out : (par j ≡ j) ⊎ (par j ∈ done) → ⊥ = λ c. elim c [ inl q ↦ omega (arith, tree .above j h) | inr m ↦ later m ] in
-          keep-yes (waits (j ∷ done)) j done (missing-yes (j ∷ done) (par j) h (λ m. out (List·Memᴰ·cases-cons m))) ∙ (ap (λ l. j ∷ l) still ∙ sym (pushed-update par j (keep (waits done) before) h))
+          keep-yes (waits (j ∷ done)) j done (missing-yes (j ∷ done) (par j) h (λ m. out (List·Memᴰ·cases-cons m)))
+          ∙ (ap (λ l. j ∷ l) still ∙ sym (pushed-update par j (keep (waits done) before) h))
 
   taken-are : (x : ℕ) → (x ∈ keep isChild inside) ↔ (par x ≡ j)
   unfolding isChild
@@ -123,7 +130,9 @@ module _ {par : ℕ → ℕ} {n : ℕ} (tree : Tree par n) (done : List ℕ) (j 
 
   -- off go as many as j has children
   pub waiting-next : waiting par (j ∷ done) ≡ pushedOn par j (drop (length (children par n j)) (waiting par done))
-  waiting-next = waits-then ∙ ap (pushedOn par j) (sym (ap (drop (length (children par n j))) waited ∙ drop-at (keep isChild inside) (keep (waits done) before) (length (children par n j)) taken-count))
+  waiting-next =
+      waits-then ∙ ap (pushedOn par j) (sym (ap (drop (length (children par n j))) waited ∙ drop-at (keep isChild inside) (keep (waits done) before)
+      (length (children par n j)) taken-count))
 
   -- and those are its children
   pub waiting-taken : (x : ℕ) → (x ∈ take (length (children par n j)) (waiting par done)) ↔ (par x ≡ j)

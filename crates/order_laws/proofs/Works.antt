@@ -54,7 +54,8 @@ module _ {n : ℕ} {A : Pattern} (below : Below n A) where
     subtree-children = deeper ∙ steps-suc mark (rowCount A) (childrenOf n A) n j
 
     -- W: the children's in turn, each above the updates of the earlier ones; then the front over the last one's update
-    pub W-children : W mark n A j ≡ max (inTurn (rowCount A) (W mark n A) 0 (siblingsOf mark n A j)) (butLast (rowCount A) (siblingsOf mark n A j) + t (suc (rowCount A j)))
+    pub W-children : W mark n A j ≡ max (inTurn (rowCount A) (W mark n A) 0 (siblingsOf mark n A j)) (butLast (rowCount A) (siblingsOf mark n A j) + t
+        (suc (rowCount A j)))
     unfolding siblingsOf W arranged alone
     W-children = ap (peakOf (rowCount A) (popsOf n A)) deeper ∙ need-children mark (rowCount A) (childrenOf n A) kin-of n j l (omega arith)
 
@@ -73,10 +74,12 @@ module _ {n : ℕ} {A : Pattern} (below : Below n A) where
     -- each once
     pub subtree-once : Distinct (subtreeSteps mark n A j)
     unfolding subtreeSteps
-    subtree-once = valid-distinct (parent A) (stepsOf mark (rowCount A) (childrenOf n A) n j) [] (order-of .valid [] (λ x s m. List·Memᴰ·not-nil m)) .0
+    subtree-once =
+        valid-distinct (parent A) (stepsOf mark (rowCount A) (childrenOf n A) n j) [] (order-of .valid [] (λ x s m. List·Memᴰ·not-nil m)) .0
 
     -- so there are as many under every mark
     pub subtree-count : length (subtreeSteps mark n A j) ≡ length (subtreeOf (parent A) n j)
     subtree-count =
         same-length (subtreeSteps mark n A j) (subtreeOf (parent A) n j) subtree-once (subtree-distinct (parent A) n j)
-        (λ i m. subtree-is (tree-of below) j i l u .1 (subtree-columns i .0 m)) (λ i m. subtree-columns i .1 (subtree-is (tree-of below) j i l u .0 m))
+        (λ i m. subtree-is (tree-of below) j i l u .1 (subtree-columns i .0 m))
+        (λ i m. subtree-columns i .1 (subtree-is (tree-of below) j i l u .0 m))

@@ -8,7 +8,8 @@ use Rattle.papers.specs.Job.{Job, pattern}
 use Rattle.papers.specs.Tree.{parent}
 use Rattle.papers.specs.Key.{keyOf}
 use Rattle.papers.specs.Plan.{Plan, columnsIn, popsIn, planOf, planBytes}
-use Rattle.papers.specs.Refusals.{answer, Verdict, Outcome, outcome, jobTests, Lent, allZero, holding, lengthsTest, factorRowsTest, peakTest, bytesTest}
+use Rattle.papers.specs.Refusals.{answer, Verdict, Outcome, outcome, jobTests, Lent, allZero, holding, lengthsTest}
+use Rattle.papers.specs.Refusals.{factorRowsTest, peakTest, bytesTest}
 
 -- ---- a key: 1 to 6, then 10
 
@@ -39,7 +40,8 @@ pub record AnalysisCall : Type 0 where
 -- the parents, order, pops and lists of a plan, in their slices
 unfoldable pub holdingPlan : Job → Plan → Lent → Lent
 holdingPlan job plan lent =
-    holding (map (parent (pattern job)) (upTo (job .n))) (columnsIn (plan .steps)) (popsIn (plan .steps)) (startsFrom 0 (plan .lists)) (flat (plan .lists)) lent
+    holding (map (parent (pattern job)) (upTo (job .n))) (columnsIn (plan .steps)) (popsIn (plan .steps)) (startsFrom 0 (plan .lists))
+    (flat (plan .lists)) lent
 
 -- a job's, then 7, 8, 9
 unfoldable pub analysisTests : List (AnalysisCall → Verdict)

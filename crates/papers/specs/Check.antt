@@ -13,7 +13,8 @@ use Rattle.papers.specs.Tree.{parent, isUnder, subtreeOf}
 use Rattle.papers.specs.Order.{columnAt, popsOf, peak}
 use Rattle.papers.specs.Key.{keyOf}
 use Rattle.papers.specs.Plan.{Plan, columnsIn, popsIn, Read, got, bad, readPlan}
-use Rattle.papers.specs.Refusals.{answer, zeroed, Verdict, passed, refused, refusedIf, refusedAt, Outcome, outcome, jobTests, Lent, allZero, lengthsTest, factorRowsTest, peakTest}
+use Rattle.papers.specs.Refusals.{answer, zeroed, Verdict, passed, refused, refusedIf, refusedAt, Outcome, outcome, jobTests}
+use Rattle.papers.specs.Refusals.{Lent, allZero, lengthsTest, factorRowsTest, peakTest}
 use Rattle.papers.specs.Analysis.{holdingPlan}
 
 -- what is handed over for a check, and lent
@@ -66,7 +67,8 @@ subtreeTest job plan = refusedAt 18 (least (scattered (parent (pattern job)) (jo
 -- 19: the first step that pops more or fewer updates than its column has children
 unfoldable pub popsTest : Job → Plan → Verdict
 popsTest job plan =
-    refusedAt 19 (least (λ s. not (eqb (nth (popsIn (plan .steps)) s) (popsOf (job .n) (pattern job) (columnAt (columnsIn (plan .steps)) s)))) (job .n)) 0 zeroed
+    refusedAt 19 (least (λ s. not (eqb (nth (popsIn (plan .steps)) s) (popsOf (job .n) (pattern job) (columnAt (columnsIn (plan .steps)) s))))
+    (job .n)) 0 zeroed
 
 -- the peak of the plan's order
 unfoldable pub truePeak : Job → Plan → ℕ

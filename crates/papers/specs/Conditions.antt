@@ -9,7 +9,8 @@ use mathlib.Core.Bool.{true, false}
 use mathlib.Core.List.{List, [], _∷_, _++_}
 use lib.Dec.{leb}
 use lib.ListN.{length, getD, take}
-use Rattle.papers.specs.Bounds.{maxColumns, maxLimit, workLength, maxGroups, maxPeak, maxDigits, inputBytes, programColumns, programRows, listingBytes}
+use Rattle.papers.specs.Bounds.{maxColumns, maxLimit, workLength, maxGroups, maxPeak, maxDigits, inputBytes}
+use Rattle.papers.specs.Bounds.{programColumns, programRows, listingBytes}
 use Rattle.papers.specs.Lists.{_∈_, nth, flat}
 use Rattle.papers.specs.Job.{Job, pattern, start, columnOf}
 use Rattle.papers.specs.Fill.{R}
@@ -335,7 +336,8 @@ pub data StepFault (call : RunCall) (s : ℕ) : ℕ → Type 0 where
   unknown-column : ¬ Known call s → StepFault call s 14
   too-many-pops : Known call s → length (heldAt call s) < popsAt call s → StepFault call s 21
   row-outside : Known call s → popsAt call s ≤ length (heldAt call s) → ¬ AllFit call s → StepFault call s 22
-  over-room : Known call s → popsAt call s ≤ length (heldAt call s) → AllFit call s → call .room < roomIn call s (stateAfter call (s - 1)) → StepFault call s 23
+  over-room : Known call s → popsAt call s ≤ length (heldAt call s) → AllFit call s → call .room < roomIn call s (stateAfter call (s - 1))
+      → StepFault call s 23
 
 -- 14, 21, 22, 23 by the first step at fault; the count is what the state before it has as greatest
 abbrev pub BadStep : Condition RunCall
@@ -355,7 +357,8 @@ runLists call = record { n = call .n; starts = call .starts; rows = call .rows }
 
 -- a run: 1, 4, 5 or 6, 7, the steps, 24
 abbrev pub runConditions : List (Condition RunCall)
-runConditions = (λ call. ColumnsOver (call .n)) ∷ (λ call. BadStarts (runLists call)) ∷ (λ call. BadRow (runLists call)) ∷ RunShort ∷ BadStep ∷ UpdatesLeft ∷ []
+runConditions =
+    (λ call. ColumnsOver (call .n)) ∷ (λ call. BadStarts (runLists call)) ∷ (λ call. BadRow (runLists call)) ∷ RunShort ∷ BadStep ∷ UpdatesLeft ∷ []
 
 -- ---- 25 to 27: the job text, and the solver's call
 

@@ -42,7 +42,11 @@ unfoldable pub readFrom : ℕ → Bool → List ℕ → ℕ → Number
 readFrom zero isFirst s at = elim (ltb at (length s)) [ true ↦ TooLong | false ↦ Ended ]
 readFrom (suc k) isFirst s at =
     elim (ltb at (length s)) [
-      | true ↦ elim (ltb (getD s at 0) 128) [ true ↦ lastGroup isFirst (getD s at 0) at | false ↦ over (getD s at 0 - 128) (readFrom k false s (at + 1)) ]
+      | true ↦ elim (ltb (getD s at 0) 128) [
+        | true ↦ lastGroup isFirst (getD s at 0) at
+        | false ↦ over (getD s at 0 - 128)
+            (readFrom k false s (at + 1))
+      ]
       | false ↦ Ended
     ]
 

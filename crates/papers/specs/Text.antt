@@ -158,7 +158,11 @@ headTest input =
 -- the fault of column j's line: 25 missing or bad text, then 26 more than 2,048 pattern rows with those of the lines before; 0 for none
 unfoldable pub lineFault : List ℕ → ℕ → ℕ
 lineFault text j =
-    elim (isRowLine (numbersAt text (suc j))) [ false ↦ 25 | true ↦ elim (ltb programRows (length (flat (textLists text j)))) [ true ↦ 26 | false ↦ 0 ] ]
+    elim (isRowLine (numbersAt text (suc j))) [
+      | false ↦ 25
+      | true ↦ elim (ltb programRows (length (flat (textLists text j))))
+          [ true ↦ 26 | false ↦ 0 ]
+    ]
 
 -- the first of the n row lines at fault; column j's is line j + 1
 unfoldable pub rowLinesTest : Input → Verdict
@@ -237,7 +241,11 @@ jobPrinted job a = elim (a .number) [ zero ↦ listingOf job (a .count) | suc k 
 -- what the program prints: a text's faults come before its job's
 unfoldable pub programPrints : Input → List ℕ
 programPrints input =
-    elim (first textTests input) [ passed ↦ jobPrinted (textJob (input .text)) (analysed (textJob (input .text)) buffers .answer) | refused a leaves ↦ refusalLine a ]
+    elim (first textTests input) [
+      | passed ↦ jobPrinted (textJob (input .text)) (analysed (textJob (input .text)) buffers .answer)
+      | refused a leaves ↦
+          refusalLine a
+    ]
 
 -- ---- the listing into a lent slice: 7 where it is shorter than any listing may need. A refusal of the text or of its job is what is printed:
 -- the answer is then 0, and the count the bytes of that line.

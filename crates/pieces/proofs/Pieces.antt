@@ -16,18 +16,32 @@ use Rattle.papers.specs.Tree.{parent, t, children, isUnder, subtreeOf}
 use Rattle.papers.specs.Room.{topUpdate, roomAt, heldAfter, rooms, peakOf}
 use Rattle.papers.specs.Order.{columnAt, siblingKey, alone, arranged, stepsOf, orderOf, roomsOf, peak}
 use Rattle.papers.specs.Key.{gapsOf, listNumbers, listsNumbers, listsOf, keyNumbers, keyOf}
-use Rattle.papers.specs.Plan.{planOf, stepNumbers, planNumbers, planBytes, then, onto, inField, field, readStep, readSteps, readRows, readList, readLists, atEnd, readPlan}
-use Rattle.papers.specs.Refusals.{answer, Lent, first, refusedIf, refusedAt, outcome, columnsTest, markTest, limitTest, falls, startsTest, rowFault, rowsFault, columnFault, rowsTest, jobTests, allZero, holding, lengthsTest, factorRowsTest, peakTest, bytesTest}
+use Rattle.papers.specs.Plan.{planOf, stepNumbers, planNumbers, planBytes, then, onto, inField, field, readStep}
+use Rattle.papers.specs.Plan.{readSteps, readRows, readList, readLists, atEnd, readPlan}
+use Rattle.papers.specs.Refusals.{answer, Lent, first, refusedIf, refusedAt, outcome, columnsTest, markTest, limitTest}
+use Rattle.papers.specs.Refusals.{falls, startsTest, rowFault, rowsFault, columnFault, rowsTest, jobTests, allZero, holding}
+use Rattle.papers.specs.Refusals.{lengthsTest, factorRowsTest, peakTest, bytesTest}
 use Rattle.papers.specs.Analysis.{holdingPlan, analysisTests, analysisDone, analysed, planTests, planDone, planZero, planWritten}
-use Rattle.papers.specs.Check.{keyDiffers, keyTest, planRead, readTest, repeated, repeatTest, listTest, scattered, subtreeTest, popsTest, truePeak, declaredTest, ofPlan, checkTests, checkDone, checked}
-use Rattle.papers.specs.Text.{isDigit, startingWith, cut, afterLines, onWord, wordsOf, isDecimal, allDecimal, valueOf, numbersOf, numbersAt, headOf, rowsOfLine, isRowLine, textHead, textLists, textJob, inputTest, headTest, lineFault, rowLinesTest, endTest, textTests, digitsOf, decimalOf, printed, refusalLine, stepLines, listingOf, buffers, jobPrinted, programPrints}
+use Rattle.papers.specs.Check.{keyDiffers, keyTest, planRead, readTest, repeated, repeatTest, listTest, scattered}
+use Rattle.papers.specs.Check.{subtreeTest, popsTest, truePeak, declaredTest, ofPlan, checkTests, checkDone, checked}
+use Rattle.papers.specs.Text.{isDigit, startingWith, cut, afterLines, onWord, wordsOf, isDecimal, allDecimal, valueOf}
+use Rattle.papers.specs.Text.{numbersOf, numbersAt, headOf, rowsOfLine, isRowLine, textHead, textLists, textJob}
+use Rattle.papers.specs.Text.{inputTest, headTest, lineFault, rowLinesTest, endTest, textTests, digitsOf, decimalOf}
+use Rattle.papers.specs.Text.{printed, refusalLine, stepLines, listingOf, buffers, jobPrinted, programPrints}
 use Rattle.papers.specs.declared.Answer.{Answer}
 use Rattle.pieces.proofs.Worked.{none, pair, pairBytes, loose, dense, filling, crossed, star, nine, nineText, nineListing}
 
 -- slices of the fixed lengths, and 64 factor rows
 lentFor : ℕ → Lent
 lentFor n =
-    record { parents = replicate n 0; order = replicate n 0; pops = replicate n 0; factorStarts = replicate (n + 1) 0; factorRows = replicate 64 0; work = replicate (workLength n) 0 }
+    record {
+      parents = replicate n 0;
+      order = replicate n 0;
+      pops = replicate n 0;
+      factorStarts = replicate (n + 1) 0;
+      factorRows = replicate 64 0;
+      work = replicate (workLength n) 0;
+    }
 
 pub data Piece : Type 0 where
   -- a number's bytes
@@ -49,7 +63,15 @@ sameAnswer : Answer → Answer → Bool
 sameAnswer a b = eqb (a .number) (b .number) && eqb (a .place) (b .place) && eqb (a .count) (b .count)
 
 pub holds : Piece → Bool
-unfolding lentFor sameAnswer flatMap upTo head0 member same every keep sum greatest merge insert sort least flat startsFrom thenZeros groupsOf bytesOf encode over lastGroup readFrom readNumber start columnOf gather lists R parent t children isUnder subtreeOf topUpdate roomAt heldAfter rooms peakOf columnAt siblingKey alone arranged stepsOf orderOf peak gapsOf listNumbers listsNumbers listsOf keyNumbers keyOf planOf stepNumbers planNumbers planBytes then onto inField field readStep readSteps readRows readList readLists atEnd readPlan first refusedIf refusedAt outcome columnsTest markTest limitTest falls startsTest rowFault rowsFault columnFault rowsTest jobTests allZero holding lengthsTest factorRowsTest peakTest bytesTest holdingPlan analysisTests analysisDone analysed planTests planDone planZero planWritten keyDiffers keyTest planRead readTest repeated repeatTest listTest scattered subtreeTest popsTest truePeak declaredTest ofPlan checkTests checkDone checked roomsOf isDigit startingWith cut afterLines onWord wordsOf isDecimal allDecimal valueOf numbersOf numbersAt headOf rowsOfLine isRowLine textHead textLists textJob inputTest headTest lineFault rowLinesTest endTest textTests digitsOf decimalOf printed refusalLine stepLines listingOf buffers jobPrinted programPrints
+unfolding lentFor sameAnswer flatMap upTo head0 member same every keep sum greatest merge insert sort least flat startsFrom thenZeros groupsOf bytesOf
+    encode over lastGroup readFrom readNumber start columnOf gather lists R parent t children isUnder subtreeOf topUpdate roomAt heldAfter rooms
+    peakOf columnAt siblingKey alone arranged stepsOf orderOf peak gapsOf listNumbers listsNumbers listsOf keyNumbers keyOf planOf stepNumbers
+    planNumbers planBytes then onto inField field readStep readSteps readRows readList readLists atEnd readPlan first refusedIf refusedAt outcome
+    columnsTest markTest limitTest falls startsTest rowFault rowsFault columnFault rowsTest jobTests allZero holding lengthsTest factorRowsTest
+    peakTest bytesTest holdingPlan analysisTests analysisDone analysed planTests planDone planZero planWritten keyDiffers keyTest planRead readTest
+    repeated repeatTest listTest scattered subtreeTest popsTest truePeak declaredTest ofPlan checkTests checkDone checked roomsOf isDigit startingWith
+    cut afterLines onWord wordsOf isDecimal allDecimal valueOf numbersOf numbersAt headOf rowsOfLine isRowLine textHead textLists textJob inputTest
+    headTest lineFault rowLinesTest endTest textTests digitsOf decimalOf printed refusalLine stepLines listingOf buffers jobPrinted programPrints
 holds (number x bytes) = same (bytesOf x) bytes
 holds (analysis job a) = sameAnswer (analysed job (lentFor (job .n)) .answer) a
 holds (order job columns) = same (analysed job (lentFor (job .n)) .lent .order) columns

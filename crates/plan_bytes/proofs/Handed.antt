@@ -1,4 +1,5 @@
--- The parts of the slices of an analysis that is done are the steps and the lists of the job's plan, so they can be written, and what is written is that
+-- The parts of the slices of an analysis that is done are the steps and the lists of the job's plan, so they can be written, and what is written is
+-- that
 -- plan.
 -- Assumes nothing.
 use mathlib.Core.Path.{_≡_, refl}
@@ -20,7 +21,8 @@ use Rattle.plan_store.specs.InFront.{InFront}
 use Rattle.plan_store.specs.Beside.{storedBeside}
 use Rattle.plan_bytes.proofs.Ways.{way-stored}
 
-module _ (job : Job) (lent : Lent) {r : Answer} {after : Lent} (e : _≡_ {A = Outcome Lent} (record { answer = r; lent = after }) (analysed job lent)) (z : r .number ≡ 0) where
+module _ (job : Job) (lent : Lent) {r : Answer} {after : Lent} (e : _≡_ {A = Outcome Lent} (record { answer = r; lent = after }) (analysed job lent))
+    (z : r .number ≡ 0) where
   lists-again : listsOf (job .n) (columnOf (startsFrom 0 (planOf job .lists)) (flat (planOf job .lists))) ≡ planOf job .lists
   lists-again = rw (done-fit job lent e z .all-lists) at (laid-lists (planOf job .lists))
 
@@ -29,7 +31,8 @@ module _ (job : Job) (lent : Lent) {r : Answer} {after : Lent} (e : _≡_ {A = O
   done-in-front =
       let parts = done-parts job lent e z in
       let fit = done-fit job lent e z in
-      let tests = lists-iff (job .n) (startsFrom 0 (planOf job .lists)) (flat (planOf job .lists)) .1 (laid-pass (job .n) (planOf job .lists) (fit .all-lists) (fit .lists)) in
+      let tests = lists-iff (job .n) (startsFrom 0 (planOf job .lists)) (flat (planOf job .lists)) .1
+      (laid-pass (job .n) (planOf job .lists) (fit .all-lists) (fit .lists)) in
       rw (done-peak job lent e z)
       (record {
         order-long = parts .order-long;
@@ -38,13 +41,22 @@ module _ (job : Job) (lent : Lent) {r : Answer} {after : Lent} (e : _≡_ {A = O
         rows-long = parts .rows-long;
         writable =
             rw (parts .columns, parts .popped, parts .begins, parts .listed)
-            (record { passes = done-valid job lent e z; all-steps = length-columns fit; all-pops = length-pops fit; starts-pass = tests .0; rows-pass = tests .1; declared = fit .peak });
+            (record {
+              passes = done-valid job lent e z;
+              all-steps = length-columns fit;
+              all-pops = length-pops fit;
+              starts-pass = tests .0;
+              rows-pass = tests .1;
+              declared = fit .peak;
+            });
         planned = rw (parts .columns, parts .popped, parts .begins, parts .listed, steps-again (planOf job .steps), lists-again);
       })
 
 -- what is then stored beside it is the outcome
-pub done-stored : (job : Job) (slices : PlanLent) {r : Answer} {after : Lent} → _≡_ {A = Outcome Lent} (record { answer = r; lent = after }) (analysed job (slices .analysis)) → r .number ≡ 0
+pub done-stored : (job : Job) (slices : PlanLent) {r : Answer} {after : Lent}
+    → _≡_ {A = Outcome Lent} (record { answer = r; lent = after }) (analysed job (slices .analysis)) → r .number ≡ 0
     → {found : Outcome PlanLent} → Alike (slices .analysis) after
     → found ≡ storedBeside (planBytes job (planOf job)) (record { analysis = after; bytes = slices .bytes }) → found ≡ planWritten job slices
 done-stored job slices {after = after} e z alike f =
-    let (p, count, holds) = analysis-done job (slices .analysis) e z in way-stored job slices p holds (zeros-alike (slices .analysis) after alike refl) f
+    let (p, count, holds) = analysis-done job (slices .analysis) e z in
+    way-stored job slices p holds (zeros-alike (slices .analysis) after alike refl) f

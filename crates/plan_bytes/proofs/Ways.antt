@@ -1,4 +1,5 @@
--- The outcome of writing a plan by the outcome of the analysis: what that refuses is refused here, with the same answer; where it is done, the room for
+-- The outcome of writing a plan by the outcome of the analysis: what that refuses is refused here, with the same answer; where it is done, the room
+-- for
 -- the bytes decides.
 -- Assumes nothing.
 use Prim.Native.Nat.{ℕ, _<_, _≤_}
@@ -11,7 +12,8 @@ use Rattle.papers.specs.Lists.{zeros, thenZeros}
 use Rattle.papers.specs.Job.{Job}
 use Rattle.papers.specs.Plan.{planOf, planBytes}
 use Rattle.papers.specs.Refusals.{answer, untouched, zeroed, Leaves, Verdict, passed, refused, first, Outcome, Lent, allZero, bytesTest}
-use Rattle.papers.specs.Analysis.{AnalysisCall, holdingPlan, analysisTests, analysisDone, analysed, PlanLent, PlanCall, planTests, planDone, planZero, planWritten}
+use Rattle.papers.specs.Analysis.{AnalysisCall, holdingPlan, analysisTests, analysisDone, analysed, PlanLent, PlanCall}
+use Rattle.papers.specs.Analysis.{planTests, planDone, planZero, planWritten}
 use Rattle.list_laws.proofs.Tests.{below-or}
 use Rattle.job_laws.proofs.Firsts.{first-append-passed, first-append-refused, first-map, first-last, over-refuses, over-passes-iff}
 use Rattle.job_laws.proofs.Outcomes.{outcome-untouched, outcome-zeroed, outcome-done}
@@ -33,12 +35,14 @@ module _ (job : Job) (slices : PlanLent) where
 
   -- ---- the analysis refuses
 
-  refused-on : {a : Answer} {l : Leaves} → first analysisTests (record { job = job; lent = slices .analysis }) ≡ refused a l → first planTests (record { job = job; slices = slices }) ≡ refused a l
+  refused-on : {a : Answer} {l : Leaves} → first analysisTests (record { job = job; lent = slices .analysis }) ≡ refused a l
+      → first planTests (record { job = job; slices = slices }) ≡ refused a l
   unfolding planTests
   refused-on e = first-append-refused _ _ call (first-map analysisOf analysisTests call ∙ e)
 
   -- 1 to 7 leave the bytes as they were, 8 and 9 leave zeros
-  pub way-refused : {r : Answer} {after : Lent} {bytes : List ℕ} → _≡_ {A = Outcome Lent} (record { answer = r; lent = after }) (analysed job (slices .analysis)) → r .number ≢ 0
+  pub way-refused : {r : Answer} {after : Lent} {bytes : List ℕ}
+      → _≡_ {A = Outcome Lent} (record { answer = r; lent = after }) (analysed job (slices .analysis)) → r .number ≢ 0
       → (r .number ≤ 7 → bytes ≡ slices .bytes) → (7 < r .number → bytes ≡ zeros (slices .bytes))
       → _≡_ {A = Outcome PlanLent} (record { answer = r; lent = record { analysis = after; bytes = bytes } }) (planWritten job slices)
   unfolding analysed analysisDone planWritten planZero
@@ -50,7 +54,8 @@ module _ (job : Job) (slices : PlanLent) where
       go (refused a untouched) q =
           let f = e ∙ outcome-untouched analysisTests analysisDone allZero (analysisOf call) (slices .analysis) q in
           let h : Leaving (refused a untouched) = rw q at (analysis-leaving (analysisOf call)) in
-          rw (same-answers f, same-lent f, early (rw (same-answers f) (h .1))) (sym (outcome-untouched planTests planDone planZero call slices (refused-on q)))
+          rw (same-answers f, same-lent f, early (rw (same-answers f) (h .1)))
+          (sym (outcome-untouched planTests planDone planZero call slices (refused-on q)))
       go (refused a zeroed) q =
           let f = e ∙ outcome-zeroed analysisTests analysisDone allZero (analysisOf call) (slices .analysis) q in
           let h : Leaving (refused a zeroed) = rw q at (analysis-leaving (analysisOf call)) in
@@ -64,20 +69,29 @@ module _ (job : Job) (slices : PlanLent) where
     last-test = first-append-passed _ _ call (first-map analysisOf analysisTests call ∙ p) ∙ first-last _ call
 
     short-way : length (slices .bytes) < length (planBytes job (planOf job))
-        → planWritten job slices ≡ record { answer = answer 10 0 (length (planBytes job (planOf job))); lent = record { analysis = allZero (slices .analysis); bytes = zeros (slices .bytes) } }
+        → planWritten job slices ≡ record {
+          answer = answer 10 0 (length (planBytes job (planOf job)));
+          lent = record { analysis = allZero (slices .analysis); bytes = zeros (slices .bytes) };
+        }
     unfolding planWritten planZero bytesTest
-    short-way h = outcome-zeroed planTests planDone planZero call slices (last-test ∙ over-refuses (length (slices .bytes)) (length written) _ zeroed h)
+    short-way h =
+        outcome-zeroed planTests planDone planZero call slices (last-test ∙ over-refuses (length (slices .bytes)) (length written) _ zeroed h)
 
     whole-way : length (planBytes job (planOf job)) ≤ length (slices .bytes)
         → planWritten job slices ≡ record {
           answer = answer 0 0 (length (planBytes job (planOf job)));
-          lent = record { analysis = holdingPlan job (planOf job) (slices .analysis); bytes = thenZeros (planBytes job (planOf job)) (slices .bytes) };
+          lent = record {
+            analysis = holdingPlan job (planOf job) (slices .analysis);
+            bytes = thenZeros (planBytes job (planOf job)) (slices .bytes);
+          };
         }
     unfolding planWritten planDone bytesTest
-    whole-way h = outcome-done planTests planDone planZero call slices (last-test ∙ over-passes-iff (length (slices .bytes)) (length written) _ zeroed .1 h)
+    whole-way h =
+        outcome-done planTests planDone planZero call slices (last-test ∙ over-passes-iff (length (slices .bytes)) (length written) _ zeroed .1 h)
 
     -- what is stored beside the analysis is the outcome
-    pub way-stored : {after : Lent} {found : Outcome PlanLent} → after ≡ holdingPlan job (planOf job) (slices .analysis) → allZero after ≡ allZero (slices .analysis)
+    pub way-stored : {after : Lent} {found : Outcome PlanLent} → after ≡ holdingPlan job (planOf job) (slices .analysis)
+        → allZero after ≡ allZero (slices .analysis)
         → found ≡ storedBeside (planBytes job (planOf job)) (record { analysis = after; bytes = slices .bytes }) → found ≡ planWritten job slices
     way-stored {after} {found} h z e = go (below-or (length (slices .bytes)) (length written))
       where

@@ -36,7 +36,8 @@ module _ {n peak : ℕ} {plan : Plan} {order pops fstarts : List ℕ} (held : Pl
   within k h = rw order-length (in-range (getD order k 0) (at-place order k h))
 
 -- ---- 16
-module _ (job : Job) (plan : Plan) {peak : ℕ} {order pops fstarts : List ℕ} (held : PlanHeld (job .n) plan peak order pops fstarts) {p : ℕ} (e : p ≡ least (repeated order) (length order)) where
+module _ (job : Job) (plan : Plan) {peak : ℕ} {order pops fstarts : List ℕ} (held : PlanHeld (job .n) plan peak order pops fstarts) {p : ℕ}
+    (e : p ≡ least (repeated order) (length order)) where
   found : p ≡ least (repeated (columnsIn (plan .steps))) (job .n)
   found = rw (order-length held, held .columns) at e
 

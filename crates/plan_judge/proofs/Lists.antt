@@ -20,9 +20,11 @@ use Rattle.list_test.specs.Lists.{PlanLists, HoldLists, FirstWrong}
 use Rattle.plan_judge.specs.Judged.{InFront, OnTree, SomeOnTree, treeTests, judgeTests, ruling}
 use Rattle.plan_judge.proofs.Rulings.{ruling-refused, decides, at-refuses, at-passes}
 
-module _ (job : Job) (valid : first jobTests job ≡ passed) (plan : Plan) {peak : ℕ} {order pops fstarts frows : List ℕ} (front : InFront (job .n) plan peak order pops fstarts frows) where
+module _ (job : Job) (valid : first jobTests job ≡ passed) (plan : Plan) {peak : ℕ} {order pops fstarts frows : List ℕ}
+    (front : InFront (job .n) plan peak order pops fstarts frows) where
   plan-lists : PlanLists (job .n) (plan .lists) fstarts frows
-  plan-lists = record { count = front .held .fit .all-lists; fit = front .held .fit .lists; starts-are = front .held .begins; rows-are = front .listed }
+  plan-lists =
+      record { count = front .held .fit .all-lists; fit = front .held .fit .lists; starts-are = front .held .begins; rows-are = front .listed }
 
   pub lists-held : HoldLists (job .n) fstarts frows
   lists-held = record { lists = plan .lists; are = plan-lists }
@@ -32,7 +34,9 @@ module _ (job : Job) (valid : first jobTests job ≡ passed) (plan : Plan) {peak
     module _ {p : ℕ} (e : FirstWrong (job .n) (pattern job) fstarts frows p) where
       pub refuses-17 : p ≢ 0 → {r : Answer} → r ≡ answer 17 p 0 → r ≡ ruling (first (judgeTests job) plan) peak
       unfolding judgeTests listTest
-      refuses-17 z q = ruling-refused peak (decides (repeatTest job ∷ []) (listTest job) _ plan (unrepeated, tt) (at-refuses 17 p (e (plan .lists) plan-lists) z)) q
+      refuses-17 z q =
+          ruling-refused peak (decides (repeatTest job ∷ []) (listTest job) _ plan (unrepeated, tt) (at-refuses 17 p (e (plan .lists) plan-lists) z))
+          q
 
       pub passes-17 : p ≡ 0 → listTest job plan ≡ passed
       unfolding listTest
@@ -59,7 +63,8 @@ pub parents-count : (f : ℕ → ℕ) (n : ℕ) {parents : List ℕ} → parents
 parents-count f n e = ap length e ∙ length-family f n
 
 -- the front of a slice in which the parents are stored
-pub parents-in-front : (f : ℕ → ℕ) (n : ℕ) (parents : List ℕ) {after : List ℕ} → n ≤ length parents → after ≡ sets parents 0 (map f (upTo n)) → take n after ≡ map f (upTo n)
+pub parents-in-front : (f : ℕ → ℕ) (n : ℕ) (parents : List ℕ) {after : List ℕ} → n ≤ length parents → after ≡ sets parents 0 (map f (upTo n))
+    → take n after ≡ map f (upTo n)
 parents-in-front f n parents h e =
     let long = length-family f n in
     rw (e, sets-eq (map f (upTo n)) parents 0 (omega arith)) (take-at (map f (upTo n)) _ n long)

@@ -19,7 +19,8 @@ use Rattle.subtree_test.specs.Steps.{EachOnce}
 use Rattle.plan_judge.specs.Judged.{OnTree}
 use Rattle.plan_judge.proofs.Helds.{order-length, pops-length, in-range, within}
 
-module _ {job : Job} {plan : Plan} {limit greatest : ℕ} {parents order pops fstarts : List ℕ} (on : OnTree job plan limit greatest parents order pops fstarts) where
+module _ {job : Job} {plan : Plan} {limit greatest : ℕ} {parents order pops fstarts : List ℕ} (on : OnTree job plan limit greatest parents order pops
+    fstarts) where
   pub below : Below (job .n) (pattern job)
   below = passed-below job (passes-iff job .0 (on .valid))
 

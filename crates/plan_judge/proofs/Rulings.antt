@@ -23,7 +23,8 @@ unfolding ruling
 ruling-passed count e q = rw e q
 
 -- the first test that refuses decides
-pub decides : {C : Type 0} (front : List (C → Verdict)) (test : C → Verdict) (behind : List (C → Verdict)) (c : C) {a : Answer} {l : Leaves} → Each (λ v. v ≡ passed) front c → test c ≡ refused a l
+pub decides : {C : Type 0} (front : List (C → Verdict)) (test : C → Verdict) (behind : List (C → Verdict)) (c : C) {a : Answer} {l : Leaves}
+    → Each (λ v. v ≡ passed) front c → test c ≡ refused a l
     → first (front ++ (test ∷ behind)) c ≡ refused a l
 decides front test behind c ps q = first-append-passed front (test ∷ behind) c (first-passed-iff front c .1 ps) ∙ first-refuses test behind c q
 
@@ -62,12 +63,21 @@ pub data Told (v : Verdict) (peak : ℕ) (r : Answer) : Type 0 where
   refusal : v ≡ refused r zeroed → r .number ≢ 0 → Told v peak r
   clean : v ≡ passed → r ≡ answer 0 0 peak → Told v peak r
 
-pub told : (job : Job) (plan : Plan) (peak : ℕ) {r : Answer} → r ≡ ruling (first (judgeTests job) plan) peak → Told (first (judgeTests job) plan) peak r
+pub told : (job : Job) (plan : Plan) (peak : ℕ) {r : Answer} → r ≡ ruling (first (judgeTests job) plan) peak
+    → Told (first (judgeTests job) plan) peak r
 unfolding ruling judgeTests treeTests repeatTest listTest subtreeTest popsTest declaredTest peakTest
 told job plan peak {r} e =
     go (first (judgeTests job) plan) refl
-    (first-each Late (judgeTests job) plan tt
-    (late-at 16 _ 0 (λ z. omega arith), (late-at 17 _ 0 (λ z. omega arith), (late-at 18 _ 0 (λ z. omega arith), (late-at 19 _ 0 (λ z. omega arith), (late-if _ _ (λ z. omega arith), (late-if _ _ (λ z. omega arith), tt)))))))
+    (first-each Late (judgeTests job) plan tt (
+      late-at 16 _ 0 (λ z. omega arith),
+      (
+        late-at 17 _ 0 (λ z. omega arith),
+        (
+          late-at 18 _ 0 (λ z. omega arith),
+          (late-at 19 _ 0 (λ z. omega arith), (late-if _ _ (λ z. omega arith), (late-if _ _ (λ z. omega arith), tt))),
+        ),
+      ),
+    ))
   where
     go : (v : Verdict) → first (judgeTests job) plan ≡ v → Late (first (judgeTests job) plan) → Told (first (judgeTests job) plan) peak r
     go passed q late = clean q (e ∙ ap (λ v. ruling v peak) q)

@@ -1,4 +1,5 @@
--- The tests of a plan whose lists are R: the passes over the slices find what the tests name; and an order that passes them takes off no more than is held.
+-- The tests of a plan whose lists are R: the passes over the slices find what the tests name; and an order that passes them takes off no more than is
+-- held.
 -- Assumes nothing.
 use Prim.Native.Nat.{ℕ, suc, _-_, _<_, _≤_}
 use mathlib.Core.Path.{_≡_, sym, ap, _∙_}
@@ -39,7 +40,8 @@ use Rattle.plan_judge.proofs.Rulings.{ruling-refused, ruling-passed, de
 use Rattle.plan_judge.proofs.Helds.{read, order-length, in-range}
 use Rattle.plan_judge.proofs.OnTrees.{below, columns-few, parents-length, same-parents, as-long, pops-as-long, once}
 
-module _ {job : Job} {plan : Plan} {limit greatest : ℕ} {parents order pops fstarts : List ℕ} (on : OnTree job plan limit greatest parents order pops fstarts) where
+module _ {job : Job} {plan : Plan} {limit greatest : ℕ} {parents order pops fstarts : List ℕ} (on : OnTree job plan limit greatest parents order pops
+    fstarts) where
   -- ---- 18
   module _ {p : ℕ} (e : p ≡ least (scattered (parentIn parents) (length parents) order) (length parents)) where
     found-18 : p ≡ least (scattered (parent (pattern job)) (job .n) (columnsIn (plan .steps))) (job .n)
@@ -56,10 +58,12 @@ module _ {job : Job} {plan : Plan} {limit greatest : ℕ} {parents order pops fs
   module _ (whole : subtreeTest job plan ≡ passed) where
     -- ---- 19
     module _ {p : ℕ} (e : p ≡ least (popsWrong parents order pops) (length order)) where
-      found-19 : p ≡ least (λ s. not (eqb (getD (popsIn (plan .steps)) (s - 1) 0) (popsOf (job .n) (pattern job) (columnAt (columnsIn (plan .steps)) s)))) (job .n)
+      found-19 : p ≡ least (λ s. not (eqb (getD (popsIn (plan .steps)) (s - 1) 0)
+          (popsOf (job .n) (pattern job) (columnAt (columnsIn (plan .steps)) s)))) (job .n)
       found-19 =
           e
-          ∙ λ i. least (λ s. not (eqb (getD (on .held .popped i) (s - 1) 0) (length (children (same-parents on i) (parents-length on i) (columnAt (on .held .columns i) s))))) (order-length (on .held) i)
+          ∙ λ i. least (λ s. not (eqb (getD (on .held .popped i) (s - 1) 0)
+          (length (children (same-parents on i) (parents-length on i) (columnAt (on .held .columns i) s))))) (order-length (on .held) i)
 
       pub refuses-19 : p ≢ 0 → {r : Answer} → r ≡ answer 19 p 0 → r ≡ ruling (first (treeTests job) plan) greatest
       unfolding treeTests popsTest
@@ -72,7 +76,13 @@ module _ {job : Job} {plan : Plan} {limit greatest : ℕ} {parents order pops fs
     -- ---- 20 and 9
 
     ordered : Ordered (parent (pattern job)) (job .n) order
-    ordered = rw (on .held .columns) (record { each = each; once = once on; together = subtree-iff job plan (on .held .fit) (below on) each (once on) .0 whole })
+    ordered =
+        rw (on .held .columns) (record {
+          each = each;
+          once = once on;
+          together = subtree-iff job plan (on .held .fit) (below on) each (once on) .0
+              whole;
+        })
       where
         each : (j : ℕ) → (j ∈ columnsIn (plan .steps)) ↔ ((1 ≤ j) × (j ≤ job .n))
         each j = (read (on .held) .1 j, λ (l, u). all job plan (read (on .held)) (on .unrepeated) j l u)
@@ -93,8 +103,16 @@ module _ {job : Job} {plan : Plan} {limit greatest : ℕ} {parents order pops fs
 
       enough : (k : ℕ) → k < length order → popsAt pops (suc k) ≤ length (heldAt fstarts order pops k)
       enough k h = rw pops-are (enough-by-steps (rowsIn fstarts) (popsOf (job .n) (pattern job)) order k h (
-          rw (held-entries (rowsIn fstarts) (popsOf (job .n) (pattern job)) (parent (pattern job)) (λ j. rw (rows-here j) (root-rows (below on) j)) order k (omega arith), ← (column-at order k))
-          (omega (arith, length-map (heldColumns (parent (pattern job)) (popsOf (job .n) (pattern job)) order k) (λ c. t (rowsIn fstarts c)), step-enough (tree-of (below on)) order ordered k h))))
+          rw (
+            held-entries (rowsIn fstarts) (popsOf (job .n) (pattern job)) (parent (pattern job)) (λ j. rw (rows-here j) (root-rows (below on) j))
+                order k (omega arith),
+            ← (column-at order k),
+          )
+          (omega (
+            arith,
+            length-map (heldColumns (parent (pattern job)) (popsOf (job .n) (pattern job)) order k) (λ c. t (rowsIn fstarts c)),
+            step-enough (tree-of (below on)) order ordered k h,
+          ))))
 
       pub stepped : Stepped fstarts order pops
       stepped = record {
@@ -116,7 +134,8 @@ module _ {job : Job} {plan : Plan} {limit greatest : ℕ} {parents order pops fs
         unfolding treeTests declaredTest
         refuses-20 z q =
             let differ : plan .peak ≢ truePeak job plan = λ d. z (found-20 ∙ sym d ∙ on .held .declared) in
-            ruling-refused greatest (decides (subtreeTest job ∷ popsTest job ∷ []) (declaredTest job) _ plan (whole, (popped, tt)) (refused-if _ _ zeroed (rw (ne-eqb (plan .peak) (truePeak job plan) differ)))) (q ∙ ap (answer 20 0) found-20)
+            ruling-refused greatest (decides (subtreeTest job ∷ popsTest job ∷ []) (declaredTest job) _ plan (whole, (popped, tt))
+            (refused-if _ _ zeroed (rw (ne-eqb (plan .peak) (truePeak job plan) differ)))) (q ∙ ap (answer 20 0) found-20)
 
         module _ (declared : peak ≡ greatest) where
           passes-20 : declaredTest job plan ≡ passed
@@ -127,12 +146,22 @@ module _ {job : Job} {plan : Plan} {limit greatest : ℕ} {parents order pops fs
           unfolding treeTests peakTest
           refuses-9 l q =
               ruling-refused greatest
-              (decides (subtreeTest job ∷ popsTest job ∷ declaredTest job ∷ []) (λ plan. peakTest (job .limit) (truePeak job plan)) [] plan (whole, (popped, (passes-20, tt))) (over-refuses (job .limit) (truePeak job plan) _ zeroed (omega (arith, on .limited, found-20))))
+              (decides (subtreeTest job ∷ popsTest job ∷ declaredTest job ∷ []) (λ plan. peakTest (job .limit) (truePeak job plan)) [] plan
+              (whole, (popped, (passes-20, tt))) (over-refuses (job .limit) (truePeak job plan) _ zeroed (omega (arith, on .limited, found-20))))
               (q ∙ ap (answer 9 0) found-20)
 
           pub passes-all : peak ≤ limit → {r : Answer} → r ≡ answer 0 0 peak → r ≡ ruling (first (treeTests job) plan) greatest
           unfolding treeTests peakTest
           passes-all l q =
               ruling-passed greatest
-              (first-passed-iff (treeTests job) plan .1 (whole, (popped, (passes-20, (over-passes-iff (job .limit) (truePeak job plan) _ zeroed .1 (omega (arith, on .limited, found-20)), tt)))))
+              (first-passed-iff (treeTests job) plan .1 (
+                whole,
+                (
+                  popped,
+                  (
+                    passes-20,
+                    (over-passes-iff (job .limit) (truePeak job plan) _ zeroed .1 (omega (arith, on .limited, found-20)), tt),
+                  ),
+                ),
+              ))
               (q ∙ ap (answer 0 0) declared)

@@ -65,4 +65,5 @@ TreeJudged limit peak parents order pops fstarts r =
     (job : Job) (plan : Plan) → OnTree job plan limit peak parents order pops fstarts → r ≡ ruling (first (treeTests job) plan) peak
 
 abbrev pub Judged : Job → ℕ → List ℕ → List ℕ → List ℕ → List ℕ → Answer → Type 0
-Judged job peak order pops fstarts frows r = (plan : Plan) → InFront (job .n) plan peak order pops fstarts frows → r ≡ ruling (first (judgeTests job) plan) peak
+Judged job peak order pops fstarts frows r =
+    (plan : Plan) → InFront (job .n) plan peak order pops fstarts frows → r ≡ ruling (first (judgeTests job) plan) peak

@@ -27,13 +27,16 @@ use Rattle.plan_laws.proofs.Sounds.{sound-fits, planned-sound}
 
 -- ---- two outcomes that are one: their answers, their numbers, what they leave
 
-pub same-answers : {S : Type 0} {a b : Answer} {x y : S} → _≡_ {A = Outcome S} (record { answer = a; lent = x }) (record { answer = b; lent = y }) → a ≡ b
+pub same-answers : {S : Type 0} {a b : Answer} {x y : S} → _≡_ {A = Outcome S} (record { answer = a; lent = x }) (record { answer = b; lent = y })
+    → a ≡ b
 same-answers {S} e = ap (λ (o : Outcome S). o .answer) e
 
-pub same-numbers : {S : Type 0} {a b : Answer} {x y : S} → _≡_ {A = Outcome S} (record { answer = a; lent = x }) (record { answer = b; lent = y }) → a .number ≡ b .number
+pub same-numbers : {S : Type 0} {a b : Answer} {x y : S} → _≡_ {A = Outcome S} (record { answer = a; lent = x }) (record { answer = b; lent = y })
+    → a .number ≡ b .number
 same-numbers {S} e = ap (λ (o : Outcome S). o .answer .number) e
 
-pub same-lent : {S : Type 0} {a b : Answer} {x y : S} → _≡_ {A = Outcome S} (record { answer = a; lent = x }) (record { answer = b; lent = y }) → x ≡ y
+pub same-lent : {S : Type 0} {a b : Answer} {x y : S} → _≡_ {A = Outcome S} (record { answer = a; lent = x }) (record { answer = b; lent = y })
+    → x ≡ y
 same-lent {S} e = ap (λ (o : Outcome S). o .lent) e
 
 module _ (job : Job) (lent : Lent) where
@@ -45,13 +48,18 @@ module _ (job : Job) (lent : Lent) where
   module _ (p : first analysisTests (record { job = job; lent = lent }) ≡ passed) where
     valid : first jobTests job ≡ passed
     unfolding analysisTests jobTests
-    valid = let t = first-passed-iff analysisTests call .0 p in first-passed-iff jobTests job .1 (t .0 & t .1 .0 & t .1 .1 .0 & t .1 .1 .1 .0 & t .1 .1 .1 .1 .0 & tt)
+    valid =
+        let t = first-passed-iff analysisTests call .0 p in
+        first-passed-iff jobTests job .1 (t .0 & t .1 .0 & t .1 .1 .0 & t .1 .1 .1 .0 & t .1 .1 .1 .1 .0 & tt)
 
     long : Long (job .n) (length (flat (planOf job .lists))) lent
     unfolding analysisTests jobTests
     long =
         let t = first-passed-iff analysisTests call .0 p .1 .1 .1 .1 .1 in
-        long-iff (job .n) (length (flat (planOf job .lists))) lent .0 (agree-passed-iff _ _ (lengths-agree (job .n) lent) .0 (t .0), agree-passed-iff _ _ (factor-rows-agree _ lent) .0 (t .1 .0))
+        long-iff (job .n) (length (flat (planOf job .lists))) lent .0 (
+          agree-passed-iff _ _ (lengths-agree (job .n) lent) .0 (t .0),
+          agree-passed-iff _ _ (factor-rows-agree _ lent) .0 (t .1 .0),
+        )
 
     within : planOf job .peak ≤ job .limit
     unfolding analysisTests jobTests peakTest
@@ -64,7 +72,8 @@ module _ (job : Job) (lent : Lent) where
 
   -- it has passed its tests, counts the peak, and its slices hold the plan
   pub analysis-done : {r : Answer} {after : Lent} → _≡_ {A = Outcome Lent} (record { answer = r; lent = after }) (analysed job lent) → r .number ≡ 0
-      → (first analysisTests (record { job = job; lent = lent }) ≡ passed) × (r .count ≡ planOf job .peak) × (after ≡ holdingPlan job (planOf job) lent)
+      → (first analysisTests (record { job = job; lent = lent }) ≡ passed) × (r .count ≡ planOf job .peak) ×
+      (after ≡ holdingPlan job (planOf job) lent)
   unfolding analysed analysisDone
   analysis-done {r} {after} e z = go (first analysisTests call) refl
     where
@@ -73,29 +82,31 @@ module _ (job : Job) (lent : Lent) where
       numbered untouched {a} q f = let h : Leaving (refused a untouched) = rw q at (analysis-leaving call) in omega arith
       numbered zeroed {a} q f = let h : Leaving (refused a zeroed) = rw q at (analysis-leaving call) in omega arith
 
-      go : (v : Verdict) → first analysisTests call ≡ v → (first analysisTests call ≡ passed) × (r .count ≡ planOf job .peak) × (after ≡ holdingPlan job (planOf job) lent)
+      go : (v : Verdict) → first analysisTests call ≡ v
+          → (first analysisTests call ≡ passed) × (r .count ≡ planOf job .peak) × (after ≡ holdingPlan job (planOf job) lent)
       go passed q =
           let f = e ∙ outcome-done analysisTests analysisDone allZero call lent q in
           (q, ap (λ (a : Answer). a .count) (same-answers f), same-lent f)
       go (refused a untouched) q = absurd (numbered untouched q (same-numbers (e ∙ outcome-untouched analysisTests analysisDone allZero call lent q)))
       go (refused a zeroed) q = absurd (numbered zeroed q (same-numbers (e ∙ outcome-zeroed analysisTests analysisDone allZero call lent q)))
 
-  module _ {r : Answer} {after : Lent} (e : _≡_ {A = Outcome Lent} (record { answer = r; lent = after }) (analysed job lent)) (z : r .number ≡ 0) where
-    pub done-valid : first jobTests job ≡ passed
-    done-valid = valid (analysis-done e z .0)
+  module _ {r : Answer} {after : Lent} (e : _≡_ {A = Outcome Lent} (record { answer = r; lent = after }) (analysed job lent)) (z : r .number ≡ 0)
+    where
+      pub done-valid : first jobTests job ≡ passed
+      done-valid = valid (analysis-done e z .0)
 
-    pub done-few : job .n ≤ maxColumns
-    done-few = passes-iff job .0 done-valid .few
+      pub done-few : job .n ≤ maxColumns
+      done-few = passes-iff job .0 done-valid .few
 
-    pub done-peak : r .count ≡ planOf job .peak
-    done-peak = analysis-done e z .1
+      pub done-peak : r .count ≡ planOf job .peak
+      done-peak = analysis-done e z .1
 
-    pub done-fit : Fit (job .n) (planOf job)
-    done-fit = fit (analysis-done e z .0)
+      pub done-fit : Fit (job .n) (planOf job)
+      done-fit = fit (analysis-done e z .0)
 
-    -- the parts of its slices are the plan of the job
-    pub done-parts : Parts (job .n) (planOf job) (after .order) (after .pops) (after .factorStarts) (after .factorRows)
-    done-parts =
-        let (p, count, holds) = analysis-done e z in
-        let l = long p in
-        parts-held (done-fit) (holding-in-slices job (planOf job) lent holds) (l .order) (l .pops) (l .starts) (l .rows)
+      -- the parts of its slices are the plan of the job
+      pub done-parts : Parts (job .n) (planOf job) (after .order) (after .pops) (after .factorStarts) (after .factorRows)
+      done-parts =
+          let (p, count, holds) = analysis-done e z in
+          let l = long p in
+          parts-held (done-fit) (holding-in-slices job (planOf job) lent holds) (l .order) (l .pops) (l .starts) (l .rows)

@@ -21,12 +21,14 @@ module _ (job : Job) (bytes : List ℕ) (lent : Lent) where
   call = record { job = job; plan = bytes; lent = lent }
 
   -- bytes that pass: place 0 and count the plan's peak, and the slices hold its lists, order and pops, the parents, then zeros
-  pub check-holds : (plan : Plan) → Passing job plan bytes lent → checked job bytes lent ≡ record { answer = answer 0 0 (plan .peak); lent = holdingPlan job plan lent }
+  pub check-holds : (plan : Plan) → Passing job plan bytes lent
+      → checked job bytes lent ≡ record { answer = answer 0 0 (plan .peak); lent = holdingPlan job plan lent }
   unfolding checked outcome checkDone
   check-holds plan p = rw (passing-passes call plan p, outcome, passing-read call plan p, checkDone)
 
   -- the check is done just where they pass
-  pub check-passes-iff : ((i : ℕ) → getD bytes i 0 < 256) → (checked job bytes lent .answer .number ≡ 0) ↔ ((plan : Plan) × Passing job plan bytes lent)
+  pub check-passes-iff : ((i : ℕ) → getD bytes i 0 < 256)
+      → (checked job bytes lent .answer .number ≡ 0) ↔ ((plan : Plan) × Passing job plan bytes lent)
   check-passes-iff are-bytes = (
     λ done. passes-passing call are-bytes (passed-iff checkTests checkConditions call (check-agree call) .1 (check-exactly call .done-iff .0 done)),
     λ (plan, p). ap (λ (o : Outcome Lent). o .answer .number) (check-holds plan p),

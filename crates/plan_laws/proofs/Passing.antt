@@ -40,7 +40,8 @@ module _ (call : CheckCall) where
       there p (bad number place) e = absurd (refused-passed (read-bad call e) p)
 
   -- 7 and 8 pass just where the slices are long enough
-  slices-iff : (rows : ℕ) → ((lengthsTest (call .job .n) (call .lent) ≡ passed) × (factorRowsTest rows (call .lent) ≡ passed)) ↔ Long (call .job .n) rows (call .lent)
+  slices-iff : (rows : ℕ) → ((lengthsTest (call .job .n) (call .lent) ≡ passed) × (factorRowsTest rows (call .lent) ≡ passed)) ↔ Long (call .job .n)
+      rows (call .lent)
   slices-iff rows =
       let lengths = agree-passed-iff _ _ (lengths-agree (call .job .n) (call .lent)) in
       let factor = agree-passed-iff _ _ (factor-rows-agree rows (call .lent)) in
@@ -62,7 +63,8 @@ module _ (call : CheckCall) where
       )
 
   -- what passes is such a plan
-  pub passes-passing : ((i : ℕ) → getD (call .plan) i 0 < 256) → first checkTests call ≡ passed → (plan : Plan) × Passing (call .job) plan (call .plan) (call .lent)
+  pub passes-passing : ((i : ℕ) → getD (call .plan) i 0 < 256) → first checkTests call ≡ passed
+      → (plan : Plan) × Passing (call .job) plan (call .plan) (call .lent)
   unfolding checkTests jobTests
   passes-passing bytes p =
       let job = first-passed-iff checkTests call .0 p in
@@ -71,12 +73,20 @@ module _ (call : CheckCall) where
       let valid = first-passed-iff jobTests (call .job) .1 (job .0 & job .1 .0 & job .1 .1 .0 & job .1 .1 .1 .0 & job .1 .1 .1 .1 .0 & tt) in
       let (plan, at, e) = read-iff .0 (bytes-on .1 .1 .0) in
       let (fit, whole, last) = plan-bytes-iff call plan at (fits valid) bytes .0 (bytes-on .1 .0, e) in
-      let of : (test : CheckCall → Plan → Verdict) → ofPlan test call ≡ passed → test call plan ≡ passed = λ test q. sym (of-plan-got call test e) ∙ q in (
+      let of : (test : CheckCall → Plan → Verdict) → ofPlan test call ≡ passed
+      → test call plan ≡ passed = λ test q. sym (of-plan-got call test e) ∙ q in (
         plan,
         record {
           valid = valid;
           whole = whole;
-          sound = sound-iff (call .job) plan fit (passed-below (call .job) (passes-iff (call .job) .0 valid)) .0 (of _ (plan-on .1 .0), of _ (plan-on .1 .1 .0), of _ (plan-on .1 .1 .1 .0), of _ (plan-on .1 .1 .1 .1 .0), of _ (plan-on .1 .1 .1 .1 .1 .0), of _ (plan-on .1 .1 .1 .1 .1 .1 .0));
+          sound = sound-iff (call .job) plan fit (passed-below (call .job) (passes-iff (call .job) .0 valid)) .0 (
+            of _ (plan-on .1 .0),
+            of _ (plan-on .1 .1 .0),
+            of _ (plan-on .1 .1 .1 .0),
+            of _ (plan-on .1 .1 .1 .1 .0),
+            of _ (plan-on .1 .1 .1 .1 .1 .0),
+            of _ (plan-on .1 .1 .1 .1 .1 .1 .0),
+          );
           long = slices-iff (length (flat (plan .lists))) .0 (bytes-on .0, of _ (plan-on .0));
         },
       )
@@ -94,7 +104,8 @@ module _ (call : CheckCall) where
       let (key, e) = whole-read plan (fits (q .valid)) fit (q .whole) in
       let of : (test : CheckCall → Plan → Verdict) → test call plan ≡ passed → ofPlan test call ≡ passed = λ test p. of-plan-got call test e ∙ p in
       let (lengths, factor) = slices-iff (length (flat (plan .lists))) .1 (q .long) in
-      let (repeats, lists, subtrees, pops, declared, within) = sound-iff (call .job) plan fit (passed-below (call .job) (passes-iff (call .job) .0 (q .valid))) .1 (q .sound) in
+      let (repeats, lists, subtrees, pops, declared, within) = sound-iff (call .job) plan fit
+      (passed-below (call .job) (passes-iff (call .job) .0 (q .valid))) .1 (q .sound) in
       first-passed-iff checkTests call .1
       (job .0
       & job .1 .0

@@ -39,7 +39,8 @@ use Rattle.plan_laws.proofs.Steps.{map-at, columns-within}
 -- a plan passes 16, 17, 18, 19, 20 and 9
 abbrev pub PlanPasses : Job → Plan → Type 0
 PlanPasses job plan =
-    (repeatTest job plan ≡ passed) × (listTest job plan ≡ passed) × (subtreeTest job plan ≡ passed) × (popsTest job plan ≡ passed) × (declaredTest job plan ≡ passed) × (peakTest (job .limit) (truePeak job plan) ≡ passed)
+    (repeatTest job plan ≡ passed) × (listTest job plan ≡ passed) × (subtreeTest job plan ≡ passed) × (popsTest job plan ≡ passed) ×
+    (declaredTest job plan ≡ passed) × (peakTest (job .limit) (truePeak job plan) ≡ passed)
 
 -- a test that refuses at the least place passes just where no place is at fault
 at-iff : (f : ℕ → Bool) (n number : ℕ) → (refusedAt number (least f n) 0 zeroed ≡ passed) ↔ ((k : ℕ) → 1 ≤ k → k ≤ n → f k ≡ false)
@@ -50,8 +51,10 @@ at-iff f n number = (
 )
 
 -- two lists of n are one where they agree at each of the places 1 to n
-one-list : {B : Type 0} (d : B) (n : ℕ) (xs ys : List B) → length xs ≡ n → length ys ≡ n → ((k : ℕ) → 1 ≤ k → k ≤ n → getD xs (k - 1) d ≡ getD ys (k - 1) d) → xs ≡ ys
-one-list d n xs ys a b h = ext-getD d xs ys (a ∙ sym b) (λ i l. let e : suc i - 1 ≡ i = omega arith in rw e at (h (suc i) (omega arith) (omega arith)))
+one-list : {B : Type 0} (d : B) (n : ℕ) (xs ys : List B) → length xs ≡ n → length ys ≡ n
+    → ((k : ℕ) → 1 ≤ k → k ≤ n → getD xs (k - 1) d ≡ getD ys (k - 1) d) → xs ≡ ys
+one-list d n xs ys a b h =
+    ext-getD d xs ys (a ∙ sym b) (λ i l. let e : suc i - 1 ≡ i = omega arith in rw e at (h (suc i) (omega arith) (omega arith)))
 
 module _ (job : Job) (plan : Plan) (fit : Fit (job .n) plan) where
   abbrev order : List ℕ
@@ -68,7 +71,8 @@ module _ (job : Job) (plan : Plan) (fit : Fit (job .n) plan) where
   pub repeat-iff : (repeatTest job plan ≡ passed) ↔ Distinct (columnsIn (plan .steps))
   repeat-iff = (
     once job plan read,
-    λ d. agree-passed-iff _ _ (repeat-agree job plan read) .1 (λ a (s, (i, (k, l, e), none), q). omega (arith, one-step order d k s (l .0) (omega (arith, read .0)) (i .0) (omega (arith, read .0)) e)),
+    λ d. agree-passed-iff _ _ (repeat-agree job plan read) .1 (λ a (s, (i, (k, l, e), none), q). omega
+        (arith, one-step order d k s (l .0) (omega (arith, read .0)) (i .0) (omega (arith, read .0)) e)),
   )
 
   -- 17
@@ -89,7 +93,8 @@ module _ (job : Job) (plan : Plan) (fit : Fit (job .n) plan) where
   unfolding popsTest columnAt
   pops-iff =
       let i = at-iff (λ s. not (eqb (getD (popsIn (plan .steps)) (s - 1) 0) (pops (columnAt order s)))) (job .n) 19 in (
-        λ e. one-list 0 (job .n) (popsIn (plan .steps)) (map pops order) (length-map (plan .steps) (λ x. x .1) ∙ fit .all-steps) (length-map order pops ∙ read .0)
+        λ e. one-list 0 (job .n) (popsIn (plan .steps)) (map pops order) (length-map (plan .steps) (λ x. x .1) ∙ fit .all-steps)
+            (length-map order pops ∙ read .0)
             (λ k l u. eqb-true _ _ (not-false _ (i .0 e k l u)) ∙ sym (here k l u)),
         λ e. i .1 (λ k l u. rw (e, here k l u, eq-eqb (pops (columnAt order k)) (pops (columnAt order k)) refl)),
       )
@@ -114,12 +119,15 @@ module _ (job : Job) (plan : Plan) (fit : Fit (job .n) plan) where
   module _ (below : Below (job .n) (pattern job)) where
     -- 18, of steps that do all columns, each once
     pub subtree-iff : ((j : ℕ) → (j ∈ columnsIn (plan .steps)) ↔ ((1 ≤ j) × (j ≤ job .n))) → Distinct (columnsIn (plan .steps))
-        → (subtreeTest job plan ≡ passed) ↔ ((s : ℕ) → 1 ≤ s → s ≤ length (columnsIn (plan .steps)) → Together (parent (pattern job)) (columnsIn (plan .steps)) s)
+        → (subtreeTest job plan ≡ passed) ↔ ((s : ℕ) → 1 ≤ s → s ≤ length (columnsIn (plan .steps))
+        → Together (parent (pattern job)) (columnsIn (plan .steps)) s)
     unfolding subtreeTest
     subtree-iff each d =
         let i = at-iff (scattered (parent (pattern job)) (job .n) order) (job .n) 18 in
-        let t = scattered-test (tree-of below) order each d in
-        (λ e s l u. t s l u .0 (i .0 e s l (omega (arith, read .0))), λ h. i .1 (λ s l u. t s l (omega (arith, read .0)) .1 (h s l (omega (arith, read .0)))))
+        let t = scattered-test (tree-of below) order each d in (
+          λ e s l u. t s l u .0 (i .0 e s l (omega (arith, read .0))),
+          λ h. i .1 (λ s l u. t s l (omega (arith, read .0)) .1 (h s l (omega (arith, read .0)))),
+        )
 
     -- a plan that was read passes 16 to 20 and 9 just where it is sound
     pub sound-iff : PlanPasses job plan ↔ Sound job plan

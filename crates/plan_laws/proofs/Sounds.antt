@@ -43,7 +43,8 @@ module _ (job : Job) (valid : first jobTests job ≡ passed) where
   pub sound-fits : (plan : Plan) → Sound job plan → Fit (job .n) plan
   sound-fits plan s = record {
     all-steps = sym (length-map (plan .steps) (λ x. x .0)) ∙ ordered-length (columnsIn (plan .steps)) (s .ordered);
-    steps = steps-fit (job .n) (popsOf (job .n) (pattern job)) (plan .steps) (λ j m. let (l, u) = s .ordered .each j .0 m in (l, u, pops-fit below j l u)) (s .pops);
+    steps = steps-fit (job .n) (popsOf (job .n) (pattern job)) (plan .steps) (λ j m. let (l, u) = s .ordered .each j .0 m in
+        (l, u, pops-fit below j l u)) (s .pops);
     all-lists = rw (s .rows) (length-lists (R (pattern job)) (job .n));
     lists = rw (s .rows) (lists-fit (job .n) (R (pattern job)) (λ j. (R-asc below j, λ i m. R-range below j i m .1)) (job .n));
     peak = rw (s .greatest) (ordered-peak-fits below (passes-iff job .0 valid .few) (columnsIn (plan .steps)) (s .ordered));

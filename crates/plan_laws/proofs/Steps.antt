@@ -26,7 +26,8 @@ pops-made pops [] = refl
 pops-made pops (j ∷ js) = ap (λ l. pops j ∷ l) (pops-made pops js)
 
 -- steps lie in their ranges, if their columns do and their pops are those of the columns
-pub steps-fit : (n : ℕ) (pops : ℕ → ℕ) (steps : List (ℕ × ℕ)) → ((j : ℕ) → j ∈ columnsIn steps → (1 ≤ j) × (j ≤ n) × (pops j ≤ n - 1)) → popsIn steps ≡ map pops (columnsIn steps)
+pub steps-fit : (n : ℕ) (pops : ℕ → ℕ) (steps : List (ℕ × ℕ)) → ((j : ℕ) → j ∈ columnsIn steps → (1 ≤ j) × (j ≤ n) × (pops j ≤ n - 1))
+    → popsIn steps ≡ map pops (columnsIn steps)
     → StepsFit n steps
 steps-fit n pops [] h e = tt
 steps-fit n pops (x ∷ xs) h e =

@@ -1,4 +1,5 @@
--- Every plan that the planner writes passes: it is the plan of a valid job, in the order of the job's mark, so it is sound, and its peak is within the
+-- Every plan that the planner writes passes: it is the plan of a valid job, in the order of the job's mark, so it is sound, and its peak is within
+-- the
 -- limit. So what is written and then checked gives back the same lists.
 -- Assumes nothing.
 use Prim.Native.Nat.{_≤_}
@@ -22,7 +23,8 @@ use Rattle.plan_laws.proofs.Sounds.{planned-sound}
 use Rattle.plan_laws.proofs.Checked.{check-holds}
 
 -- the plan of a valid job whose peak is within the limit passes, under every mark
-pub planned-passes : (job : Job) → first jobTests job ≡ passed → planOf job .peak ≤ job .limit → (lent : Lent) → Long (job .n) (length (flat (planOf job .lists))) lent
+pub planned-passes : (job : Job) → first jobTests job ≡ passed → planOf job .peak ≤ job .limit → (lent : Lent)
+    → Long (job .n) (length (flat (planOf job .lists))) lent
     → Passing job (planOf job) (planBytes job (planOf job)) lent
 planned-passes job valid within lent long = record { valid = valid; whole = refl; sound = planned-sound job valid within; long = long }
 
@@ -64,4 +66,8 @@ module _ (job : Job) (slices : PlanLent) (done : planWritten job slices .answer 
   unfolding planDone
   write-then-check lent long =
       let p = planned-passes job written-valid written-within lent long in
-      record { plan = planOf job; written = written-is; checked-again = rw part-is (check-holds job (planBytes job (planOf job)) lent (planOf job) p) }
+      record {
+        plan = planOf job;
+        written = written-is;
+        checked-again = rw part-is (check-holds job (planBytes job (planOf job)) lent (planOf job) p);
+      }

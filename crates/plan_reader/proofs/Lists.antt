@@ -33,7 +33,8 @@ module _ (n j : ℕ) (s : List ℕ) (at : ℕ) where
   lists-bad zero z e = absurd (omega arith)
   lists-bad (suc k) z e = then-bad _ e
 
-  lists-next : (k : ℕ) {rows : List ℕ} {m : ℕ} → 0 < k → readList n j s at ≡ got rows m → readLists n j k s at ≡ onto (rows ∷ []) (readLists n (j + 1) (k - 1) s m)
+  lists-next : (k : ℕ) {rows : List ℕ} {m : ℕ} → 0 < k → readList n j s at ≡ got rows m
+      → readLists n j k s at ≡ onto (rows ∷ []) (readLists n (j + 1) (k - 1) s m)
   unfolding readLists
   lists-next zero z e = absurd (omega arith)
   lists-next (suc k) z e = let q : suc k - 1 ≡ k = omega arith in rw (q, add-one) (then-got _ e)
@@ -52,7 +53,8 @@ pub record Lists (n : ℕ) (s : List ℕ) (at : ℕ) (starts₀ rows₀ starts r
   pub begins : starts ≡ sets starts₀ 0 (startsFrom 0 done)
   pub listed : rows ≡ sets rows₀ 0 (flat done)
 
-pub lists-start : (n : ℕ) (s : List ℕ) (at : ℕ) (starts rows : List ℕ) → at ≤ length s → Lists n s at (set starts 0 0) rows (set starts 0 0) rows at 1 0
+pub lists-start : (n : ℕ) (s : List ℕ) (at : ℕ) (starts rows : List ℕ) → at ≤ length s
+    → Lists n s at (set starts 0 0) rows (set starts 0 0) rows at 1 0
 unfolding startsFrom flat
 lists-start n s at starts rows h =
     let q : n + 1 - 1 ≡ n = omega arith in
@@ -100,7 +102,9 @@ module _ {n at k j total : ℕ} {s starts₀ rows₀ starts rows : List ℕ} (l 
     pub lists-fault : {number place : ℕ} → r ≡ Refused number place → readLists n 1 n s at ≡ bad number place
     lists-fault e = fails (l .done) (l .whole) (lists-bad n j s k (n + 1 - j) (omega arith) (told-refused t e))
 
-  pub lists-stop : (z : List ℕ) → starts₀ ≡ set z 0 0 → n < j → Told (λ lists. length (flat lists)) (ListsIn z starts rows₀ rows) (readLists n 1 n s at) (Found total k)
+  pub lists-stop : (z : List ℕ) → starts₀ ≡ set z 0 0 → n < j
+      → Told (λ lists. length (flat lists)) (ListsIn z starts rows₀ rows) (readLists n 1 n s at) (Found total k)
   lists-stop z e h =
       let u : starts ≡ sets (set z 0 0) 0 (startsFrom 0 (l .done)) = rw (← e) (l .begins) in
-      finds (l .done) k (ends (l .done) (l .whole) (lists-none n j s k (n + 1 - j) (omega arith))) (ap (λ (x : ℕ). Found x k) (l .counted)) (u ∙ starts-again z (l .done), l .listed)
+      finds (l .done) k (ends (l .done) (l .whole) (lists-none n j s k (n + 1 - j) (omega arith))) (ap (λ (x : ℕ). Found x k) (l .counted))
+      (u ∙ starts-again z (l .done), l .listed)

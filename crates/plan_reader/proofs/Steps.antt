@@ -92,8 +92,10 @@ module _ {n at k i : ℕ} {s order₀ pops₀ order pops : List ℕ} (l : Steps 
           count = omega (arith, length-more d x);
           few = omega arith;
           inside = step-reach n s k x m f .inside (l .inside);
-          columns = rw (map-append _ d (x ∷ [])) (sets-more (columnsIn d) order₀ 0 (x .0) i (l .columns) (kept .0) (omega (arith, length-map d (λ (step : ℕ × ℕ). step .0))));
-          popped = rw (map-append _ d (x ∷ [])) (sets-more (popsIn d) pops₀ 0 (x .1) i (l .popped) (kept .1) (omega (arith, length-map d (λ (step : ℕ × ℕ). step .1))));
+          columns = rw (map-append _ d (x ∷ [])) (sets-more (columnsIn d) order₀ 0 (x .0) i (l .columns) (kept .0)
+              (omega (arith, length-map d (λ (step : ℕ × ℕ). step .0))));
+          popped = rw (map-append _ d (x ∷ [])) (sets-more (popsIn d) pops₀ 0 (x .1) i (l .popped) (kept .1)
+              (omega (arith, length-map d (λ (step : ℕ × ℕ). step .1))));
         }
 
     pub steps-fault : {number place : ℕ} → r ≡ Refused number place → readSteps n n s at ≡ bad number place

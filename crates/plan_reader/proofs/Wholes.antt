@@ -41,7 +41,8 @@ module _ (n : ℕ) (s : List ℕ) (at : ℕ) where
   unfolding readPlan
   no-steps e = then-bad _ e
 
-  pub no-lists : {steps : List (ℕ × ℕ)} {k number place : ℕ} → readSteps n n s at ≡ got steps k → readLists n 1 n s k ≡ bad number place → readPlan n s at ≡ bad number place
+  pub no-lists : {steps : List (ℕ × ℕ)} {k number place : ℕ} → readSteps n n s at ≡ got steps k → readLists n 1 n s k ≡ bad number place
+      → readPlan n s at ≡ bad number place
   unfolding readPlan
   no-lists e f = then-got _ e ∙ then-bad _ f
 
@@ -76,9 +77,12 @@ module _ (s : List ℕ) (steps : List (ℕ × ℕ)) (lists : List (List ℕ)) wh
       (ap (λ (p : Plan). p .steps) same, ap (λ (p : Plan). p .lists) same)
 
 -- what is answered, and kept, of a plan whose steps and lists are read
-pub plan-whole : (n : ℕ) (s : List ℕ) (at : ℕ) {order₀ order pops₀ pops starts₀ starts rows₀ rows : List ℕ} {steps : List (ℕ × ℕ)} {lists : List (List ℕ)} {k m total : ℕ} {r : PlanReading}
-    → readSteps n n s at ≡ got steps k → StepsIn order₀ order pops₀ pops steps → readLists n 1 n s k ≡ got lists m → total ≡ length (flat lists) → ListsIn starts₀ starts rows₀ rows lists
-    → r ≡ peakReading total (readPeak s m) → (r ≡ planReading (readPlan n s at)) × Keeps (readPlan n s at) order₀ order pops₀ pops starts₀ starts rows₀ rows
+pub plan-whole : (n : ℕ) (s : List ℕ) (at : ℕ) {order₀ order pops₀ pops starts₀ starts rows₀ rows : List ℕ} {steps : List (ℕ × ℕ)}
+    {lists : List (List ℕ)} {k m total : ℕ} {r : PlanReading}
+    → readSteps n n s at ≡ got steps k → StepsIn order₀ order pops₀ pops steps → readLists n 1 n s k ≡ got lists m → total ≡ length (flat lists)
+    → ListsIn starts₀ starts rows₀ rows lists
+    → r ≡ peakReading total (readPeak s m) → (r ≡ planReading (readPlan n s at)) × Keeps (readPlan n s at) order₀ order pops₀ pops starts₀ starts
+    rows₀ rows
 unfolding readPlan readPeak rest
 plan-whole n s at {order₀} {order} {pops₀} {pops} {starts₀} {starts} {rows₀} {rows} {steps} {lists} {m = m} e in-steps f t in-lists a =
     let whole : readPlan n s at ≡ rest s steps lists (field 0 maxPeak s m) = then-got _ e ∙ then-got _ f in (
@@ -87,4 +91,5 @@ plan-whole n s at {order₀} {order} {pops₀} {pops} {starts₀} {starts} {rows
     )
   where
     kept : (plan : Plan) → (steps ≡ plan .steps) × (lists ≡ plan .lists) → PlanIn plan order₀ order pops₀ pops starts₀ starts rows₀ rows
-    kept plan (p, q) = record { columns = rw (← p) (in-steps .0); popped = rw (← p) (in-steps .1); begins = rw (← q) (in-lists .0); listed = rw (← q) (in-lists .1) }
+    kept plan (p, q) =
+        record { columns = rw (← p) (in-steps .0); popped = rw (← p) (in-steps .1); begins = rw (← q) (in-lists .0); listed = rw (← q) (in-lists .1) }

@@ -46,4 +46,5 @@ pub record PlanIn (plan : Plan) (order₀ order pops₀ pops starts₀ starts ro
 
 -- where the bytes hold a plan, it is kept
 abbrev pub Keeps : Read Plan → List ℕ → List ℕ → List ℕ → List ℕ → List ℕ → List ℕ → List ℕ → List ℕ → Type 0
-Keeps found order₀ order pops₀ pops starts₀ starts rows₀ rows = (plan : Plan) (next : ℕ) → found ≡ got plan next → PlanIn plan order₀ order pops₀ pops starts₀ starts rows₀ rows
+Keeps found order₀ order pops₀ pops starts₀ starts rows₀ rows =
+    (plan : Plan) (next : ℕ) → found ≡ got plan next → PlanIn plan order₀ order pops₀ pops starts₀ starts rows₀ rows

@@ -19,18 +19,32 @@ use Rattle.plan_store.specs.Beside.{storedBeside}
 
 module _ (written : List ℕ) (slices : PlanLent) where
   pub beside-short : length (slices .bytes) < length written
-      → storedBeside written slices ≡ record { answer = answer 10 0 (length written); lent = record { analysis = allZero (slices .analysis); bytes = zeros (slices .bytes) } }
+      → storedBeside written slices ≡ record {
+        answer = answer 10 0 (length written);
+        lent = record {
+          analysis = allZero (slices .analysis);
+          bytes = zeros (slices .bytes);
+        };
+      }
   unfolding storedBeside bytesTest planZero
   beside-short h =
       outcome-zeroed _ _ planZero slices slices
-      (first-last (λ lent. bytesTest written (lent .bytes)) slices ∙ over-refuses (length (slices .bytes)) (length written) (answer 10 0 (length written)) zeroed h)
+      (first-last (λ lent. bytesTest written (lent .bytes)) slices ∙ over-refuses (length (slices .bytes)) (length written)
+      (answer 10 0 (length written)) zeroed h)
 
   pub beside-whole : length written ≤ length (slices .bytes)
-      → storedBeside written slices ≡ record { answer = answer 0 0 (length written); lent = record { analysis = slices .analysis; bytes = thenZeros written (slices .bytes) } }
+      → storedBeside written slices ≡ record {
+        answer = answer 0 0 (length written);
+        lent = record {
+          analysis = slices .analysis;
+          bytes = thenZeros written (slices .bytes);
+        };
+      }
   unfolding storedBeside bytesTest
   beside-whole h =
       outcome-done _ _ planZero slices slices
-      (first-last (λ lent. bytesTest written (lent .bytes)) slices ∙ over-passes-iff (length (slices .bytes)) (length written) (answer 10 0 (length written)) zeroed .1 h)
+      (first-last (λ lent. bytesTest written (lent .bytes)) slices ∙ over-passes-iff (length (slices .bytes)) (length written)
+      (answer 10 0 (length written)) zeroed .1 h)
 
   module _ {r : Answer} {bytes : List ℕ} (e : _≡_ {A = Outcome (List ℕ)} (record { answer = r; lent = bytes }) (stored written (slices .bytes))) where
     answered : {b : Answer} {l : List ℕ} → stored written (slices .bytes) ≡ record { answer = b; lent = l } → r ≡ b
@@ -54,10 +68,12 @@ module _ (written : List ℕ) (slices : PlanLent) where
 
     -- done
     pub done-beside : r .number ≡ 0
-        → _≡_ {A = Outcome PlanLent} (record { answer = r; lent = record { analysis = slices .analysis; bytes = bytes } }) (storedBeside written slices)
+        → _≡_ {A = Outcome PlanLent} (record { answer = r; lent = record { analysis = slices .analysis; bytes = bytes } })
+        (storedBeside written slices)
     done-beside z = go (below-or (length (slices .bytes)) (length written))
       where
         go : (length (slices .bytes) < length written) ⊎ (length written ≤ length (slices .bytes))
-            → _≡_ {A = Outcome PlanLent} (record { answer = r; lent = record { analysis = slices .analysis; bytes = bytes } }) (storedBeside written slices)
+            → _≡_ {A = Outcome PlanLent} (record { answer = r; lent = record { analysis = slices .analysis; bytes = bytes } })
+            (storedBeside written slices)
         go (inl h) = absurd (omega (arith, numbered (answered (short-is written (slices .bytes) h))))
         go (inr h) = let f = whole-is written (slices .bytes) h in rw (answered f, left f) (sym (beside-whole h))

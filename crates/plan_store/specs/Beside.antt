@@ -11,4 +11,5 @@ use Rattle.papers.specs.Analysis.{PlanLent, planZero}
 unfoldable pub storedBeside : List ℕ → PlanLent → Outcome PlanLent
 storedBeside written slices =
     outcome ((λ lent. bytesTest written (lent .bytes)) ∷ [])
-    (λ lent. record { answer = answer 0 0 (length written); lent = record { analysis = lent .analysis; bytes = thenZeros written (lent .bytes) } }) planZero slices slices
+    (λ lent. record { answer = answer 0 0 (length written); lent = record { analysis = lent .analysis; bytes = thenZeros written (lent .bytes) } })
+    planZero slices slices

@@ -1,4 +1,5 @@
--- The parts of a plan, one behind the other: its key, steps, lists and peak. Their numbers put together are the whole, so behind each part what is left
+-- The parts of a plan, one behind the other: its key, steps, lists and peak. Their numbers put together are the whole, so behind each part what is
+-- left
 -- of the whole is the parts that follow; and they are so few that every place among them is near.
 -- Assumes nothing.
 use Prim.Native.Nat.{ℕ, _+_, _*_, _^_, _<_, _≤_}
@@ -65,8 +66,10 @@ abbrev Put : List ℕ → List ℕ → ℕ → List ℕ → ℕ → Type 0
 Put bytes d k d′ k′ = (k′ ≡ k + length bytes) × (d′ ≡ sets d k bytes)
 
 -- what is left of the plan behind each part
-module _ (job : Job) (order pops starts rows : List ℕ) (peak : ℕ) (d₀ : List ℕ) {d₁ : List ℕ} {k₁ : ℕ} (p₁ : (k₁ ≡ length (keyOf job)) × (d₁ ≡ sets d₀ 0 (keyOf job))) where
-  pub behind-key : Writes (wholeNumbers job order pops starts rows peak) d₀ 0 (numbersOf order pops ++ (listsBetween (job .n) starts rows ++ (peak ∷ []))) d₁ k₁
+module _ (job : Job) (order pops starts rows : List ℕ) (peak : ℕ) (d₀ : List ℕ) {d₁ : List ℕ} {k₁ : ℕ}
+    (p₁ : (k₁ ≡ length (keyOf job)) × (d₁ ≡ sets d₀ 0 (keyOf job))) where
+  pub behind-key : Writes (wholeNumbers job order pops starts rows peak) d₀ 0
+      (numbersOf order pops ++ (listsBetween (job .n) starts rows ++ (peak ∷ []))) d₁ k₁
   unfolding keyOf planNumbers
   behind-key = writes-numbers (keyNumbers job) writes-all refl (omega (arith, p₁ .0)) (p₁ .1)
 
@@ -80,7 +83,8 @@ module _ (job : Job) (order pops starts rows : List ℕ) (peak : ℕ) (d₀ : Li
 
       -- behind the peak nothing is left
       pub plan-put : {d₄ : List ℕ} {k₄ : ℕ} → Put (bytesOf peak) d₃ k₃ d₄ k₄
-          → (k₄ ≡ length (planBytes job (planIn (job .n) order pops starts rows peak))) × (d₄ ≡ sets d₀ 0 (planBytes job (planIn (job .n) order pops starts rows peak)))
+          → (k₄ ≡ length (planBytes job (planIn (job .n) order pops starts rows peak))) ×
+          (d₄ ≡ sets d₀ 0 (planBytes job (planIn (job .n) order pops starts rows peak)))
       unfolding planBytes keyOf
       plan-put p₄ =
           let (e, f) = writes-none (writes-number behind-lists refl (p₄ .0) (p₄ .1)) refl in

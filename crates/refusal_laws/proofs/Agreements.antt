@@ -63,17 +63,20 @@ module _ {C : Type 0} where
   answered-iff (t ∷ ts) [] call h a = absurd h
   answered-iff (t ∷ ts) (K ∷ Ks) call h a = go (t call) refl (λ q. answered-iff ts Ks call (h .1 q) a)
     where
-      next : t call ≡ passed → Refuses (first ts call) a ↔ Answered Ks call a → K call a ⊎ (((b : Answer) → ¬ K call b) × Answered Ks call a) → Refuses (first (t ∷ ts) call) a
+      next : t call ≡ passed → Refuses (first ts call) a ↔ Answered Ks call a → K call a ⊎ (((b : Answer) → ¬ K call b) × Answered Ks call a)
+          → Refuses (first (t ∷ ts) call) a
       next q ih (inl k) = absurd (refused-passed (h .0 a .1 k .1) q)
       next q ih (inr r) = let (l, e) = ih .1 (r .1) in (l, first-passes t ts call q ∙ e)
 
-      here : (b : Answer) (m : Leaves) → t call ≡ refused b m → K call a ⊎ (((b : Answer) → ¬ K call b) × Answered Ks call a) → Refuses (first (t ∷ ts) call) a
+      here : (b : Answer) (m : Leaves) → t call ≡ refused b m → K call a ⊎ (((b : Answer) → ¬ K call b) × Answered Ks call a)
+          → Refuses (first (t ∷ ts) call) a
       here b m q (inl k) = let (l, e) = h .0 a .1 k in (l, first-refuses t ts call e)
       here b m q (inr r) = absurd (r .0 b (h .0 b .0 (m, q)))
 
       go : (v : Verdict) → t call ≡ v → (t call ≡ passed → Refuses (first ts call) a ↔ Answered Ks call a)
           → Refuses (first (t ∷ ts) call) a ↔ Answered (K ∷ Ks) call a
-      go passed q ih = (λ r. inr (agree-passed-iff (t call) (K call) (h .0) .0 q, ih q .0 (r .0, sym (first-passes t ts call q) ∙ r .1)), next q (ih q))
+      go passed q ih =
+          (λ r. inr (agree-passed-iff (t call) (K call) (h .0) .0 q, ih q .0 (r .0, sym (first-passes t ts call q) ∙ r .1)), next q (ih q))
       go (refused b m) q ih = (λ r. inl (h .0 a .0 (m, rw (one-answer (r .1) (first-refuses t ts call q)) q)), here b m q)
 
   -- nothing is answered just where no condition gives an answer
@@ -89,14 +92,16 @@ module _ {C : Type 0} where
           back u a (inr r) = ih .1 (u .1) a (r .1)
 
   -- nothing is refused just where no condition gives an answer
-  pub passed-iff : (ts : List (C → Verdict)) (Ks : List (Condition C)) (call : C) → AgreeEach ts Ks call → (first ts call ≡ passed) ↔ Unrefused Ks call
+  pub passed-iff : (ts : List (C → Verdict)) (Ks : List (Condition C)) (call : C) → AgreeEach ts Ks call
+      → (first ts call ≡ passed) ↔ Unrefused Ks call
   passed-iff ts Ks call h =
       let i = agree-passed-iff (first ts call) (Answered Ks call) (answered-iff ts Ks call h) in
       let j = no-answer-iff Ks call in
       (λ p. j .0 (i .0 p), λ u. i .1 (j .1 u))
 
   -- of two lists of conditions, one behind the other, the second answers only where the first gives nothing
-  pub answered-append : (Ks Ls : List (Condition C)) (call : C) (a : Answer) → Answered (Ks ++ Ls) call a ↔ (Answered Ks call a ⊎ (Unrefused Ks call × Answered Ls call a))
+  pub answered-append : (Ks Ls : List (Condition C)) (call : C) (a : Answer)
+      → Answered (Ks ++ Ls) call a ↔ (Answered Ks call a ⊎ (Unrefused Ks call × Answered Ls call a))
   answered-append [] Ls call a = (λ r. inr (tt, r), back)
     where
       back : ⊥ ⊎ (Unit {0} × Answered Ls call a) → Answered Ls call a

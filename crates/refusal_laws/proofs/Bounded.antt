@@ -1,4 +1,5 @@
--- The answer of a check is a small number with a place that n and the rows bound, however long the plan: each condition says its number and its place, a
+-- The answer of a check is a small number with a place that n and the rows bound, however long the plan: each condition says its number and its
+-- place, a
 -- column or a step of 1 to n, a byte that the key reaches, or one that the reading behind it can reach.
 -- Assumes nothing.
 use Prim.Native.Nat.{ℕ, zero, suc, _+_, _*_, _≤_}
@@ -14,7 +15,9 @@ use Rattle.papers.specs.Key.{keyOf}
 use Rattle.papers.specs.Plan.{Plan, columnsIn, Read, got, bad}
 use Rattle.papers.specs.Refusals.{answer, zeroed, allZero}
 use Rattle.papers.specs.Check.{CheckCall, planRead, checkDone, checked}
-use Rattle.papers.specs.Conditions.{Condition, Answered, Unrefused, RowLists, jobLists, StartsFault, miscounted, not-zero, falls, last, BadStarts, BadRow, five, six, PlanFault, twelve, thirteen, fourteen, fifteen, Repeated, NotR, Faulty, PopsWrong, leastPlaced, checkConditions}
+use Rattle.papers.specs.Conditions.{Condition, Answered, Unrefused, RowLists, jobLists, StartsFault, miscounted, not-zero}
+use Rattle.papers.specs.Conditions.{falls, last, BadStarts, BadRow, five, six, PlanFault, twelve, thirteen, fourteen, fifteen}
+use Rattle.papers.specs.Conditions.{Repeated, NotR, Faulty, PopsWrong, leastPlaced, checkConditions}
 use Rattle.job_laws.proofs.Starts.{starts-iff}
 use Rattle.refusal_laws.specs.Exactly.{Exactly}
 use Rattle.refusal_laws.proofs.Agreements.{_▸_, agree-passed-iff}
@@ -77,7 +80,8 @@ module _ (call : CheckCall) where
   Small = Within 20 (farthest (call .job .n) (length (call .job .rows)))
 
   -- where 4 is not answered the key is short
-  key-within : ((b : Answer) → ¬ BadStarts (jobLists (call .job)) b) → length (keyOf (call .job)) ≤ maxGroups * (4 + call .job .n + length (call .job .rows))
+  key-within : ((b : Answer) → ¬ BadStarts (jobLists (call .job)) b)
+      → length (keyOf (call .job)) ≤ maxGroups * (4 + call .job .n + length (call .job .rows))
   key-within none = key-short (call .job) (starts-iff _ _ _ .0 (agree-passed-iff _ _ (starts-agree (jobLists (call .job))) .1 none))
 
   -- a refusal at the least column or step
@@ -110,7 +114,8 @@ module _ (call : CheckCall) where
     where
       go : (x : Read Plan) → planRead call ≡ x → Small (checkDone call .answer)
       go (got plan at) e = rw (e, checkDone) (record { number = omega arith; place = omega arith })
-      go (bad number place) e = absurd (u .1 .1 .1 .1 .1 .1 .1 .0 (answer number place 0) (read-agree call (answer number place 0) .0 (zeroed, read-bad call e)))
+      go (bad number place) e =
+          absurd (u .1 .1 .1 .1 .1 .1 .1 .0 (answer number place 0) (read-agree call (answer number place 0) .0 (zeroed, read-bad call e)))
 
   -- the number of a check is at most 20, its place at most the last that its columns and rows let it reach
   pub check-bounded : Within 20 (farthest (call .job .n) (length (call .job .rows))) (checked (call .job) (call .plan) (call .lent) .answer)
@@ -119,6 +124,7 @@ module _ (call : CheckCall) where
       exact : Exactly checkConditions call (call .lent) (allZero (call .lent)) (checkDone call) (checked (call .job) (call .plan) (call .lent))
       exact = check-exactly call
 
-      go : (number : ℕ) → checked (call .job) (call .plan) (call .lent) .answer .number ≡ number → Small (checked (call .job) (call .plan) (call .lent) .answer)
+      go : (number : ℕ) → checked (call .job) (call .plan) (call .lent) .answer .number ≡ number
+          → Small (checked (call .job) (call .plan) (call .lent) .answer)
       go zero e = rw (exact .when-done e) (done-small (exact .done-iff .0 e))
       go (suc k) e = each-gives Small checkConditions call _ small (exact .refused-iff _ (omega arith) .0 refl)

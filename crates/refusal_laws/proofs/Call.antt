@@ -22,14 +22,16 @@ use Rattle.refusal_laws.proofs.CallTests.{call-checked, call-given, cal
 
 module _ (call : SolverCall) (bytes : (i : ℕ) → getD (call .key) i 0 < 256) where
   -- a readable key is that of one job
-  moved : (s r : Readable (call .key)) {a : Answer} → Answered checkConditions (solverCheck call (s .job)) a → Answered checkConditions (solverCheck call (r .job)) a
+  moved : (s r : Readable (call .key)) {a : Answer} → Answered checkConditions (solverCheck call (s .job)) a
+      → Answered checkConditions (solverCheck call (r .job)) a
   moved s r {a} k = subst (λ (job : Job). Answered checkConditions (solverCheck call job) a) (readable-one (call .key) s r) k
 
   -- a number with its place is answered exactly when its condition gives it, and no condition before does
   pub call-exactly : (a : Answer) → 0 < a .number → (solverAnswer call ≡ a) ↔ Answered solverConditions call a
   call-exactly a h = go (first callTests call) refl
     where
-      both : Answered solverConditions call a ↔ (Answered callConditions call a ⊎ (Unrefused callConditions call × Answered (CheckRefuses ∷ []) call a))
+      both : Answered solverConditions call a ↔ (Answered callConditions call a ⊎ (Unrefused callConditions call × Answered (CheckRefuses ∷ []) call
+          a))
       both = answered-append callConditions (CheckRefuses ∷ []) call a
 
       go : (v : Verdict) → first callTests call ≡ v → (solverAnswer call ≡ a) ↔ Answered solverConditions call a
@@ -57,7 +59,8 @@ module _ (call : SolverCall) (bytes : (i : ℕ) → getD (call .key) i 0 < 256) 
       both : Unrefused solverConditions call ↔ (Unrefused callConditions call × Unrefused (CheckRefuses ∷ []) call)
       both = unrefused-append callConditions (CheckRefuses ∷ []) call
 
-      there : solverAnswer call .number ≡ 0 → (v : Verdict) → first callTests call ≡ v → Unrefused callConditions call × Unrefused (CheckRefuses ∷ []) call
+      there : solverAnswer call .number ≡ 0 → (v : Verdict) → first callTests call ≡ v
+          → Unrefused callConditions call × Unrefused (CheckRefuses ∷ []) call
       there e passed q =
           let (r, c) = call-checked call bytes q in
           let none = check-exactly (solverCheck call (r .job)) .done-iff .0 (sym (ap (λ (a : Answer). a .number) c) ∙ e) in
@@ -76,7 +79,8 @@ module _ (call : SolverCall) (bytes : (i : ℕ) → getD (call .key) i 0 < 256) 
       back u w =
           let (r, c) = call-checked call bytes (call-none call bytes .1 u) in
           ap (λ (a : Answer). a .number) c
-          ∙ check-exactly (solverCheck call (r .job)) .done-iff .1 (no-answer-iff checkConditions (solverCheck call (r .job)) .0 (λ b k. w .0 b (r, k)))
+          ∙ check-exactly (solverCheck call (r .job)) .done-iff .1 (no-answer-iff checkConditions (solverCheck call (r .job)) .0
+          (λ b k. w .0 b (r, k)))
 
   -- a call that is done has place 0
   done-at : solverAnswer call .number ≡ 0 → solverAnswer call .place ≡ 0

@@ -1,4 +1,5 @@
--- The tests of the solver's call (27 and 26) against their conditions. A key of bytes is readable just where it reads through, and then it is the key of one
+-- The tests of the solver's call (27 and 26) against their conditions. A key of bytes is readable just where it reads through, and then it is the key
+-- of one
 -- job only. So the tests, which go by the reading, agree with conditions that speak of any job whose key it is.
 -- Assumes nothing.
 use Prim.Native.Nat.{ℕ, _<_}
@@ -56,7 +57,8 @@ module _ (call : SolverCall) (bytes : (i : ℕ) → getD (call .key) i 0 < 256) 
       Over : Job → Type 0
       Over job = (programColumns < job .n) ⊎ (programRows < length (job .rows))
 
-      sizes-iff : (job : Job) → Refuses (refusedIf (ltb programColumns (job .n) || ltb programRows (length (job .rows))) (answer 26 0 0) untouched) a ↔ (Over job × (a ≡ answer 26 0 0))
+      sizes-iff : (job : Job) → Refuses (refusedIf (ltb programColumns (job .n) || ltb programRows (length (job .rows))) (answer 26 0 0) untouched) a
+          ↔ (Over job × (a ≡ answer 26 0 0))
       sizes-iff job = agree-if _ _ untouched (either-iff _ _ (below-iff programColumns (job .n)) (below-iff programRows (length (job .rows)))) a
 
       go : Key → Refuses (sizesTest call) a ↔ SizesOver call a

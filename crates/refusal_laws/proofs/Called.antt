@@ -1,4 +1,5 @@
--- The solver's call by what its key reads as, and its one number taken apart: the number is at most 27, and the sizes keep the place below 2^32, so it is
+-- The solver's call by what its key reads as, and its one number taken apart: the number is at most 27, and the sizes keep the place below 2^32, so
+-- it is
 -- what is left over.
 -- Assumes nothing.
 use Prim.Native.Nat.{ℕ, _/_, _%_, _^_, _<_, _≤_}
@@ -47,13 +48,16 @@ module _ (call : SolverCall) where
     -- 26: more columns or rows than the sizes
     over : isOver ≡ true → solverAnswer call ≡ answer 26 0 0
     unfolding callTests sizesTest
-    over h = call-refused (first-passes readableTest _ call reads-through ∙ first-refuses sizesTest _ call {l = untouched} (rw (e, sizesTest) (refused-if isOver _ _ h)))
+    over h =
+        call-refused (first-passes readableTest _ call reads-through ∙ first-refuses sizesTest _ call {l = untouched}
+        (rw (e, sizesTest) (refused-if isOver _ _ h)))
 
     -- else the check
     fits : isOver ≡ false → solverAnswer call ≡ checked job (call .plan) buffers .answer
     unfolding callTests sizesTest solverAnswer keyChecked
     fits h =
-        let q : first callTests call ≡ passed = first-passed-iff callTests call .1 (reads-through, (rw (e, sizesTest) (passed-if isOver _ _ h), tt)) in
+        let q : first callTests call ≡ passed = first-passed-iff callTests call .1
+        (reads-through, (rw (e, sizesTest) (passed-if isOver _ _ h), tt)) in
         rw (q, solverAnswer, e, keyChecked)
 
     pub call-over : (programColumns < job .n) ⊎ (programRows < length (job .rows)) → solverAnswer call ≡ answer 26 0 0
@@ -78,11 +82,15 @@ module _ (call : SolverCall) where
           sized (inr h) (inl g) = within 26 0 0 (call-over e (inr g)) (omega arith) (omega arith)
           sized (inr h) (inr g) =
               let w = check-bounded (record { job = job; plan = call .plan; lent = buffers }) in
-              rw (call-fits e h g) (record { number = omega (arith, w .number); place = omega (arith, w .place, most-short (job .n) programColumns (job .n) h) })
+              rw (call-fits e h g) (record {
+                number = omega (arith, w .number);
+                place = omega (arith, w .place, most-short (job .n) programColumns (job .n) h);
+              })
 
 -- the one number gives back number and place
 pub called-decodes : (key plan : List ℕ)
-    → (called key plan / 2 ^ 32 ≡ solverAnswer (record { key = key; plan = plan }) .number) × (called key plan % 2 ^ 32 ≡ solverAnswer (record { key = key; plan = plan }) .place)
+    → (called key plan / 2 ^ 32 ≡ solverAnswer (record { key = key; plan = plan }) .number) × (called key plan % 2 ^ 32 ≡ solverAnswer
+    (record { key = key; plan = plan }) .place)
 unfolding called
 called-decodes key plan =
     let w = call-bounded (record { key = key; plan = plan }) in

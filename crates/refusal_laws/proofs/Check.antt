@@ -9,7 +9,8 @@ use Rattle.papers.specs.Lists.{flat}
 use Rattle.papers.specs.Key.{keyOf}
 use Rattle.papers.specs.Plan.{Plan, columnsIn, Read, got, bad}
 use Rattle.papers.specs.Refusals.{answer, zeroed, Verdict, passed, first, jobTests, allZero}
-use Rattle.papers.specs.Check.{CheckCall, keyTest, planRead, readTest, repeatTest, listTest, subtreeTest, popsTest, truePeak, declaredTest, ofPlan, checkTests, checkDone, checked}
+use Rattle.papers.specs.Check.{CheckCall, keyTest, planRead, readTest, repeatTest, listTest, subtreeTest, popsTest}
+use Rattle.papers.specs.Check.{truePeak, declaredTest, ofPlan, checkTests, checkDone, checked}
 use Rattle.papers.specs.Conditions.{jobConditions, ofRead, checkConditions}
 use Rattle.job_laws.proofs.Firsts.{refused-passed, first-each, first-passed-iff}
 use Rattle.job_laws.proofs.Passed.{passes-iff, passed-below}
@@ -34,7 +35,8 @@ module _ (call : CheckCall) where
   unfolding ofPlan
   of-plan-bad test e = rw (e, ofPlan)
 
-  of-plan-agree : (test : CheckCall → Plan → Verdict) (K : Plan → Answer → Type 0) → ((plan : Plan) (at : ℕ) → planRead call ≡ got plan at → Agree (test call plan) (K plan))
+  of-plan-agree : (test : CheckCall → Plan → Verdict) (K : Plan → Answer → Type 0) → ((plan : Plan) (at : ℕ) → planRead call ≡ got plan at
+      → Agree (test call plan) (K plan))
       → Agree (ofPlan test call) (ofRead (λ call. K) call)
   of-plan-agree test K h a = (λ r. there r (planRead call) refl, λ (plan, at, e, k). let (l, q) = h plan at e a .1 k in (l, of-plan-got test e ∙ q))
     where
@@ -66,7 +68,8 @@ module _ (call : CheckCall) where
       ▸ λ p. of-plan-agree _ _ (λ plan at e. factor-rows-agree (length (flat (plan .lists))) (call .lent))
       ▸ λ p. of-plan-agree _ _ (λ plan at e. repeat-agree (call .job) plan (steps e))
       ▸ λ unrepeated. of-plan-agree _ _ (λ plan at e. list-agree (call .job) plan)
-      ▸ λ p. of-plan-agree _ _ (λ plan at e. subtree-agree (call .job) plan (steps e) (sym (of-plan-got _ e) ∙ unrepeated) (passed-below (call .job) (passes-iff (call .job) .0 job)))
+      ▸ λ p. of-plan-agree _ _ (λ plan at e. subtree-agree (call .job) plan (steps e) (sym (of-plan-got _ e) ∙ unrepeated)
+      (passed-below (call .job) (passes-iff (call .job) .0 job)))
       ▸ λ p. of-plan-agree _ _ (λ plan at e. pops-agree (call .job) plan)
       ▸ λ p. of-plan-agree _ _ (λ plan at e. declared-agree (call .job) plan)
       ▸ λ p. of-plan-agree _ _ (λ plan at e. peak-agree (call .job .limit) (truePeak (call .job) plan))
@@ -108,6 +111,7 @@ module _ (call : CheckCall) where
       go (bad number place) e r = absurd (refused-passed (read-bad call e) r)
 
   -- a plan passes, or is refused, exactly by the conditions of the check
-  pub check-exactly : Exactly checkConditions call (call .lent) (allZero (call .lent)) (checkDone call) (checked (call .job) (call .plan) (call .lent))
+  pub check-exactly : Exactly checkConditions call (call .lent) (allZero (call .lent)) (checkDone call)
+      (checked (call .job) (call .plan) (call .lent))
   unfolding checked
   check-exactly = outcome-exactly checkTests checkDone allZero call (call .lent) checkConditions check-agree check-leaving done-zero

@@ -57,7 +57,8 @@ module _ (n j : ℕ) where
       there e (fine q h) = absurd (omega arith)
       there e (fault k g q l x h) = (k, l, omega arith, h)
 
-      meet : (k g : ℕ) → rowsFault n j before rs ≡ suc g → faultOf before rs k ≡ suc g → ((i : ℕ) → i < k → faultOf before rs i ≡ 0) → (h : At) → Compare k (h .0)
+      meet : (k g : ℕ) → rowsFault n j before rs ≡ suc g → faultOf before rs k ≡ suc g → ((i : ℕ) → i < k → faultOf before rs i ≡ 0) → (h : At)
+          → Compare k (h .0)
           → rowsFault n j before rs ≡ suc f
       meet k g q x m h (below l) = absurd (omega (arith, h .3 k l))
       meet k g q x m h (level e) = q ∙ sym x ∙ rw e (h .2)

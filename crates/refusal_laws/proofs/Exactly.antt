@@ -58,7 +58,8 @@ leaving-at number zero count h = tt
 leaving-at number (suc p) count h = h
 
 -- tests of a part of the call, then others
-pub leaving-behind : {C D : Type 0} (part : C → D) (ts : List (D → Verdict)) (us : List (C → Verdict)) (call : C) → Leaving (first ts (part call)) → Leaving (first us call)
+pub leaving-behind : {C D : Type 0} (part : C → D) (ts : List (D → Verdict)) (us : List (C → Verdict)) (call : C) → Leaving (first ts (part call))
+    → Leaving (first us call)
     → Leaving (first (map (λ test call. test (part call)) ts ++ us) call)
 leaving-behind {C} part ts us call h g = go (first ts (part call)) refl
   where
@@ -76,11 +77,13 @@ module _ {C S : Type 0} (tests : List (C → Verdict)) (done : C → Outcome S) 
   unfolding outcome
   outcome-done p = rw (p, outcome)
 
-  outcome-untouched : {a : Answer} → first tests call ≡ refused a untouched → outcome tests done zeroing call lent ≡ record { answer = a; lent = lent }
+  outcome-untouched : {a : Answer} → first tests call ≡ refused a untouched
+      → outcome tests done zeroing call lent ≡ record { answer = a; lent = lent }
   unfolding outcome
   outcome-untouched p = rw (p, outcome)
 
-  outcome-zeroed : {a : Answer} → first tests call ≡ refused a zeroed → outcome tests done zeroing call lent ≡ record { answer = a; lent = zeroing lent }
+  outcome-zeroed : {a : Answer} → first tests call ≡ refused a zeroed
+      → outcome tests done zeroing call lent ≡ record { answer = a; lent = zeroing lent }
   unfolding outcome
   outcome-zeroed p = rw (p, outcome)
 
@@ -96,7 +99,8 @@ module _ {C S : Type 0} (tests : List (C → Verdict)) (done : C → Outcome S) 
         none : (first tests call ≡ passed) ↔ Unrefused conditions call
         none = passed-iff tests conditions call agree
 
-        refusal : (b : Answer) (l : Leaves) (left : S) → first tests call ≡ refused b l → 1 ≤ b .number → (b .number ≤ 7 → left ≡ lent) → (7 < b .number → left ≡ zeroing lent)
+        refusal : (b : Answer) (l : Leaves) (left : S) → first tests call ≡ refused b l → 1 ≤ b .number → (b .number ≤ 7 → left ≡ lent)
+            → (7 < b .number → left ≡ zeroing lent)
             → Exactly conditions call lent (zeroing lent) (done call) (record { answer = b; lent = left })
         refusal b l left q h early late = record {
           refused-iff = λ a z. (λ e. given a .0 (l, rw (← e) q), λ r. one-answer q (given a .1 r .1));

@@ -1,4 +1,5 @@
--- Reading field by field: from a field at a place reading leads on while each number is there, in shortest form and in its range, and there is one way
+-- Reading field by field: from a field at a place reading leads on while each number is there, in shortest form and in its range, and there is one
+-- way
 -- only. So where reading comes to a halt, at a number at fault or behind the peak, is determined.
 -- Assumes nothing.
 use Prim.Native.Nat.{ℕ, _+_, _<_, _≤_}
@@ -10,7 +11,8 @@ use lib.ListN.{length}
 use Rattle.papers.specs.Numbers.{readNumber}
 use Rattle.papers.specs.Plan.{Read, got, bad, field}
 use Rattle.papers.specs.Refusals.{answer}
-use Rattle.papers.specs.Conditions.{Stands, Field, nothing, low, high, fromStep, following, Reaches, begin, next, PlanFault, twelve, thirteen, fourteen, fifteen}
+use Rattle.papers.specs.Conditions.{Stands, Field, nothing, low, high, fromStep, following, Reaches, begin, next, PlanFault}
+use Rattle.papers.specs.Conditions.{twelve, thirteen, fourteen, fifteen}
 use Rattle.papers.specs.declared.Answer.{Answer}
 use Rattle.papers.specs.declared.Number.{Number}
 use Rattle.papers.specs.declared.Number.the-variants.{Value, Ended, TooLong, NotShortest}
@@ -91,13 +93,15 @@ module _ (n : ℕ) (s : List ℕ) where
     leads begin = stay
     leads (next r h e l u) = leads-on (leads r) (on h (in-range _ _ s _ _ _ (number-stands-iff s _ _ .1 e) l u) stay)
 
-    bad-number : {y : Field} {to number place : ℕ} → Reaches n s from y to → y ≢ nothing → numberAt y to ≡ bad number place → PlanFault n s from (answer number place 0)
+    bad-number : {y : Field} {to number place : ℕ} → Reaches n s from y to → y ≢ nothing → numberAt y to ≡ bad number place
+        → PlanFault n s from (answer number place 0)
     bad-number {y} {to} {number} {place} r h e = go (readNumber s to) refl
       where
         same : (m : ℕ) → numberAt y to ≡ bad m (to + 1) → answer number place 0 ≡ answer m (to + 1) 0
         same m f = let (a, b) = bad-inj (sym e ∙ f) in cc
 
-        out : (v end : ℕ) → readNumber s to ≡ Value v end → (v < low y) ⊎ (low y ≤ v) → (high n y < v) ⊎ (v ≤ high n y) → PlanFault n s from (answer number place 0)
+        out : (v end : ℕ) → readNumber s to ≡ Value v end → (v < low y) ⊎ (low y ≤ v) → (high n y < v) ⊎ (v ≤ high n y)
+            → PlanFault n s from (answer number place 0)
         out v end q (inl l) u = rw (same 14 (out-of-range _ _ s to v end q (inl l))) (fourteen r h (standing _ _ q) (inl l))
         out v end q (inr l) (inl u) = rw (same 14 (out-of-range _ _ s to v end q (inr u))) (fourteen r h (standing _ _ q) (inr u))
         out v end q (inr l) (inr u) = absurd (got-bad (in-range _ _ s to v end q l u) e)

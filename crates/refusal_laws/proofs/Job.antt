@@ -14,7 +14,8 @@ use Rattle.papers.specs.Bounds.{maxColumns, maxMark, maxLimit}
 use Rattle.papers.specs.Lists.{least}
 use Rattle.papers.specs.Job.{Job, start}
 use Rattle.papers.specs.Refusals.{answer, untouched, Verdict, passed, refused, first, falls, columnsTest, markTest, limitTest, startsTest, jobTests}
-use Rattle.papers.specs.Conditions.{RowLists, jobLists, jobConditions, Least, ColumnsOver, MarkUnknown, LimitOver, Falls, StartsFault, miscounted, not-zero, falls as falls-at, last, BadStarts}
+use Rattle.papers.specs.Conditions.{RowLists, jobLists, jobConditions, Least, ColumnsOver, MarkUnknown, LimitOver, Falls}
+use Rattle.papers.specs.Conditions.{StartsFault, miscounted, not-zero, falls as falls-at, last, BadStarts}
 use Rattle.list_laws.proofs.Leasts.{least-zero-iff}
 use Rattle.job_laws.proofs.Untouched.{Early, job-untouched}
 use Rattle.job_laws.proofs.Starts.{falls-false-iff, starts-few, starts-from, starts-fall, starts-end, starts-pass}
@@ -31,7 +32,8 @@ columns-agree n = agree-if _ _ untouched (below-iff maxColumns n)
 -- 2
 pub mark-agree : (job : Job) → Agree (markTest job) (MarkUnknown job)
 unfolding markTest
-mark-agree job = agree-if _ _ untouched (λ e. over (ltb-true maxMark (job .mark) e), λ h. lt-ltb maxMark (job .mark) (omega (arith, h .0, h .1, h .2)))
+mark-agree job =
+    agree-if _ _ untouched (λ e. over (ltb-true maxMark (job .mark) e), λ h. lt-ltb maxMark (job .mark) (omega (arith, h .0, h .1, h .2)))
   where
     over : maxMark < job .mark → (job .mark ≢ 0) × (job .mark ≢ 1) × (job .mark ≢ 2)
     over h = (λ e. omega arith, λ e. omega arith, λ e. omega arith)
@@ -78,7 +80,8 @@ module _ (c : RowLists) where
       four p b = inr (answer 4 p 0, (p, b, refl))
 
       go : Dec (length (c .starts) ≡ c .n + 1) → Dec (start (c .starts) 1 ≡ 0) → (p : ℕ) → least (falls (c .starts)) (c .n) ≡ p
-          → Dec (start (c .starts) (suc (c .n)) ≡ length (c .rows)) → (startsTest (c .n) (c .starts) (c .rows) ≡ passed) ⊎ ((a : Answer) × BadStarts c a)
+          → Dec (start (c .starts) (suc (c .n)) ≡ length (c .rows))
+          → (startsTest (c .n) (c .starts) (c .rows) ≡ passed) ⊎ ((a : Answer) × BadStarts c a)
       go (no a) b p z d = four 0 (miscounted a)
       go (yes a) (no b) p z d = four 0 (not-zero a b)
       go (yes a) (yes b) (suc j) z d = let (r, f, none) = least-fall j .0 z in four (suc j) (falls-at a b (r .0) (r .1) f none)

@@ -1,4 +1,5 @@
--- How far a key goes, and how far the reading of a plan: each number has at most as many groups as it may have. A key has four numbers, a count for each column and a gap for
+-- How far a key goes, and how far the reading of a plan: each number has at most as many groups as it may have. A key has four numbers, a count for
+-- each column and a gap for
 -- each row. Of a plan's numbers fewer are still to come with each that is read, and what can come is bounded by n.
 -- Assumes nothing.
 use Prim.Native.Nat.{ℕ, zero, suc, _+_, _-_, _*_, _<_, _≤_}
@@ -15,7 +16,8 @@ use Rattle.papers.specs.Bounds.{maxGroups}
 use Rattle.papers.specs.Lists.{flat}
 use Rattle.papers.specs.Job.{Job, pattern}
 use Rattle.papers.specs.Key.{listNumbers, listsNumbers, listsOf, keyNumbers, keyOf}
-use Rattle.papers.specs.Conditions.{Stands, ended, too-long, not-shortest, value, Field, column, pops, count, gap, peak, nothing, high, fromList, fromGap, fromStep, following, Reaches, begin, next}
+use Rattle.papers.specs.Conditions.{Stands, ended, too-long, not-shortest, value, Field, column, pops, count, gap, peak}
+use Rattle.papers.specs.Conditions.{nothing, high, fromList, fromGap, fromStep, following, Reaches, begin, next}
 use Rattle.list_laws.proofs.Tests.{Test, passes, fails, test}
 use Rattle.bytes_laws.proofs.Gaps.{length-gaps}
 use Rattle.bytes_laws.proofs.Writing.{encode-short}
@@ -72,7 +74,8 @@ module _ (n : ℕ) where
   list-left j = go (test (leb j n))
     where
       go : Test (leb j n) → left n (fromList n j) ≤ fromColumn n j
-      go (passes e) = let h = leb-true j n e in let q : n + 1 - j ≡ suc (n + 1 - suc j) = omega arith in rw (e, fromList, left, q, mostOf) (omega arith)
+      go (passes e) =
+          let h = leb-true j n e in let q : n + 1 - j ≡ suc (n + 1 - suc j) = omega arith in rw (e, fromList, left, q, mostOf) (omega arith)
       go (fails e) = rw (e, fromList, left) (some-left n (n + 1 - j))
 
   gap-left : (j b k : ℕ) → left n (fromGap n j b k) ≤ k + fromColumn n (suc j)
@@ -109,7 +112,8 @@ module _ (n : ℕ) where
   ends (value l h c b o) = omega arith
 
   -- so a field is reached with so many bytes to spare
-  reaches-left : {s : List ℕ} {from : ℕ} {x : Field} {at : ℕ} → Reaches n s from x at → at + maxGroups * left n x ≤ from + maxGroups * (2 * n + mostOf n n)
+  reaches-left : {s : List ℕ} {from : ℕ} {x : Field} {at : ℕ} → Reaches n s from x at
+      → at + maxGroups * left n x ≤ from + maxGroups * (2 * n + mostOf n n)
   reaches-left begin = let e : n + 1 - 1 ≡ n = omega arith in let h = rw e at (step-left n) in omega arith
   reaches-left (next {x = x} {v = v} r some stands l h) = omega (arith, reaches-left r, fewer-left x v some h, ends stands)
 

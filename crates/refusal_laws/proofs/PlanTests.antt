@@ -1,4 +1,5 @@
--- The tests of a plan that was read (16 to 20) against their conditions. A repeat is found among the steps before it; without repeats the steps are an order
+-- The tests of a plan that was read (16 to 20) against their conditions. A repeat is found among the steps before it; without repeats the steps are
+-- an order
 -- of all columns, which the test of subtrees asks for.
 -- Assumes nothing.
 use Prim.Native.Nat.{ℕ, zero, suc, _-_, _≤_}
@@ -83,15 +84,18 @@ module _ (job : Job) (plan : Plan) (read : Steps (job .n) (job .n) (columnsIn (p
               arith,
               read .0,
               length-upTo (job .n),
-              distinct-length (j ∷ columnsIn (plan .steps)) (upTo (job .n)) (λ m. true-false (member-into j (columnsIn (plan .steps)) m) e, once) (λ i m. within i (List·Memᴰ·cases-cons m)),
+              distinct-length (j ∷ columnsIn (plan .steps)) (upTo (job .n)) (λ m. true-false (member-into j (columnsIn (plan .steps)) m) e, once)
+                  (λ i m. within i (List·Memᴰ·cases-cons m)),
             ))
 
     -- 18
-    pub subtree-agree : Below (job .n) (pattern job) → Agree (subtreeTest job plan) (λ a. (p : ℕ) × Least (Faulty job plan) (job .n) p × (a ≡ answer 18 p 0))
+    pub subtree-agree : Below (job .n) (pattern job)
+        → Agree (subtreeTest job plan) (λ a. (p : ℕ) × Least (Faulty job plan) (job .n) p × (a ≡ answer 18 p 0))
     unfolding subtreeTest
     subtree-agree below =
         agree-at _ (job .n)
-        (λ s l u. unless-iff _ (scattered-test (tree-of below) (columnsIn (plan .steps)) (λ j. (read .1 j, λ (a, b). all j a b)) once s l (omega (arith, read .0))))
+        (λ s l u. unless-iff _ (scattered-test (tree-of below) (columnsIn (plan .steps)) (λ j. (read .1 j, λ (a, b). all j a b)) once s l
+        (omega (arith, read .0))))
         (λ p. 18) (λ p. 0) zeroed
 
 -- ---- 17, 19, 20
@@ -107,7 +111,8 @@ module _ (job : Job) (plan : Plan) where
   pub pops-agree : Agree (popsTest job plan) (λ a. (p : ℕ) × Least (PopsWrong job plan) (job .n) p × (a ≡ answer 19 p 0))
   unfolding popsTest
   pops-agree =
-      agree-at _ (job .n) (λ s l u. differ-iff (getD (popsIn (plan .steps)) (s - 1) 0) (popsOf (job .n) (pattern job) (columnAt (columnsIn (plan .steps)) s))) (λ p. 19) (λ p. 0) zeroed
+      agree-at _ (job .n) (λ s l u. differ-iff (getD (popsIn (plan .steps)) (s - 1) 0)
+      (popsOf (job .n) (pattern job) (columnAt (columnsIn (plan .steps)) s))) (λ p. 19) (λ p. 0) zeroed
 
   pub declared-agree : Agree (declaredTest job plan) (λ a. (plan .peak ≢ truePeak job plan) × (a ≡ answer 20 0 (truePeak job plan)))
   unfolding declaredTest

@@ -47,7 +47,8 @@ printed-injective v w (x ∷ xs) (y ∷ ys) p q e =
 pub refusal-line-injective : (a b : Answer) → refusalLine a ≡ refusalLine b → a ≡ b
 unfolding refusalLine
 refusal-line-injective a b e =
-    let q = printed-injective wordRefused wordRefused (a .number ∷ a .place ∷ a .count ∷ []) (b .number ∷ b .place ∷ b .count ∷ []) refused-word refused-word e .1 in
+    let q = printed-injective wordRefused wordRefused (a .number ∷ a .place ∷ a .count ∷ []) (b .number ∷ b .place ∷ b .count ∷ []) refused-word
+    refused-word e .1 in
     same (cc) (cc) (cc)
   where
     refused-word : Word wordRefused

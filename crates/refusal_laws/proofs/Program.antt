@@ -1,4 +1,5 @@
--- The listing program prints the line of a refusal exactly where its conditions give that refusal, and else the listing: text and analysis are tested one
+-- The listing program prints the line of a refusal exactly where its conditions give that refusal, and else the listing: text and analysis are tested
+-- one
 -- after the other, and no two of these outcomes print the same.
 -- Assumes nothing.
 use Prim.Native.Nat.{ℕ, zero, suc, _<_}
@@ -13,8 +14,10 @@ use Rattle.papers.specs.Lists.{zeros}
 use Rattle.papers.specs.Job.{Job}
 use Rattle.papers.specs.Refusals.{answer, Leaves, untouched, zeroed, Verdict, passed, refused, first, Outcome, Lent}
 use Rattle.papers.specs.Analysis.{analysisTests, analysisDone, analysed}
-use Rattle.papers.specs.Text.{Input, textJob, textTests, refusalLine, buffers, jobPrinted, programPrints, ListingCall, listingTests, listingDone, listed}
-use Rattle.papers.specs.Conditions.{Answered, Unrefused, analysisConditions, textConditions, programAnalysis, programConditions, programListing, ListingShort}
+use Rattle.papers.specs.Text.{Input, textJob, textTests, refusalLine, buffers, jobPrinted, programPrints, ListingCall}
+use Rattle.papers.specs.Text.{listingTests, listingDone, listed}
+use Rattle.papers.specs.Conditions.{Answered, Unrefused, analysisConditions, textConditions, programAnalysis}
+use Rattle.papers.specs.Conditions.{programConditions, programListing, ListingShort}
 use Rattle.job_laws.proofs.Firsts.{refused-passed, first-append-passed, first-append-refused, first-map, first-each}
 use Rattle.refusal_laws.specs.Exactly.{Exactly}
 use Rattle.refusal_laws.proofs.Agreements.{Refuses, one-answer, AgreeEach, _▸_, answered-iff, passed-iff}
@@ -47,13 +50,15 @@ module _ (input : Input) where
   program-agree : AgreeEach programTests programConditions input
   unfolding programTests
   program-agree =
-      append-agree textTests _ textConditions _ input (text-agree input) (λ p. part-agree programAnalysis analysisTests analysisConditions input (analysis-agree (programAnalysis input)))
+      append-agree textTests _ textConditions _ input (text-agree input) (λ p. part-agree programAnalysis analysisTests analysisConditions input
+      (analysis-agree (programAnalysis input)))
 
   text-refused : {a : Answer} {l : Leaves} → first textTests input ≡ refused a l → programPrints input ≡ refusalLine a
   unfolding programPrints
   text-refused e = rw (e, programPrints)
 
-  text-passed : first textTests input ≡ passed → programPrints input ≡ jobPrinted (textJob (input .text)) (analysed (textJob (input .text)) buffers .answer)
+  text-passed : first textTests input ≡ passed
+      → programPrints input ≡ jobPrinted (textJob (input .text)) (analysed (textJob (input .text)) buffers .answer)
   unfolding programPrints
   text-passed e = rw (e, programPrints)
 
@@ -66,7 +71,8 @@ module _ (input : Input) where
           let r = sym (first-map programAnalysis analysisTests input) ∙ sym (first-append-passed textTests _ input q) ∙ e in
           let n = numbered a l (rw r at (analysis-leaving (programAnalysis input))) in
           let given = answered-iff analysisTests analysisConditions (programAnalysis input) (analysis-agree (programAnalysis input)) a .0 (l, r) in
-          text-passed q ∙ ap (jobPrinted (textJob (input .text))) (analyse-exactly (programAnalysis input) .refused-iff a n .1 given) ∙ job-refusal (textJob (input .text)) a n
+          text-passed q ∙ ap (jobPrinted (textJob (input .text))) (analyse-exactly (programAnalysis input) .refused-iff a n .1 given) ∙ job-refusal
+          (textJob (input .text)) a n
       go (refused b m) q = text-refused q ∙ ap refusalLine (one-answer (first-append-refused textTests _ input q) e)
 
   prints-listing : first programTests input ≡ passed → programPrints input ≡ programListing input
@@ -106,9 +112,11 @@ module _ (input : Input) where
 -- ---- the listing into a lent slice
 
 -- a listing is written, or refused, exactly by its 7
-pub listing-exactly : (call : ListingCall) → Exactly (ListingShort ∷ []) call (call .bytes) (zeros (call .bytes)) (listingDone call) (listed (call .input) (call .bytes))
+pub listing-exactly : (call : ListingCall)
+    → Exactly (ListingShort ∷ []) call (call .bytes) (zeros (call .bytes)) (listingDone call) (listed (call .input) (call .bytes))
 unfolding listed listingDone listingTests
 listing-exactly call =
-    outcome-exactly listingTests listingDone zeros call (call .bytes) (ListingShort ∷ []) (agree-if _ _ untouched (below-iff (length (call .bytes)) listingBytes) ▸ λ p. tt)
+    outcome-exactly listingTests listingDone zeros call (call .bytes) (ListingShort ∷ [])
+    (agree-if _ _ untouched (below-iff (length (call .bytes)) listingBytes) ▸ λ p. tt)
     (first-each Leaving listingTests call tt (leaving-if _ _ untouched (omega arith, omega arith) & tt))
     (λ p. refl)

@@ -46,7 +46,8 @@ module _ (n : ℕ) (s : List ℕ) where
   behind-field l (through m) = through (leads-on n s l m)
   behind-field l (fails (z, end, m, h)) = fails (z, end, leads-on n s l m, h)
 
-  then-follows : {A B : Type 0} {x y z : Field} {at : ℕ} {r : Read A} (next : A → ℕ → Read B) → Follows x at y r → ((a : A) (to : ℕ) → Follows y to z (next a to))
+  then-follows : {A B : Type 0} {x y z : Field} {at : ℕ} {r : Read A} (next : A → ℕ → Read B) → Follows x at y r
+      → ((a : A) (to : ℕ) → Follows y to z (next a to))
       → Follows x at z (then r next)
   unfolding then
   then-follows next (through {a = a} {to = to} l) f = behind-field l (f a to)
@@ -57,7 +58,8 @@ module _ (n : ℕ) (s : List ℕ) where
   onto-follows xs (through l) = through l
   onto-follows xs (fails h) = fails h
 
-  field-follows : {A : Type 0} (x : Field) {z : Field} (at : ℕ) (next : ℕ → ℕ → Read A) → Some x → ((v to : ℕ) → Follows (following n x v) to z (next v to))
+  field-follows : {A : Type 0} (x : Field) {z : Field} (at : ℕ) (next : ℕ → ℕ → Read A) → Some x
+      → ((v to : ℕ) → Follows (following n x v) to z (next v to))
       → Follows x at z (then (numberAt n s x at) next)
   unfolding then
   field-follows {A} x {z} at next h f = go (numberAt n s x at) refl
@@ -124,11 +126,13 @@ module _ (n : ℕ) (s : List ℕ) where
       let i = fails-iff n s from number place in
       (λ e. i .0 (there e (plan-follows from)), λ b. back (i .1 b) (readPlan n s from) refl)
     where
-      there : {r : Read Plan} {number place : ℕ} → r ≡ bad number place → Follows (fromStep n n) from nothing r → Fails n s (fromStep n n) from number place
+      there : {r : Read Plan} {number place : ℕ} → r ≡ bad number place → Follows (fromStep n n) from nothing r
+          → Fails n s (fromStep n n) from number place
       there e (through l) = absurd (got-bad refl e)
       there e (fails h) = let (a, b) = bad-inj e in rw (← a, ← b) h
 
-      ends : {r : Read Plan} {plan : Plan} {end : ℕ} → r ≡ got plan end → Follows (fromStep n n) from nothing r → Leads n s nothing end (fromStep n n) from
+      ends : {r : Read Plan} {plan : Plan} {end : ℕ} → r ≡ got plan end → Follows (fromStep n n) from nothing r
+          → Leads n s nothing end (fromStep n n) from
       ends e (through l) = rw (← got-inj e .1) l
       ends e (fails h) = absurd (got-bad e refl)
 

@@ -34,8 +34,11 @@ module _ (c : RowLists) where
       inside k a b (inl h) = omega arith
       inside k a b (inr h) = omega arith
 
-      behind : (k : ℕ) → j < rowOf c j (suc k) → rowOf c j (suc k) ≤ c .n → (rowOf c j k < rowOf c j (suc k)) ⊎ (rowOf c j (suc k) ≤ rowOf c j k) → RowIs j (suc k)
-      behind k a b (inl d) = clear (row-fine (c .n) j _ (rowOf c j (suc k)) a b d) (inside (suc k) a b, λ h. let e : suc k - 1 ≡ k = omega arith in omega (arith, rw e at (h .1)))
+      behind : (k : ℕ) → j < rowOf c j (suc k) → rowOf c j (suc k) ≤ c .n → (rowOf c j k < rowOf c j (suc k)) ⊎ (rowOf c j (suc k) ≤ rowOf c j k)
+          → RowIs j (suc k)
+      behind k a b (inl d) =
+          clear (row-fine (c .n) j _ (rowOf c j (suc k)) a b d)
+          (inside (suc k) a b, λ h. let e : suc k - 1 ≡ k = omega arith in omega (arith, rw e at (h .1)))
       behind k a b (inr d) =
           let e : suc k - 1 ≡ k = omega arith in fallen (row-falls (c .n) j _ (rowOf c j (suc k)) a b d) (inside (suc k) a b) (omega arith, rw e d)
 

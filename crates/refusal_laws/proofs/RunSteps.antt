@@ -48,7 +48,8 @@ module _ (call : RunCall) where
     known-iff : (known ≡ true) ↔ Known call s
     unfolding known
     known-iff = (
-      λ e. let (a, b) = and-both (leb 1 (stepColumn call s)) (leb (stepColumn call s) (call .n)) e in (leb-true 1 (stepColumn call s) a, leb-true (stepColumn call s) (call .n) b),
+      λ e. let (a, b) = and-both (leb 1 (stepColumn call s)) (leb (stepColumn call s) (call .n)) e in
+          (leb-true 1 (stepColumn call s) a, leb-true (stepColumn call s) (call .n) b),
       λ h. rw (le-leb 1 (stepColumn call s) (h .0)) (le-leb (stepColumn call s) (call .n) (h .1)),
     )
 

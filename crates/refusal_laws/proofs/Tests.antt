@@ -61,8 +61,13 @@ module _ (f : ℕ → Bool) (n : ℕ) {P : ℕ → Type 0} (holds : (k : ℕ) �
   pub found-iff : (p : ℕ) → (least f n ≡ suc p) ↔ Least P n (suc p)
   found-iff p =
       let i = least-found-iff f n p in (
-        λ e. let (l, t, g) = i .0 e in ((omega arith, l), holds (suc p) (omega arith) l .0 t, λ k a b x. true-false (holds k a (omega arith) .1 x) (g k a (omega arith))),
-        λ h. i .1 (h .0 .1, holds (suc p) (omega arith) (h .0 .1) .1 (h .1), λ k a b. none k a (omega (arith, h .0 .1)) (λ x. h .2 k a (omega arith) x)),
+        λ e. let (l, t, g) = i .0 e in
+            ((omega arith, l), holds (suc p) (omega arith) l .0 t, λ k a b x. true-false (holds k a (omega arith) .1 x) (g k a (omega arith))),
+        λ h. i .1 (
+          h .0 .1,
+          holds (suc p) (omega arith) (h .0 .1) .1 (h .1),
+          λ k a b. none k a (omega (arith, h .0 .1)) (λ x. h .2 k a (omega arith) x),
+        ),
       )
     where
       none : (k : ℕ) → 1 ≤ k → k ≤ n → ¬ P k → f k ≡ false
@@ -73,7 +78,8 @@ module _ (f : ℕ → Bool) (n : ℕ) {P : ℕ → Type 0} (holds : (k : ℕ) �
           go (fails e) = e
 
   -- a verdict that names the least place agrees with P there
-  pub agree-least : (v : Verdict) (given : ℕ → Answer) (leaves : Leaves) → (least f n ≡ 0 → v ≡ passed) → ((p : ℕ) → least f n ≡ suc p → v ≡ refused (given (suc p)) leaves)
+  pub agree-least : (v : Verdict) (given : ℕ → Answer) (leaves : Leaves) → (least f n ≡ 0 → v ≡ passed)
+      → ((p : ℕ) → least f n ≡ suc p → v ≡ refused (given (suc p)) leaves)
       → Agree v (λ a. (p : ℕ) × Least P n p × (a ≡ given p))
   agree-least v given leaves pass refuse = agree-by v _ (λ a h. back a (h .0) (h .1) (h .2)) (go (least f n) refl)
     where

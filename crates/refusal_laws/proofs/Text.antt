@@ -12,8 +12,10 @@ use Rattle.papers.specs.declared.Answer.{Answer}
 use Rattle.papers.specs.Bounds.{inputBytes, programColumns, programRows}
 use Rattle.papers.specs.Lists.{flat}
 use Rattle.papers.specs.Refusals.{answer, untouched, passed, refused, refusedIf}
-use Rattle.papers.specs.Text.{numbersAt, isRowLine, afterLines, textHead, textLists, Input, inputTest, headTest, lineFault, rowLinesTest, endTest, textTests}
-use Rattle.papers.specs.Conditions.{HeadLine, InputOver, BadHead, bad-head, columns-over, LineFault, bad-line, rows-over, BadLine, TextAfter, textConditions}
+use Rattle.papers.specs.Text.{numbersAt, isRowLine, afterLines, textHead, textLists, Input, inputTest, headTest}
+use Rattle.papers.specs.Text.{lineFault, rowLinesTest, endTest, textTests}
+use Rattle.papers.specs.Conditions.{HeadLine, InputOver, BadHead, bad-head, columns-over, LineFault, bad-line, rows-over}
+use Rattle.papers.specs.Conditions.{BadLine, TextAfter, textConditions}
 use Rattle.list_laws.proofs.Tests.{Test, passes, fails, test}
 use Rattle.job_laws.proofs.Firsts.{refused-if, passed-if}
 use Rattle.refusal_laws.proofs.Agreements.{Refuses, Agree, agree-by, AgreeEach, _▸_}
@@ -38,7 +40,8 @@ module _ (input : Input) where
   unfolding headTest
   head-bad f = rw (f, headTest)
 
-  head-fine : textHead (input .text) .fine ≡ true → headTest input ≡ refusedIf (ltb programColumns (textHead (input .text) .n)) (answer 26 1 0) untouched
+  head-fine : textHead (input .text) .fine ≡ true
+      → headTest input ≡ refusedIf (ltb programColumns (textHead (input .text) .n)) (answer 26 1 0) untouched
   unfolding headTest
   head-fine f = rw (f, headTest)
 
@@ -49,7 +52,8 @@ module _ (input : Input) where
       gives a (bad-head h) = (untouched, head-bad (fails-iff _ fine-iff .1 h))
       gives a (columns-over h l) = (untouched, head-fine (fine-iff .1 h) ∙ refused-if _ _ untouched (over-iff .1 l))
 
-      go : Test (textHead (input .text) .fine) → Test (ltb programColumns (textHead (input .text) .n)) → (headTest input ≡ passed) ⊎ ((a : Answer) × BadHead input a)
+      go : Test (textHead (input .text) .fine) → Test (ltb programColumns (textHead (input .text) .n))
+          → (headTest input ≡ passed) ⊎ ((a : Answer) × BadHead input a)
       go (fails f) c = inr (answer 25 1 0, bad-head (fails-iff _ fine-iff .0 f))
       go (passes f) (passes c) = inr (answer 26 1 0, columns-over (fine-iff .0 f) (over-iff .0 c))
       go (passes f) (fails c) = inl (head-fine f ∙ passed-if _ _ untouched c)
@@ -91,7 +95,8 @@ module _ (text : List ℕ) where
 lines-agree : (input : Input) → Agree (rowLinesTest input) (BadLine input)
 unfolding rowLinesTest
 lines-agree input =
-    agree-faults (line-faults (input .text)) (textHead (input .text) .n) _ (λ number j. answer number (suc j) 0) untouched (λ e. rw (e, rowLinesTest)) (λ p e. rw (e, rowLinesTest))
+    agree-faults (line-faults (input .text)) (textHead (input .text) .n) _ (λ number j. answer number (suc j) 0) untouched (λ e. rw (e, rowLinesTest))
+    (λ p e. rw (e, rowLinesTest))
 
 -- 25 behind the last row line
 end-agree : (input : Input) → Agree (endTest input) (TextAfter input)

@@ -37,18 +37,37 @@ module _ (size pops : ℕ → ℕ) (order : List ℕ) where
   held-by-steps zero h = refl
   held-by-steps (suc k) h =
       held-append sizeAt popsAt [] (upTo k) (suc k ∷ [])
-      ∙ rw (take-suc order k 0 (omega arith), held-append size pops [] (take k order) (getD order k 0 ∷ []), pops-here k (omega arith), size-here k, held-by-steps k (omega arith))
+      ∙ rw (
+        take-suc order k 0 (omega arith),
+        held-append size pops [] (take k order) (getD order k 0 ∷ []),
+        pops-here k (omega arith),
+        size-here k,
+        held-by-steps k (omega arith),
+      )
 
   rooms-by-steps : (k : ℕ) → k ≤ length order → rooms sizeAt popsAt [] (upTo k) ≡ rooms size pops [] (take k order)
   unfolding upTo
   rooms-by-steps zero h = rw (rooms-nil sizeAt popsAt [], rooms-nil size pops [])
   rooms-by-steps (suc k) h =
       rooms-append sizeAt popsAt [] (upTo k) (suc k ∷ [])
-      ∙ rw (take-suc order k 0 (omega arith), rooms-append size pops [] (take k order) (getD order k 0 ∷ []), rooms-by-steps k (omega arith), held-by-steps k (omega arith))
+      ∙ rw (
+        take-suc order k 0 (omega arith),
+        rooms-append size pops [] (take k order) (getD order k 0 ∷ []),
+        rooms-by-steps k (omega arith),
+        held-by-steps k (omega arith),
+      )
       (ap (λ l. rooms size pops [] (take k order) ++ l) (last k (omega arith) (heldAfterAll size pops [] (take k order))))
     where
       last : (k : ℕ) → k < length order → (held : List ℕ) → rooms sizeAt popsAt held (suc k ∷ []) ≡ rooms size pops held (getD order k 0 ∷ [])
-      last k h held = rw (rooms-cons sizeAt popsAt held (suc k) [], rooms-cons size pops held (getD order k 0) [], pops-here k h, size-here k, rooms-nil, rooms-nil)
+      last k h held =
+          rw (
+            rooms-cons sizeAt popsAt held (suc k) [],
+            rooms-cons size pops held (getD order k 0) [],
+            pops-here k h,
+            size-here k,
+            rooms-nil,
+            rooms-nil,
+          )
 
   -- the peak
   pub peak-by-steps : peakOf sizeAt popsAt (upTo (length order)) ≡ peakOf size pops order
@@ -56,5 +75,6 @@ module _ (size pops : ℕ → ℕ) (order : List ℕ) where
   peak-by-steps = ap greatest (rooms-by-steps (length order) (omega arith) ∙ ap (rooms size pops []) (take-length order))
 
   -- no step takes off more than is held
-  pub enough-by-steps : (k : ℕ) → k < length order → pops (getD order k 0) ≤ length (heldAfterAll size pops [] (take k order)) → popsAt (suc k) ≤ length (heldAfterAll sizeAt popsAt [] (upTo k))
+  pub enough-by-steps : (k : ℕ) → k < length order → pops (getD order k 0) ≤ length (heldAfterAll size pops [] (take k order))
+      → popsAt (suc k) ≤ length (heldAfterAll sizeAt popsAt [] (upTo k))
   enough-by-steps k b h = rw (pops-here k b, held-by-steps k (omega arith)) h

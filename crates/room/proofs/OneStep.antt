@@ -27,7 +27,8 @@ over-top : (p r : ℕ) (held : List ℕ) → 0 < p → p ≤ length held → roo
 over-top p r [] h l = absurd (omega arith)
 over-top p r (x ∷ held) h l = room-over p r x held h
 
-module _ (below held : List ℕ) (depth p r : ℕ) (deep : length held ≡ depth) (less : p ≤ depth) (sums : (i : ℕ) → i ≤ depth → getD below i 0 ≡ sum (drop (depth - i) held))
+module _ (below held : List ℕ) (depth p r : ℕ) (deep : length held ≡ depth) (less : p ≤ depth) (sums : (i : ℕ) → i ≤ depth
+    → getD below i 0 ≡ sum (drop (depth - i) held))
     (wide : depth + 1 < length below)
   where
     pub room-here : getD below (depth - min p 1) 0 + t (r + 1) ≡ roomAt p r held
@@ -57,7 +58,8 @@ module _ (below held : List ℕ) (depth p r : ℕ) (deep : length held ≡ depth
     pub record After (v : ℕ) : Type 0 where
       pub length-after : length (heldAfter p r held) ≡ depth - p + min r 1
       pub sum-after : sum (heldAfter p r held) ≤ sum held + t r
-      pub sums-after : (i : ℕ) → i ≤ depth - p + min r 1 → getD (set below (depth - p + 1) v) i 0 ≡ sum (drop (depth - p + min r 1 - i) (heldAfter p r held))
+      pub sums-after : (i : ℕ) → i ≤ depth - p + min r 1
+          → getD (set below (depth - p + 1) v) i 0 ≡ sum (drop (depth - p + min r 1 - i) (heldAfter p r held))
 
     pub after : (v : ℕ) → v ≡ getD below (depth - p) 0 + t r → After v
     after v e = go (below-or 0 r)
@@ -79,7 +81,8 @@ module _ (below held : List ℕ) (depth p r : ℕ) (deep : length held ≡ depth
               sums-after = λ i b. rw is (at i b (below-or (depth - p) i));
             }
           where
-            at : (i : ℕ) → i ≤ depth - p + min r 1 → (depth - p < i) ⊎ (i ≤ depth - p) → getD (set below (depth - p + 1) v) i 0 ≡ sum (drop (depth - p + min r 1 - i) (t r ∷ drop p held))
+            at : (i : ℕ) → i ≤ depth - p + min r 1 → (depth - p < i) ⊎ (i ≤ depth - p)
+                → getD (set below (depth - p + 1) v) i 0 ≡ sum (drop (depth - p + min r 1 - i) (t r ∷ drop p held))
             at i b (inl a) =
                 let q : depth - p + min r 1 - i ≡ 0 = omega arith in
                 let w : i ≡ depth - p + 1 = omega arith in

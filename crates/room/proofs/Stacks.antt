@@ -30,9 +30,12 @@ module _ (factor order pops : List ℕ) where
   abbrev roomsTo : ℕ → List ℕ
   roomsTo k = rooms (rowsAt factor order) (popsAt pops) [] (upTo k)
 
-  next-room : (k : ℕ) → greatest (roomsTo (suc k)) ≡ max (greatest (roomsTo k)) (roomAt (popsAt pops (suc k)) (rowsAt factor order (suc k)) (heldAt factor order pops k))
+  next-room : (k : ℕ) → greatest (roomsTo (suc k)) ≡ max (greatest (roomsTo k)) (roomAt (popsAt pops (suc k)) (rowsAt factor order (suc k))
+      (heldAt factor order pops k))
   unfolding upTo greatest
-  next-room k = ap greatest (rooms-append (rowsAt factor order) (popsAt pops) [] (upTo k) (suc k ∷ [])) ∙ rw (greatest-append, rooms-cons, rooms-nil) (omega arith)
+  next-room k =
+      ap greatest (rooms-append (rowsAt factor order) (popsAt pops) [] (upTo k) (suc k ∷ [])) ∙ rw (greatest-append, rooms-cons, rooms-nil)
+      (omega arith)
 
 -- the updates held after k steps have their sums in below
 pub record Stacked (factor order pops below₀ below : List ℕ) (depth k : ℕ) : Type 0 where
@@ -57,7 +60,8 @@ module _ (factor order pops : List ℕ) where
     long = refl;
   }
 
-  module _ {below₀ below : List ℕ} {depth k : ℕ} (inv : Stacked factor order pops below₀ below depth k) (pre : Stepped factor order pops) (more : k < length order) {r : ℕ}
+  module _ {below₀ below : List ℕ} {depth k : ℕ} (inv : Stacked factor order pops below₀ below depth k) (pre : Stepped factor order pops)
+      (more : k < length order) {r : ℕ}
       (rows : (r ≡ rowsIn factor (getD order k 0)) × (r ≤ maxColumns))
     where
       enough : getD pops k 0 ≤ depth
@@ -79,15 +83,20 @@ module _ (factor order pops : List ℕ) where
       }
 
       -- the room of the next step
-      pub stacked-room : {u : ℕ} → u ≡ getD below (depth - min (getD pops k 0) 1) 0 + t (r + 1) → u ≡ roomAt (popsAt pops (suc k)) (rowsAt factor order (suc k)) (heldAt factor order pops k)
-      stacked-room e = rw (rows-here, column-at pops k) (e ∙ room-here below (heldAt factor order pops k) depth (getD pops k 0) r (inv .deep) enough (inv .sums) inside)
+      pub stacked-room : {u : ℕ} → u ≡ getD below (depth - min (getD pops k 0) 1) 0 + t (r + 1)
+          → u ≡ roomAt (popsAt pops (suc k)) (rowsAt factor order (suc k)) (heldAt factor order pops k)
+      stacked-room e =
+          rw (rows-here, column-at pops k) (e ∙ room-here below (heldAt factor order pops k) depth (getD pops k 0) r (inv .deep) enough (inv .sums)
+          inside)
 
-      pub stacked-turn : {d : ℕ} {b : List ℕ} → d ≡ depth - getD pops k 0 + min r 1 → b ≡ set below (depth - getD pops k 0 + 1) (getD below (depth - getD pops k 0) 0 + t r)
+      pub stacked-turn : {d : ℕ} {b : List ℕ} → d ≡ depth - getD pops k 0 + min r 1
+          → b ≡ set below (depth - getD pops k 0 + 1) (getD below (depth - getD pops k 0) 0 + t r)
           → Stacked factor order pops below₀ b d (k + 1)
       stacked-turn e f =
           let p = getD pops k 0 in
           let held = heldAt factor order pops k in
-          let next : heldAt factor order pops (k + 1) ≡ heldAfter p r held = rw (add-one, ← rows-here, ← (column-at pops k)) (next-held factor order pops k) in
+          let next : heldAt factor order pops (k + 1) ≡ heldAfter p r held = rw (add-one, ← rows-here, ← (column-at pops k))
+          (next-held factor order pops k) in
           let a = after below held depth p r (inv .deep) enough (inv .sums) inside (getD below (depth - p) 0 + t r) refl in
           rw (e, f) (record {
             deep = rw next (a .length-after);
@@ -115,7 +124,8 @@ module _ (factor order pops : List ℕ) where
     unfolding peakOf
     peaked-stop h = let e : k ≡ length order = omega (arith, inv .stacked .seen) in rw (← e) (inv .so-far)
 
-    pub peaked-turn : (pre : Stepped factor order pops) (more : k < length order) {r u m d : ℕ} {b : List ℕ} → (r ≡ rowsIn factor (getD order k 0)) × (r ≤ maxColumns)
+    pub peaked-turn : (pre : Stepped factor order pops) (more : k < length order) {r u m d : ℕ} {b : List ℕ}
+        → (r ≡ rowsIn factor (getD order k 0)) × (r ≤ maxColumns)
         → u ≡ getD below (depth - min (getD pops k 0) 1) 0 + t (r + 1) → m ≡ max most u → d ≡ depth - getD pops k 0 + min r 1
         → b ≡ set below (depth - getD pops k 0 + 1) (getD below (depth - getD pops k 0) 0 + t r)
         → Peaked factor order pops below₀ b d m (k + 1)

@@ -40,4 +40,5 @@ pub record Stepped (factor order pops : List ℕ) : Type 0 where
 abbrev pub Counted : List ℕ → List ℕ → Type 0
 Counted starts order =
     (k : ℕ) → k < length order
-    → (getD order k 0 + 1 < length starts) × (getD starts (getD order k 0) 0 ≤ getD starts (getD order k 0 + 1) 0) × (getD starts (getD order k 0 + 1) 0 < 2 ^ 32)
+    → (getD order k 0 + 1 < length starts) × (getD starts (getD order k 0) 0 ≤ getD starts (getD order k 0 + 1) 0) ×
+    (getD starts (getD order k 0 + 1) 0 < 2 ^ 32)

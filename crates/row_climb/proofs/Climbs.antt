@@ -111,7 +111,8 @@ module _ {i k t₀ t c : ℕ} {p₀ w₀ p w : List ℕ} (s : Climbing i k p₀ 
           long-w = length-set w c i ∙ r .long-w;
         }
       where
-        row : (n : ℕ) (A : Pattern) → Start n i k A p₀ w₀ t₀ → Row n i A p w t c × ((c ≡ i) ⊎ (i ∈ R A c)) → (getD p′ (c - 1) 0 ≡ parent A c) × (parent A c ≡ c′)
+        row : (n : ℕ) (A : Pattern) → Start n i k A p₀ w₀ t₀ → Row n i A p w t c × ((c ≡ i) ⊎ (i ∈ R A c))
+            → (getD p′ (c - 1) 0 ≡ parent A c) × (parent A c ≡ c′)
             → Row n i A p′ (set w c i) (t + 1) c′ × ((c′ ≡ i) ⊎ (i ∈ R A c′))
         row n A a v g =
             let m = on-path v in
@@ -127,9 +128,11 @@ module _ {i k t₀ t c : ℕ} {p₀ w₀ p w : List ℕ} (s : Climbing i k p₀ 
     pub go-new : getD p (c - 1) 0 ≡ 0 → Climb i k p₀ w₀ t₀ (set p (c - 1) i) (set w c i) (t + 1) i
     go-new e =
         on (set p (c - 1) i) i (here .below) (omega arith) (length-set p (c - 1) i) (λ x z. getD-set-other p (c - 1) x i 0 z)
-        (λ n A a. let v = r .state n A a in let q = parent-new (v .0) (a .good) (on-path v) (r .low) h e in (getD-set-same p (c - 1) i 0 (here .in-p) ∙ sym q, q))
+        (λ n A a. let v = r .state n A a in let q = parent-new (v .0) (a .good) (on-path v) (r .low) h e in
+        (getD-set-same p (c - 1) i 0 (here .in-p) ∙ sym q, q))
 
-    old : (n : ℕ) (A : Pattern) → Start n i k A p₀ w₀ t₀ → getD p (c - 1) 0 ≢ 0 → (getD p (c - 1) 0 ≡ parent A c) × ((c < parent A c) × (parent A c ≤ i))
+    old : (n : ℕ) (A : Pattern) → Start n i k A p₀ w₀ t₀ → getD p (c - 1) 0 ≢ 0
+        → (getD p (c - 1) 0 ≡ parent A c) × ((c < parent A c) × (parent A c ≤ i))
     old n A a e =
         let v = r .state n A a in
         let l = parent-least (a .good) c i (on-path v) in

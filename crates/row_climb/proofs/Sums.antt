@@ -33,7 +33,11 @@ unfolding sumTo
 sum-bump zero d g h a b e f = absurd (omega arith)
 sum-bump (suc n) d g h a b e f =
     ⊎-elim
-    (λ (l : d ≤ n). omega (arith, sum-bump n d g h a l e (λ c u v z. f c u (omega arith) z), f (suc n) (omega arith) (omega arith) (λ z. omega arith)))
+    (λ (l : d ≤ n). omega (
+      arith,
+      sum-bump n d g h a l e (λ c u v z. f c u (omega arith) z),
+      f (suc n) (omega arith) (omega arith) (λ z. omega arith),
+    ))
     (λ (l : d ≡ suc n). omega (arith, sum-same n g h (λ c u v. f c u (omega arith) (λ z. omega arith)), rw l at e))
     (le-suc-iff .0 b)
 

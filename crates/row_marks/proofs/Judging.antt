@@ -28,7 +28,11 @@ asc-whole b xs ys s t into many = asc-ext b xs ys s t into (λ i m. there i m (t
     there : (i : ℕ) → i ∈ ys → Test (member i xs) → i ∈ xs
     there i m (passes e) = member-true i xs e
     there i m (fails e) =
-        absurd (omega (arith, distinct-length (i ∷ xs) ys ((λ k. true-false (member-into i xs k) e), asc-distinct b xs s) (λ k t. pick k (List·Memᴰ·cases-cons t))))
+        absurd (omega (
+          arith,
+          distinct-length (i ∷ xs) ys ((λ k. true-false (member-into i xs k) e), asc-distinct b xs s)
+              (λ k t. pick k (List·Memᴰ·cases-cons t)),
+        ))
       where
         pick : (k : ℕ) → (k ≡ i) ⊎ (k ∈ xs) → k ∈ ys
         pick k (inl q) = rw q m
@@ -49,7 +53,8 @@ module _ {n m : ℕ} {A : Pattern} {w₀ w : List ℕ} {count : ℕ} (c : Counte
     where
       marked-in : every (isMarked n (m + 1) w) l ≡ true → (i : ℕ) → i ∈ l → i ∈ R A (m + 1)
       marked-in e i t =
-          c .marks .sound i (omega (arith, asc-above (m + 1) l (f .0) t)) (eqb-true (getD w (n + n + i) 0) (m + 1) (every-all (isMarked n (m + 1) w) l .0 e i t))
+          c .marks .sound i (omega (arith, asc-above (m + 1) l (f .0) t)) (eqb-true (getD w (n + n + i) 0) (m + 1)
+          (every-all (isMarked n (m + 1) w) l .0 e i t))
 
       go : Test (every (isMarked n (m + 1) w) l) → Test (same l (R A (m + 1))) → every (isMarked n (m + 1) w) l ≡ same l (R A (m + 1))
       go (passes e) t =

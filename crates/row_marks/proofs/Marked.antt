@@ -4,7 +4,8 @@
 use Prim.Native.Nat.{ℕ, _+_, _<_, _≤_}
 use mathlib.Core.Path.{_≡_, refl, _∙_}
 use mathlib.Core.Logic.{_⊎_, inl, inr, ⊎-elim}
-use mathlib.Core.List.{List, [], _∷_, _++_, List·Memᴰ·head, List·Memᴰ·tail, List·Memᴰ·not-nil, List·Memᴰ·cases-cons, List·Memᴰ·append-cases, Memᴰ·append-left, Memᴰ·append-right}
+use mathlib.Core.List.{List, [], _∷_, _++_, List·Memᴰ·head, List·Memᴰ·tail, List·Memᴰ·not-nil}
+use mathlib.Core.List.{List·Memᴰ·cases-cons, List·Memᴰ·append-cases, Memᴰ·append-left, Memᴰ·append-right}
 use native.Mathlib.Omega.{arith}
 use lib.ListN.{length, getD, set, length-set, length-append}
 use lib.Seq.{getD-set-same}
@@ -25,7 +26,8 @@ use Rattle.row_marks.proofs.Newly.{isNew, new-no}
 marked-stays : (n j : ℕ) (l w : List ℕ) (p : ℕ) → getD w p 0 ≡ j → getD (marked n j l w) p 0 ≡ j
 marked-stays n j l w p e = go (marked-cases n j l w p)
   where
-    go : (getD (marked n j l w) p 0 ≡ getD w p 0) ⊎ ((getD (marked n j l w) p 0 ≡ j) × ((i : ℕ) × ((i ∈ l) × (p ≡ n + n + i)))) → getD (marked n j l w) p 0 ≡ j
+    go : (getD (marked n j l w) p 0 ≡ getD w p 0) ⊎ ((getD (marked n j l w) p 0 ≡ j) × ((i : ℕ) × ((i ∈ l) × (p ≡ n + n + i))))
+        → getD (marked n j l w) p 0 ≡ j
     go (inl q) = q ∙ e
     go (inr q) = q .0
 
@@ -37,8 +39,11 @@ marked-all n j (r ∷ rs) w i k m = go (List·Memᴰ·cases-cons m) (λ t. marke
     rest : Markable n rs (set w (n + n + r) j)
     rest = record { most = λ x t. k .most x (List·Memᴰ·tail t); long = rw length-set (k .long) }
 
-    go : (i ≡ r) ⊎ (i ∈ rs) → (i ∈ rs → getD (marked n j rs (set w (n + n + r) j)) (n + n + i) 0 ≡ j) → getD (marked n j rs (set w (n + n + r) j)) (n + n + i) 0 ≡ j
-    go (inl e) ih = rw e (marked-stays n j rs (set w (n + n + r) j) (n + n + r) (getD-set-same w (n + n + r) j 0 (omega (arith, k .most r (List·Memᴰ·head refl), k .long))))
+    go : (i ≡ r) ⊎ (i ∈ rs) → (i ∈ rs → getD (marked n j rs (set w (n + n + r) j)) (n + n + i) 0 ≡ j)
+        → getD (marked n j rs (set w (n + n + r) j)) (n + n + i) 0 ≡ j
+    go (inl e) ih =
+        rw e (marked-stays n j rs (set w (n + n + r) j) (n + n + r)
+        (getD-set-same w (n + n + r) j 0 (omega (arith, k .most r (List·Memᴰ·head refl), k .long))))
     go (inr t) ih = ih t
 
 -- ---- more rows
@@ -52,7 +57,8 @@ module _ {n j : ℕ} {w acc : List ℕ} (are : MarkedAre n j w acc) (more : List
   marked-more k =
       record {
         sound = marks-sound n j more w acc (merge acc more) (are .sound) (λ i m. merge-left acc more m) (λ i m. merge-right acc more m);
-        all = λ i m. ⊎-elim (λ (t : i ∈ acc). marked-stays n j more w (n + n + i) (are .all i t)) (λ (t : i ∈ more). marked-all n j more w i k t) (merge-from acc more m);
+        all = λ i m. ⊎-elim (λ (t : i ∈ acc). marked-stays n j more w (n + n + i) (are .all i t)) (λ (t : i ∈ more). marked-all n j more w i k t)
+            (merge-from acc more m);
       }
 
   pub marked-count : Asc j acc → Asc j more → length (merge acc more) ≡ length acc + length (newRows n j w more)
@@ -70,7 +76,8 @@ module _ {n j : ℕ} {w acc : List ℕ} (are : MarkedAre n j w acc) (more : List
       old-or : (i : ℕ) → i ∈ more → Test (isNew n j w i) → i ∈ (acc ++ newRows n j w more)
       old-or i m (passes e) = Memᴰ·append-right acc (keep-into (isNew n j w) more m e)
       old-or i m (fails e) =
-          Memᴰ·append-left (newRows n j w more) (are .sound i (omega (arith, asc-above j more b m)) (eqb-true (getD w (n + n + i) 0) j (not-false (isMarked n j w i) e)))
+          Memᴰ·append-left (newRows n j w more) (are .sound i (omega (arith, asc-above j more b m))
+          (eqb-true (getD w (n + n + i) 0) j (not-false (isMarked n j w i) e)))
 
       there : (i : ℕ) → (i ∈ acc) ⊎ (i ∈ more) → i ∈ (acc ++ newRows n j w more)
       there i (inl m) = Memᴰ·append-left (newRows n j w more) m

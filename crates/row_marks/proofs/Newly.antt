@@ -73,13 +73,15 @@ module _ {n j : ℕ} {l w₀ w : List ℕ} {count k : ℕ} (m : Newly n j l w₀
         counted = rw (add-one k) (omega arith);
         few = omega (arith, m .few);
         once = rw add-one (apart .1);
-        ahead = λ i t. getD-set-other w (n + n + getD l k 0) (n + n + i) j 0 (λ q. differs i (rw add-one at t) (omega arith)) ∙ m .ahead i (later i t);
+        ahead = λ i t. getD-set-other w (n + n + getD l k 0) (n + n + i) j 0 (λ q. differs i (rw add-one at t) (omega arith)) ∙ m .ahead i
+            (later i t);
       }
     where
       differs : (i : ℕ) → i ∈ drop (suc k) l → i ≡ getD l k 0 → ⊥
       differs i t q = apart .0 (Memᴰ·cast (sym q) t)
 
-pub new-stop : {n j : ℕ} {l w₀ w : List ℕ} {count k : ℕ} → Newly n j l w₀ w count k → length l ≤ k → (count ≡ length (newRows n j w₀ l)) × (w ≡ marked n j l w₀)
+pub new-stop : {n j : ℕ} {l w₀ w : List ℕ} {count k : ℕ} → Newly n j l w₀ w count k → length l ≤ k
+    → (count ≡ length (newRows n j w₀ l)) × (w ≡ marked n j l w₀)
 new-stop {n} {j} {l} {w₀} {count = count} m h =
     let none : count + length (newRows n j w₀ []) ≡ length (newRows n j w₀ l) = rw (drop-of-length-le l h) at (m .counted) in
     (omega (arith, none, ap length (keep-nil (isNew n j w₀))), mark-stop (m .marking) h)

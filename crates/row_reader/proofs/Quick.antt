@@ -19,7 +19,8 @@ use Rattle.field_reader.proofs.Onto.{ends}
 use Rattle.row_reader.specs.Rows.{RowsRead, ShortRead, QuickRead}
 use Rattle.row_reader.proofs.Rows.{rows-none, rows-one, rows-both, rows-long}
 
-module _ {n : ℕ} {s : List ℕ} {j count at t : ℕ} {rows₀ rows : List ℕ} {k last left total : ℕ} (x : RowsRead n s j count at t rows₀ rows k last left total) where
+module _ {n : ℕ} {s : List ℕ} {j count at t : ℕ} {rows₀ rows : List ℕ} {k last left total : ℕ} (x : RowsRead n s j count at t rows₀ rows k last left
+    total) where
   pub quick-room : leb (length rows) total ≡ false → total < length rows₀
   quick-room e = let l = rows-long x in omega (arith, leb-false (length rows) total e)
 
@@ -31,7 +32,8 @@ module _ {n : ℕ} {s : List ℕ} {j count at t : ℕ} {rows₀ rows : List ℕ}
     pub quick-found : fields.Found 1 (n - last) s k gap (k + 2)
     quick-found = fields.field-got 1 (n - last) s k gap (k + 2) read
 
-    pub quick-turn : {row : ℕ} → 0 < left → row ≡ last + gap → RowsRead n s j count at t rows₀ (set rows total row) (k + 2) (last + gap) (left - 1) (total + 1)
+    pub quick-turn : {row : ℕ} → 0 < left → row ≡ last + gap
+        → RowsRead n s j count at t rows₀ (set rows total row) (k + 2) (last + gap) (left - 1) (total + 1)
     quick-turn h e = rows-both x (rows-one n s last left k total rows h (x .high) (read, quick-found) (ap (set rows total) e))
 
   -- rows behind them that are out of their range
@@ -51,7 +53,12 @@ module _ {n : ℕ} {s : List ℕ} {j count at t : ℕ} {rows₀ rows : List ℕ}
   pub quick-stop : left ≡ 0 → QuickRead n s j count at t rows₀ rows k
   quick-stop z =
       let a = x .counted in
-      record { list = x .list; few = omega arith; kept = x .kept; whole = λ h. (ends (x .list) (x .whole) (rows-none n last s k left z), omega arith) }
+      record {
+        list = x .list;
+        few = omega arith;
+        kept = x .kept;
+        whole = λ h. (ends (x .list) (x .whole) (rows-none n last s k left z), omega arith);
+      }
 
   -- the rest is left to the other reader
   pub quick-part : QuickRead n s j count at t rows₀ rows 0

@@ -23,7 +23,8 @@ module _ (n b : ℕ) (s : List ℕ) (at : ℕ) where
   rows-none zero z = refl
   rows-none (suc k) z = absurd (omega arith)
 
-  rows-next : (k : ℕ) {gap m : ℕ} → 0 < k → field 1 (n - b) s at ≡ got gap m → readRows n b k s at ≡ onto ((b + gap) ∷ []) (readRows n (b + gap) (k - 1) s m)
+  rows-next : (k : ℕ) {gap m : ℕ} → 0 < k → field 1 (n - b) s at ≡ got gap m
+      → readRows n b k s at ≡ onto ((b + gap) ∷ []) (readRows n (b + gap) (k - 1) s m)
   unfolding readRows
   rows-next zero z e = absurd (omega arith)
   rows-next (suc k) z e = let q : suc k - 1 ≡ k = omega arith in rw q (then-got _ e)
@@ -60,7 +61,8 @@ rows-one n s b left k t rows {gap} h g f e =
 
 -- rows read, and rows read behind them
 pub rows-both : {n : ℕ} {s : List ℕ} {j count at t k b left mid k′ b′ left′ total : ℕ} {rows₀ rows rows′ : List ℕ}
-    → RowsRead n s j count at t rows₀ rows k b left mid → RowsRead n s b left k mid rows rows′ k′ b′ left′ total → RowsRead n s j count at t rows₀ rows′ k′ b′ left′ total
+    → RowsRead n s j count at t rows₀ rows k b left mid → RowsRead n s b left k mid rows rows′ k′ b′ left′ total
+    → RowsRead n s j count at t rows₀ rows′ k′ b′ left′ total
 rows-both {t = t} {rows₀ = rows₀} x y =
     let p = x .list in
     let q = y .list in
@@ -82,7 +84,8 @@ rows-both {t = t} {rows₀ = rows₀} x y =
       kept = rw (sets-append p rows₀ t q, ← x .kept, ← c) (y .kept);
     }
 
-module _ {n : ℕ} {s : List ℕ} {j count at t : ℕ} {rows₀ rows : List ℕ} {k last left total : ℕ} (x : RowsRead n s j count at t rows₀ rows k last left total) where
+module _ {n : ℕ} {s : List ℕ} {j count at t : ℕ} {rows₀ rows : List ℕ} {k last left total : ℕ} (x : RowsRead n s j count at t rows₀ rows k last left
+    total) where
   -- the slice keeps its length
   pub rows-long : length rows ≡ length rows₀
   rows-long = ap length (x .kept) ∙ length-sets rows₀ t (x .list)

@@ -70,4 +70,5 @@ module _ {s : List ℕ} {b left at t : ℕ} {rows₀ rows : List ℕ} {i last : 
           let u : t + (i + 1) ≡ t + i + 1 = omega arith in
           let found = field-is 1 (n - last) s (at + i) (one-group s (at + i) there e short) low (omega arith) in
           let range = fields.field-got 1 (n - last) s (at + i) gap (at + i + 1) found in
-          rw (k, o, u) (rows-both y (rows-one n s last (left - i) (at + i) (t + i) rows (omega arith) (y .high) (found, range) (ap (set rows (t + i)) is)))
+          rw (k, o, u) (rows-both y (rows-one n s last (left - i) (at + i) (t + i) rows (omega arith) (y .high) (found, range)
+          (ap (set rows (t + i)) is)))

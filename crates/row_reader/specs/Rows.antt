@@ -1,4 +1,5 @@
--- What is read and kept of the rows of a column. A store past the end of a slice stores nothing, so what is kept of rows is the same whether or not all
+-- What is read and kept of the rows of a column. A store past the end of a slice stores nothing, so what is kept of rows is the same whether or not
+-- all
 -- find room.
 -- Assumes nothing.
 use Prim.Native.Nat.{ℕ, _+_, _-_, _*_, _≤_}
@@ -21,7 +22,8 @@ pub record RowsRead (n : ℕ) (s : List ℕ) (j count at t : ℕ) (rows₀ rows 
   pub high : last ≤ n
   pub kept : rows ≡ sets rows₀ t list
 
--- Rows of short gaps kept so far: `count` of them behind row b, of which `last` is the last; where that is no more than n, they are read for n columns.
+-- Rows of short gaps kept so far: `count` of them behind row b, of which `last` is the last; where that is no more than n, they are read for n
+-- columns.
 pub record ShortRead (s : List ℕ) (b left at t : ℕ) (rows₀ rows : List ℕ) (count last : ℕ) : Type 0 where
   pub list : List ℕ
   pub many : length list ≡ count
@@ -30,7 +32,8 @@ pub record ShortRead (s : List ℕ) (b left at t : ℕ) (rows₀ rows : List ℕ
   pub grows : last ≤ b + 128 * count
   pub read : (n : ℕ) → last ≤ n → RowsRead n s b left at t rows₀ rows (at + count) last (left - count) (t + count)
 
--- Rows read quickly: as many as there are places for in the list are kept, and where r is not 0 they are the whole list, and r is the place behind it.
+-- Rows read quickly: as many as there are places for in the list are kept, and where r is not 0 they are the whole list, and r is the place behind
+-- it.
 pub record QuickRead (n : ℕ) (s : List ℕ) (j count at t : ℕ) (rows₀ rows : List ℕ) (r : ℕ) : Type 0 where
   pub list : List ℕ
   pub few : length list ≤ count

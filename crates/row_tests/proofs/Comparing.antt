@@ -45,7 +45,8 @@ module _ {a b : List ℕ} {alike : Bool} {k : ℕ} (s : Comparing a b alike k) w
   module _ (ha : k < length a) (hb : k < length b) where
     pub compare-alike : getD a k 0 ≡ getD b k 0 → Comparing a b alike (k + 1)
     compare-alike e =
-        let step : same (drop k a) (drop k b) ≡ same (drop (suc k) a) (drop (suc k) b) = rw (drop-cons a k 0 ha, drop-cons b k 0 hb) (same-alike (drop (suc k) a) (drop (suc k) b) e) in
+        let step : same (drop k a) (drop k b) ≡ same (drop (suc k) a) (drop (suc k) b) = rw (drop-cons a k 0 ha, drop-cons b k 0 hb)
+        (same-alike (drop (suc k) a) (drop (suc k) b) e) in
         record { none = λ q. rw add-one (sym step ∙ s .none q); seen = s .seen }
 
     pub compare-other : getD a k 0 ≢ getD b k 0 → Comparing a b false (k + 1)
@@ -78,12 +79,14 @@ module _ {f : ℕ → Bool} {l : List ℕ} {count k : ℕ} (s : Counts f l count
   module _ (h : k < length l) where
     pub counts-one : f (getD l k 0) ≡ true → Counts f l (count + 1) (k + 1)
     counts-one e =
-        let whole : count + length (getD l k 0 ∷ keep f (drop (suc k) l)) ≡ length (keep f l) = rw (drop-cons l k 0 h, keep-yes f (getD l k 0) (drop (suc k) l) e) at (s .counted) in
+        let whole : count + length (getD l k 0 ∷ keep f (drop (suc k) l)) ≡ length (keep f l) = rw
+        (drop-cons l k 0 h, keep-yes f (getD l k 0) (drop (suc k) l) e) at (s .counted) in
         record { counted = rw (add-one k) (omega arith); few = omega (arith, s .few) }
 
     pub counts-none : f (getD l k 0) ≡ false → Counts f l count (k + 1)
     counts-none e =
-        let whole : count + length (keep f (drop (suc k) l)) ≡ length (keep f l) = rw (drop-cons l k 0 h, keep-no f (getD l k 0) (drop (suc k) l) e) at (s .counted) in
+        let whole : count + length (keep f (drop (suc k) l)) ≡ length (keep f l) = rw (drop-cons l k 0 h, keep-no f (getD l k 0) (drop (suc k) l) e)
+        at (s .counted) in
         record { counted = rw add-one whole; few = omega (arith, s .few) }
 
   pub counts-end : length l ≤ k → count ≡ length (keep f l)
@@ -104,6 +107,10 @@ then-other x y b h = rw (eq-eqb x y h)
 pub rest-part : (l : List ℕ) (k : ℕ) → take (length l - k) (drop k l) ≡ drop k l
 rest-part l k = take-all (length l - k) (drop k l) (rw length-drop (omega arith))
 
-pub rest-markable : {n : ℕ} {list w w₁ : List ℕ} (p : ℕ) → Markable n list w → length w₁ ≡ length w → Markable n (take (length list - p) (drop p list)) w₁
+pub rest-markable : {n : ℕ} {list w w₁ : List ℕ} (p : ℕ) → Markable n list w → length w₁ ≡ length w
+    → Markable n (take (length list - p) (drop p list)) w₁
 rest-markable {list = list} p m e =
-    record { most = λ i t. m .most i (rw (← take-append-drop p list) (Memᴰ·append-right (take p list) (rw (rest-part list p) at t))); long = rw e (m .long) }
+    record {
+      most = λ i t. m .most i (rw (← take-append-drop p list) (Memᴰ·append-right (take p list) (rw (rest-part list p) at t)));
+      long = rw e (m .long);
+    }

@@ -50,7 +50,8 @@ bucket-move {n} {r} {c} {starts} {rows} {w} {P} w′ P′ b there back stays =
     }
 
 -- another work with the same buckets
-pub buckets-ext : {n i c : ℕ} {starts rows w : List ℕ} {P : ℕ → Type 0} (w′ : List ℕ) → ((x : ℕ) → n < x → getD w′ x 0 ≡ getD w x 0) → length w′ ≡ length w
+pub buckets-ext : {n i c : ℕ} {starts rows w : List ℕ} {P : ℕ → Type 0} (w′ : List ℕ) → ((x : ℕ) → n < x → getD w′ x 0 ≡ getD w x 0)
+    → length w′ ≡ length w
     → Buckets n i starts rows w P c → Buckets n i starts rows w′ P c
 buckets-ext {n} {i} {c} {starts} {rows} {w} {P} w′ f l b =
     record {
@@ -98,7 +99,12 @@ module _ {n i : ℕ} {starts rows w : List ℕ} (b : Buckets n i starts rows w (
       go s (below l) = absurd (omega (arith, k .behind (s .place) (s .low) l, s .is))
       go s (level e) = (omega (arith, s .high), rw (← e) (s .is))
       go s (above l) =
-          absurd (omega (arith, ahead-next d m (omega (arith, s .high)), rows-rise t d (m .1) (cursor n w d) (s .place) (k .from-start) l (s .high), s .is))
+          absurd (omega (
+            arith,
+            ahead-next d m (omega (arith, s .high)),
+            rows-rise t d (m .1) (cursor n w d) (s .place) (k .from-start) l (s .high),
+            s .is,
+          ))
 
 -- ---- the first of those left is taken out
 
@@ -118,7 +124,10 @@ take-out {n} {i} {starts} {rows} {w} c b h =
       rest = record {
         range = λ d m. m .0;
         place = λ d m. b .place d (m .0);
-        bucket = λ r u v. bucket-move w (But n c) (b .bucket r u v) (λ d m k. (m, other r d u k)) (λ d m k. m .0) (λ d m. record { cursors = refl; links = refl });
+        bucket = λ r u v. bucket-move w (But n c) (b .bucket r u v) (λ d m k. (m, other r d u k)) (λ d m k. m .0) (λ d m. record {
+          cursors = refl;
+          links = refl;
+        });
         left = left;
         long = b .long;
       };

@@ -29,7 +29,8 @@ pub record Moved (n e q : ℕ) (w w′ : List ℕ) : Type 0 where
   pub stay : (d : ℕ) → UpTo n d → d ≢ e → Stays n w w′ d
   pub long : length w′ ≡ length w
 
-module _ {n i c e q : ℕ} {starts rows w : List ℕ} {P P′ : ℕ → Type 0} (w′ : List ℕ) (b : Buckets n i starts rows w P c) (k : New n i e q starts rows P P′) (m : Moved n e q w w′) where
+module _ {n i c e q : ℕ} {starts rows w : List ℕ} {P P′ : ℕ
+    → Type 0} (w′ : List ℕ) (b : Buckets n i starts rows w P c) (k : New n i e q starts rows P P′) (m : Moved n e q w w′) where
   stays : (d : ℕ) → P d → Stays n w w′ d
   stays d h = m .stay d (b .range d h) (λ z. k .new (subst P z h))
 

@@ -27,7 +27,14 @@ use Rattle.rows_needed.proofs.Counts.{sum-none, sum-lengths, under-none
 -- row i is begun: its own column is marked
 pub opened : {n i t : ℕ} {A : Pattern} {p w : List ℕ} → Between n i A p w t → 1 ≤ i → i ≤ n → n < length w → Row n i A p (set w i i) t i
 opened {n} {i} {t} {A} {p} {w} r a b l =
-    record { known = r .known; sum = sum; marked = λ x h k m z. absurd (no x h k m z); closed = λ x h k m z. absurd (no x h k m z); own = here; low = low }
+    record {
+      known = r .known;
+      sum = sum;
+      marked = λ x h k m z. absurd (no x h k m z);
+      closed = λ x h k m z. absurd (no x h k m z);
+      own = here;
+      low = low;
+    }
   where
     here : getD (set w i i) i 0 ≡ i
     here = getD-set-same w i i 0 (omega arith)
@@ -81,7 +88,11 @@ module _ {n i t : ℕ} {A : Pattern} {p w : List ℕ} (good : Below n A) (r : Ro
 
     tally-own : tally A w i i ≡ under (suc i) (R A i) + 1
     tally-own =
-        rw (hit-yes (getD w i 0) i (r .own), under-none i i (R A i) (R-asc good i) (omega arith), under-none (suc i) i (R A i) (R-asc good i) (omega arith)) refl
+        rw (
+          hit-yes (getD w i 0) i (r .own),
+          under-none i i (R A i) (R-asc good i) (omega arith),
+          under-none (suc i) i (R A i) (R-asc good i) (omega arith),
+        ) refl
 
     pub row-done : Between n (suc i) A p w t
     row-done =
@@ -102,7 +113,8 @@ module _ {n i t : ℕ} {A : Pattern} {p w : List ℕ} (good : Below n A) (r : Ro
             (below-or (parent A c) i)
 
 -- nothing is counted below row 1
-pub first-row : {n : ℕ} {A : Pattern} {p w : List ℕ} → Below n A → ((x : ℕ) → getD p x 0 ≡ 0) → ((x : ℕ) → x ≤ n → getD w x 0 ≡ 0) → Between n 1 A p w 0
+pub first-row : {n : ℕ} {A : Pattern} {p w : List ℕ} → Below n A → ((x : ℕ) → getD p x 0 ≡ 0) → ((x : ℕ) → x ≤ n → getD w x 0 ≡ 0)
+    → Between n 1 A p w 0
 first-row {n} {A} {p} {w} good zp zw =
     record {
       known = record { right = λ c h k. inl (zp (c - 1)); known = λ c h k u v. absurd (omega arith) };

@@ -44,7 +44,8 @@ begun-none n starts rows w₀ w e l =
 
 module _ {n m : ℕ} {starts rows w : List ℕ} (t : Tested n starts rows) (b : Begun n m starts rows w) (l : m < n) where
   -- the first row of column m + 1, if it has one
-  first-row-of : getD starts m 0 < getD starts (suc m) 0 → (0 < getD rows (getD starts m 0) 0) × ((getD rows (getD starts m 0) 0 ≤ n) × (getD starts m 0 < length rows))
+  first-row-of : getD starts m 0 < getD starts (suc m) 0
+      → (0 < getD rows (getD starts m 0) 0) × ((getD rows (getD starts m 0) 0 ≤ n) × (getD starts m 0 < length rows))
   first-row-of u =
       let e : suc m - 1 ≡ m = omega arith in
       let g = row-range t (suc m) (omega arith) (getD starts m 0) (rw e (omega arith)) u in
@@ -89,7 +90,8 @@ pub record Rows (n m : ℕ) (starts rows p w : List ℕ) (t : ℕ) : Type 0 wher
   pub long-p : n ≤ length p
   pub most : m ≤ n
 
-pub rows-first : {n : ℕ} {starts rows : List ℕ} (p₀ p w : List ℕ) → Tested n starts rows → Begun n n starts rows w → p ≡ zeros p₀ → n ≤ length p₀ → Rows n 0 starts rows p w 0
+pub rows-first : {n : ℕ} {starts rows : List ℕ} (p₀ p w : List ℕ) → Tested n starts rows → Begun n n starts rows w → p ≡ zeros p₀ → n ≤ length p₀
+    → Rows n 0 starts rows p w 0
 rows-first {n} p₀ p w ok b e l =
     record {
       between = first-row (tested-below ok) (λ x. rw e (zero-at p₀ x)) (b .marks);
@@ -108,8 +110,10 @@ rows-open {n} {m} {t} {starts} {rows} {p} {w} ok r l =
       low = omega arith;
       high = omega arith;
       row = opened (r .between) (omega arith) (omega arith) (omega (arith, r .buckets .long));
-      buckets = rw (up (n + suc m) (omega arith)) (buckets-ext (set w (suc m) (suc m)) up (length-set w (suc m) (suc m)) (next-row (r .buckets) (omega arith)));
-      leaf = λ d u h. inr (points-ext n starts rows w (set w (suc m) (suc m)) d (suc m) (up (n + n + n + d) (omega arith)) (leaf-points (r .buckets) ok d u h));
+      buckets = rw (up (n + suc m) (omega arith)) (buckets-ext (set w (suc m) (suc m)) up (length-set w (suc m) (suc m))
+          (next-row (r .buckets) (omega arith)));
+      leaf = λ d u h. inr (points-ext n starts rows w (set w (suc m) (suc m)) d (suc m) (up (n + n + n + d) (omega arith))
+          (leaf-points (r .buckets) ok d u h));
       long-parents = r .long-p;
     })
   where
@@ -131,7 +135,8 @@ rows-close m {n} {t} {starts} {rows} {p} {w} r =
       most = r .high;
     }
 
-pub rows-last : {n m t : ℕ} {starts rows p w : List ℕ} → Tested n starts rows → Rows n m starts rows p w t → n ≤ m → t ≡ length (flat (listsOf n (R (columnOf starts rows))))
+pub rows-last : {n m t : ℕ} {starts rows p w : List ℕ} → Tested n starts rows → Rows n m starts rows p w t → n ≤ m
+    → t ≡ length (flat (listsOf n (R (columnOf starts rows))))
 rows-last {n} {m} {t} {starts} {rows} {p} {w} ok r h =
     let e : m ≡ n = omega (arith, r .most) in
     let k : Between n (suc n) (columnOf starts rows) p w t = rw e at (r .between) in

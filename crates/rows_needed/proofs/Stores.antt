@@ -12,7 +12,8 @@ use Rattle.list_laws.proofs.Tests.{below-or}
 use Rattle.rows_needed.specs.Buckets.{UpTo, Buckets, pushed, filed}
 use Rattle.rows_needed.proofs.Filing.{New, Moved, file-none, file-some}
 
-pub filed-some : (n c q : ℕ) (starts rows w : List ℕ) → q < getD starts c 0 → filed n c q starts rows w ≡ pushed n (getD rows q 0) c (set w (n + n + n + c) q)
+pub filed-some : (n c q : ℕ) (starts rows w : List ℕ) → q < getD starts c 0
+    → filed n c q starts rows w ≡ pushed n (getD rows q 0) c (set w (n + n + n + c) q)
 unfolding filed
 filed-some n c q starts rows w h = rw (lt-ltb q (getD starts c 0) h, filed)
 
@@ -66,12 +67,14 @@ module _ (n e q : ℕ) (w : List ℕ) (column : UpTo n e) (long : n + n + n + n 
     push-head : getD w₂ (n + r) 0 ≡ e
     push-head =
         rw (pushed-is n r e (set w (n + n + n + e) q))
-        (getD-set-same (set (set w (n + n + n + e) q) (n + n + e) (getD (set w (n + n + n + e) q) (n + r) 0)) (n + r) e 0 (rw (length-set, length-set) (omega arith)))
+        (getD-set-same (set (set w (n + n + n + e) q) (n + n + e) (getD (set w (n + n + n + e) q) (n + r) 0)) (n + r) e 0
+        (rw (length-set, length-set) (omega arith)))
 
     push-link : getD w₂ (n + n + e) 0 ≡ getD w (n + r) 0
     push-link =
         rw (pushed-is n r e (set w (n + n + n + e) q))
-        (getD-set-other (set (set w (n + n + n + e) q) (n + n + e) (getD (set w (n + n + n + e) q) (n + r) 0)) (n + r) (n + n + e) e 0 (λ y. omega arith)
+        (getD-set-other (set (set w (n + n + n + e) q) (n + n + e) (getD (set w (n + n + n + e) q) (n + r) 0)) (n + r) (n + n + e) e 0
+        (λ y. omega arith)
         ∙ getD-set-same (set w (n + n + n + e) q) (n + n + e) (getD (set w (n + n + n + e) q) (n + r) 0) 0 (rw length-set (omega arith))
         ∙ low (n + r) (omega arith))
 

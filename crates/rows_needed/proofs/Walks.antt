@@ -68,7 +68,8 @@ module _ {n i t c : ℕ} {starts rows p w : List ℕ} (r : Walk n i starts rows 
     step-fits = omega (arith, starts-fit (r .tested) c (out .column .1), out .points .0)
 
     -- the row behind row i, if there is one
-    next-row : cursor n w₁ c + 1 < getD starts c 0 → (i < getD rows (cursor n w₁ c + 1) 0) × ((getD rows (cursor n w₁ c + 1) 0 ≤ n) × (cursor n w₁ c + 1 < length rows))
+    next-row : cursor n w₁ c + 1 < getD starts c 0
+        → (i < getD rows (cursor n w₁ c + 1) 0) × ((getD rows (cursor n w₁ c + 1) 0 ≤ n) × (cursor n w₁ c + 1 < length rows))
     next-row b =
         let f = out .place .from-start in
         let g = rows-rise (r .tested) c (out .column .1) (cursor n w₁ c) (cursor n w₁ c + 1) f (omega arith) b in

@@ -23,7 +23,8 @@ use Rattle.run_laws.proofs.HandedOn.{handed-on}
 
 module _ (job : Job) (stack : List ℕ) (long : job .n ≤ length stack) where
   -- slices that hold a sound plan of a valid job
-  held-plan-runs : (plan : Plan) (lent : Lent) → first jobTests job ≡ passed → Sound job plan → RunsInPeak job (holdingPlan job plan lent) (plan .peak) stack
+  held-plan-runs : (plan : Plan) (lent : Lent) → first jobTests job ≡ passed → Sound job plan
+      → RunsInPeak job (holdingPlan job plan lent) (plan .peak) stack
   held-plan-runs plan lent valid sound =
       let fit = sound-fits job valid plan sound in
       record {
@@ -32,7 +33,8 @@ module _ (job : Job) (stack : List ℕ) (long : job .n ≤ length stack) where
       }
 
   -- any plan bytes that the check passes for a job run on the checked lists, with the declared peak as room, and with no less
-  pub checked-plan-runs : (bytes : List ℕ) → ((i : ℕ) → getD bytes i 0 < 256) → (lent : Lent) → checked job bytes lent .answer .number ≡ 0 → CheckedRun job bytes lent stack
+  pub checked-plan-runs : (bytes : List ℕ) → ((i : ℕ) → getD bytes i 0 < 256) → (lent : Lent) → checked job bytes lent .answer .number ≡ 0
+      → CheckedRun job bytes lent stack
   checked-plan-runs bytes are-bytes lent done =
       let (plan, p) = check-passes-iff job bytes lent are-bytes .0 done in
       let holds = check-holds job bytes lent plan p in
@@ -47,18 +49,23 @@ module _ (job : Job) (stack : List ℕ) (long : job .n ≤ length stack) where
   -- handed on, with the count answered as room
   pub answers-run : (bytes : List ℕ) → ((i : ℕ) → getD bytes i 0 < 256) → (lent : Lent) (o : Outcome Lent) (r : Outcome (List ℕ))
       → o ≡ checked job bytes lent → o .answer .number ≡ 0 → r ≡ ran (handedOn (job .n) (o .lent) (o .answer .count) stack)
-      → (r ≡ record { answer = answer 0 0 (o .answer .count); lent = zeros stack }) × Runs (pattern job) (o .answer .count) (handedOn (job .n) (o .lent) (o .answer .count) stack)
+      → (r ≡ record { answer = answer 0 0 (o .answer .count); lent = zeros stack }) × Runs (pattern job) (o .answer .count)
+      (handedOn (job .n) (o .lent) (o .answer .count) stack)
   unfolding handedOn
   answers-run bytes are-bytes lent o r e done f =
-      let runs = subst (λ (x : Outcome Lent). x .answer .number ≡ 0 → Runs (pattern job) (x .answer .count) (handedOn (job .n) (x .lent) (x .answer .count) stack)) (sym e) counted done in
+      let runs = subst (λ (x : Outcome Lent). x .answer .number ≡ 0
+      → Runs (pattern job) (x .answer .count) (handedOn (job .n) (x .lent) (x .answer .count) stack)) (sym e) counted done in
       (f ∙ runs .completes, runs)
     where
       counted : checked job bytes lent .answer .number ≡ 0
-          → Runs (pattern job) (checked job bytes lent .answer .count) (handedOn (job .n) (checked job bytes lent .lent) (checked job bytes lent .answer .count) stack)
+          → Runs (pattern job) (checked job bytes lent .answer .count) (handedOn (job .n) (checked job bytes lent .lent)
+          (checked job bytes lent .answer .count) stack)
       counted z = let c = checked-plan-runs bytes are-bytes lent z in let k = ap (λ (a : Answer). a .count) (c .counted) in rw k (c .in-peak .runs)
 
   -- the lists of a plan that was written run as well
-  pub written-plan-runs : (slices : PlanLent) → planWritten job slices .answer .number ≡ 0 → RunsInPeak job (planWritten job slices .lent .analysis) (planOf job .peak) stack
+  pub written-plan-runs : (slices : PlanLent) → planWritten job slices .answer .number ≡ 0
+      → RunsInPeak job (planWritten job slices .lent .analysis) (planOf job .peak) stack
   written-plan-runs slices done =
       let valid = written-valid job slices done in
-      rw (written-holds job slices done) (held-plan-runs (planOf job) (slices .analysis) valid (planned-sound job valid (written-within job slices done)))
+      rw (written-holds job slices done) (held-plan-runs (planOf job) (slices .analysis) valid
+      (planned-sound job valid (written-within job slices done)))

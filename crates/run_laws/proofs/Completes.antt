@@ -13,7 +13,8 @@ use Rattle.papers.specs.Job.{Pattern}
 use Rattle.papers.specs.Order.{popsOf, peak}
 use Rattle.papers.specs.Refusals.{answer}
 use Rattle.papers.specs.Run.{RunCall, stepColumn, stateAfter, runDone, ran}
-use Rattle.papers.specs.Conditions.{ColumnsOver, BadStarts, BadRow, RunShort, StepFault, unknown-column, too-many-pops, row-outside, over-room, BadStep, UpdatesLeft, runLists, runConditions, Answered, Unrefused}
+use Rattle.papers.specs.Conditions.{ColumnsOver, BadStarts, BadRow, RunShort, StepFault, unknown-column, too-many-pops}
+use Rattle.papers.specs.Conditions.{row-outside, over-room, BadStep, UpdatesLeft, runLists, runConditions, Answered, Unrefused}
 use Rattle.list_laws.proofs.Tests.{strong}
 use Rattle.job_laws.proofs.Passed.{lists-iff}
 use Rattle.refusal_laws.proofs.Agreements.{agree-passed-iff}
@@ -62,7 +63,8 @@ module _ {A : Pattern} {call : RunCall} (f : Follows A call) where
   unrefused : ((b : Answer) → ¬ BadStep call b) → Unrefused runConditions call
   unrefused h = columns-few & starts-fine & rows-fine & slices-long & h & nothing-left & tt
 
-  done : peak (call .n) A (call .columns) ≤ call .room → ran call ≡ record { answer = answer 0 0 (peak (call .n) A (call .columns)); lent = zeros (call .stack) }
+  done : peak (call .n) A (call .columns) ≤ call .room
+      → ran call ≡ record { answer = answer 0 0 (peak (call .n) A (call .columns)); lent = zeros (call .stack) }
   unfolding runDone
   done h =
       let none : (b : Answer) → ¬ BadStep call b = λ b (s, m, i, bad, earlier, e). absurd (omega (arith, lacks-room s i bad .1, room-bound f s i)) in
@@ -90,7 +92,9 @@ module _ {A : Pattern} {call : RunCall} (f : Follows A call) where
 
   -- where no step is the first at fault, none is at fault
   none-bad : ((b : Answer) → ¬ BadStep call b) → (s : ℕ) → IsStep call s → (m : ℕ) → ¬ StepFault call s m
-  none-bad none = strong (λ s. IsStep call s → (m : ℕ) → ¬ StepFault call s m) (λ s ih i m bad. none _ (s, m, i, bad, λ k m l h b. ih k h (l, omega arith) m b, refl))
+  none-bad none =
+      strong (λ s. IsStep call s → (m : ℕ)
+      → ¬ StepFault call s m) (λ s ih i m bad. none _ (s, m, i, bad, λ k m l h b. ih k h (l, omega arith) m b, refl))
 
   -- a run with less is refused with 23
   pub less-refused : call .room < peak (call .n) A (call .columns) → LacksRoom call

@@ -45,12 +45,14 @@ module _ {A : Pattern} {call : RunCall} (f : Follows A call) where
 
   pub step-held : (s : ℕ) → IsStep call s → popsAt call s ≤ length (heldAt call s)
   step-held zero i = absurd (omega arith)
-  step-held (suc s) i = rw (pops-at f s (i .1), held-at s (i .1)) (step-enough (tree-of (f .below)) (call .columns) (f .ordered) s (omega (arith, columns-long f)))
+  step-held (suc s) i =
+      rw (pops-at f s (i .1), held-at s (i .1)) (step-enough (tree-of (f .below)) (call .columns) (f .ordered) s (omega (arith, columns-long f)))
 
   -- a step pops the updates of its column's children, and no others
   pub step-popped : (s : ℕ) → IsStep call s → (x : ℕ) → (x ∈ poppedAt call s) ↔ (parent A x ≡ stepColumn call s)
   step-popped zero i x = absurd (omega arith)
-  step-popped (suc s) i x = rw (pops-at f s (i .1), held-at s (i .1)) (step-takes (tree-of (f .below)) (call .columns) (f .ordered) s (omega (arith, columns-long f)) x)
+  step-popped (suc s) i x =
+      rw (pops-at f s (i .1), held-at s (i .1)) (step-takes (tree-of (f .below)) (call .columns) (f .ordered) s (omega (arith, columns-long f)) x)
 
   -- each once, since it pops no more than there are children
   pub step-once : (s : ℕ) → IsStep call s → Distinct (poppedAt call s)
@@ -68,7 +70,8 @@ module _ {A : Pattern} {call : RunCall} (f : Follows A call) where
       let (up, least) = parent-least (f .below) u r row in
       rw (rows-in f (stepColumn call s)) (go child up row (eq-or-lt-of-le least))
     where
-      go : parent A u ≡ stepColumn call s → 0 < parent A u → r ∈ R A u → (parent A u ≡ r) ⊎ (parent A u < r) → r ∈ (stepColumn call s ∷ R A (stepColumn call s))
+      go : parent A u ≡ stepColumn call s → 0 < parent A u → r ∈ R A u → (parent A u ≡ r) ⊎ (parent A u < r)
+          → r ∈ (stepColumn call s ∷ R A (stepColumn call s))
       go child up row (inl e) = List·Memᴰ·head (sym e ∙ child)
       go child up row (inr l) = List·Memᴰ·tail (rw child at (hands-on (f .below) u r up row l))
 
@@ -79,8 +82,10 @@ module _ {A : Pattern} {call : RunCall} (f : Follows A call) where
   -- apart from the column itself the front holds nothing else
   pub front-only : (s : ℕ) → IsStep call s → (i : ℕ) → i ∈ frontAt call s → i ≢ stepColumn call s
       → (i ∈ A (stepColumn call s)) ⊎ ((x : ℕ) × (x ∈ poppedAt call s) × (i ∈ rowsIn call x))
-  front-only s is i m other = go (R-children (f .below) (stepColumn call s) i .0 (rw (rows-in f (stepColumn call s)) at (drop-head (stepColumn call s) other m)))
+  front-only s is i m other =
+      go (R-children (f .below) (stepColumn call s) i .0 (rw (rows-in f (stepColumn call s)) at (drop-head (stepColumn call s) other m)))
     where
-      go : (i ∈ A (stepColumn call s)) ⊎ FromChild A (stepColumn call s) i → (i ∈ A (stepColumn call s)) ⊎ ((x : ℕ) × (x ∈ poppedAt call s) × (i ∈ rowsIn call x))
+      go : (i ∈ A (stepColumn call s)) ⊎ FromChild A (stepColumn call s) i
+          → (i ∈ A (stepColumn call s)) ⊎ ((x : ℕ) × (x ∈ poppedAt call s) × (i ∈ rowsIn call x))
       go (inl k) = inl k
       go (inr c) = inr (c .child, step-popped s is (c .child) .1 (c .child-of), rw (rows-in f (c .child)) (c .row))

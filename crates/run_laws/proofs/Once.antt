@@ -17,7 +17,8 @@ use Rattle.list_laws.proofs.Counts.{distinct-length}
 
 pub distinct-by-count : (l k : List ℕ) → Distinct k → ((i : ℕ) → i ∈ k → i ∈ l) → length l ≤ length k → Distinct l
 distinct-by-count [] k d h c = tt
-distinct-by-count (x ∷ l) k d h c = (again, distinct-by-count l others (keep-distinct other k d) from (omega (arith, distinct-length k (x ∷ others) d into)))
+distinct-by-count (x ∷ l) k d h c =
+    (again, distinct-by-count l others (keep-distinct other k d) from (omega (arith, distinct-length k (x ∷ others) d into)))
   where
     other : ℕ → Bool
     other i = not (eqb i x)

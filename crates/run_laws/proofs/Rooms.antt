@@ -40,7 +40,8 @@ module _ {A : Pattern} {call : RunCall} (f : Follows A call) where
 
   -- room in use never passes the peak
   pub room-bound : (s : ℕ) → IsStep call s → roomUsed call s ≤ peak (call .n) A (call .columns)
-  room-bound s i = rw (← room-is s i) (room-under-peak (call .n) A (call .columns) (columnAt used s) (column-in used s (i .0) (omega (arith, long-rooms))))
+  room-bound s i =
+      rw (← room-is s i) (room-under-peak (call .n) A (call .columns) (columnAt used s) (column-in used s (i .0) (omega (arith, long-rooms))))
 
   -- some step reaches it
   pub room-reached : 0 < call .n → (s : ℕ) × IsStep call s × (roomUsed call s ≡ peak (call .n) A (call .columns))

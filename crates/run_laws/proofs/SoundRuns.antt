@@ -14,7 +14,8 @@ use Rattle.run_laws.specs.Runs.{planRun, Runs, LacksRoom}
 use Rattle.run_laws.specs.Follows.{Follows}
 use Rattle.run_laws.proofs.Completes.{follows-runs, less-refused}
 
-module _ (job : Job) (plan : Plan) (valid : first jobTests job ≡ passed) (sound : Sound job plan) (room : ℕ) (stack : List ℕ) (long : job .n ≤ length stack) where
+module _ (job : Job) (plan : Plan) (valid : first jobTests job ≡ passed) (sound : Sound job plan) (room : ℕ) (stack : List ℕ)
+    (long : job .n ≤ length stack) where
   follows : Follows (pattern job) (planRun (job .n) plan room stack)
   follows =
       let p = passes-iff job .0 valid in

@@ -70,10 +70,18 @@ module _ {A : Pattern} {call : RunCall} (f : Follows A call) where
   -- the room in use at a step, over what the steps before it leave
   pub room-in : (s : ℕ) → s < call .n
       → roomIn call (suc s) (stateAfter call s)
-      ≡ roomAt (popsOf (call .n) A (getD (call .columns) s 0)) (rowCount A (getD (call .columns) s 0)) (heldAfterAll (rowCount A) (popsOf (call .n) A) [] (take s (call .columns)))
+      ≡ roomAt (popsOf (call .n) A (getD (call .columns) s 0)) (rowCount A (getD (call .columns) s 0)) (heldAfterAll (rowCount A) (popsOf (call .n) A)
+      [] (take s (call .columns)))
   unfolding roomIn
   room-in s h =
-      rw (pops-at s h, rows-in f (columnAt order (suc s)), held-in s (omega arith), entries-in (held s), column-at order s, held-entries (rowCount A) pops (parent A) (root-rows (f .below)) order s (omega (arith, columns-long f)))
+      rw (
+        pops-at s h,
+        rows-in f (columnAt order (suc s)),
+        held-in s (omega arith),
+        entries-in (held s),
+        column-at order s,
+        held-entries (rowCount A) pops (parent A) (root-rows (f .below)) order s (omega (arith, columns-long f)),
+      )
 
   -- the greatest room in use of the steps done is their peak
   pub greatest-in : (s : ℕ) → s ≤ call .n → stateAfter call s .greatest ≡ peakOf (rowCount A) (popsOf (call .n) A) (take s (call .columns))

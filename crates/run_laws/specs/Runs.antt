@@ -19,7 +19,15 @@ use Rattle.papers.specs.Sound.{handedOn}
 -- the run of a plan's own lists
 abbrev pub planRun : ℕ → Plan → ℕ → List ℕ → RunCall
 planRun n plan room stack =
-    record { n = n; starts = startsFrom 0 (plan .lists); rows = flat (plan .lists); columns = columnsIn (plan .steps); pops = popsIn (plan .steps); room = room; stack = stack }
+    record {
+      n = n;
+      starts = startsFrom 0 (plan .lists);
+      rows = flat (plan .lists);
+      columns = columnsIn (plan .steps);
+      pops = popsIn (plan .steps);
+      room = room;
+      stack = stack;
+    }
 
 -- s is a step of the run
 abbrev pub IsStep : RunCall → ℕ → Type 0
@@ -43,7 +51,8 @@ pub record StepRule (call : RunCall) (s : ℕ) : Type 0 where
   pub root : rowsIn call (stepColumn call s) ≡ [] → stateAfter call s .held ≡ drop (popsAt call s) (heldAt call s)
   pub update : rowsIn call (stepColumn call s) ≢ [] → stateAfter call s .held ≡ stepColumn call s ∷ drop (popsAt call s) (heldAt call s)
   -- room in use counts the entries of each update held before the step, the top one first
-  pub room : roomUsed call s ≡ roomAt (popsAt call s) (length (rowsIn call (stepColumn call s))) (map (λ c. t (length (rowsIn call c))) (heldAt call s))
+  pub room : roomUsed call s ≡ roomAt (popsAt call s) (length (rowsIn call (stepColumn call s)))
+      (map (λ c. t (length (rowsIn call c))) (heldAt call s))
   pub greatest : stateAfter call s .greatest ≡ max (stateAfter call (s - 1) .greatest) (roomUsed call s)
 
 -- A run for the pattern A with a declared peak goes as the paper wants.

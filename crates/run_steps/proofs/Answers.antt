@@ -51,14 +51,16 @@ module _ (call : RunCall) where
   module _ {greatest : ℕ} (z : least (faulty (faultAt call)) (call .n) ≡ 0) (g : greatest ≡ stateAfter call (call .n) .greatest) where
     rest : first tests call ≡ leftTest call
     rest =
-        first-passes stepsTest (leftTest ∷ []) call (steps-test-is ∙ faults-pass (faultAt call) (call .n) (λ s. stateAfter call (s - 1) .greatest) zeroed z)
+        first-passes stepsTest (leftTest ∷ []) call (steps-test-is ∙ faults-pass (faultAt call) (call .n) (λ s. stateAfter call (s - 1) .greatest)
+        zeroed z)
         ∙ first-last leftTest call
 
     -- updates are left
     pub answer-left : 0 < length (stateAfter call (call .n) .held) → answer 24 (call .n) greatest ≡ stepsAnswer call
     unfolding leftTest
     answer-left h =
-        let refuses = refused-if (ltb 0 (length (stateAfter call (call .n) .held))) (answer 24 (call .n) (stateAfter call (call .n) .greatest)) zeroed (lt-ltb 0 (length (stateAfter call (call .n) .held)) h) in
+        let refuses = refused-if (ltb 0 (length (stateAfter call (call .n) .held))) (answer 24 (call .n) (stateAfter call (call .n) .greatest)) zeroed
+        (lt-ltb 0 (length (stateAfter call (call .n) .held)) h) in
         let found = outcome-zeroed tests runDone zeros call (call .stack) (rest ∙ refuses) in
         (rw g) ∙ sym (ap (λ (o : Outcome (List ℕ)). o .answer) found)
 
@@ -66,7 +68,8 @@ module _ (call : RunCall) where
     pub answer-done : length (stateAfter call (call .n) .held) ≡ 0 → answer 0 0 greatest ≡ stepsAnswer call
     unfolding leftTest runDone
     answer-done h =
-        let passes = passed-if (ltb 0 (length (stateAfter call (call .n) .held))) (answer 24 (call .n) (stateAfter call (call .n) .greatest)) zeroed (le-ltb 0 (length (stateAfter call (call .n) .held)) (omega arith)) in
+        let passes = passed-if (ltb 0 (length (stateAfter call (call .n) .held))) (answer 24 (call .n) (stateAfter call (call .n) .greatest)) zeroed
+        (le-ltb 0 (length (stateAfter call (call .n) .held)) (omega arith)) in
         let found = outcome-done tests runDone zeros call (call .stack) (rest ∙ passes) in
         (rw g) ∙ sym (ap (λ (o : Outcome (List ℕ)). o .answer) found)
 
@@ -95,7 +98,8 @@ module _ (call : RunCall) where
   unfolding runDone
   from-steps = go (first tests call) refl zeroing
     where
-      go : (v : Verdict) → first tests call ≡ v → Zeroing (first tests call) → fromSteps ≡ record { answer = stepsAnswer call; lent = zeros (call .stack) }
+      go : (v : Verdict) → first tests call ≡ v → Zeroing (first tests call)
+          → fromSteps ≡ record { answer = stepsAnswer call; lent = zeros (call .stack) }
       go passed e h = with-lent (outcome-done tests runDone zeros call (call .stack) e)
       go (refused a l) e h =
           let leaves : l ≡ zeroed = rw e at h in

@@ -89,7 +89,8 @@ module _ (n : ℕ) (starts rows columns pops : List ℕ) (room : ℕ) (stack : L
 
     -- and then one step more is done
     pub running-next : {now′ : List ℕ} {held′ : Held} → fault ≡ 0 → length now′ ≡ length now
-        → Kept n starts rows now′ held′ × ((held′ .count ≤ held .count + 1) × (stateOf held′ now′ ≡ stepped (callOf n starts rows columns pops 0 []) (suc done) (stateOf held now)))
+        → Kept n starts rows now′ held′ × ((held′ .count ≤ held .count + 1) × (stateOf held′ now′ ≡ stepped (callOf n starts rows columns pops 0 [])
+        (suc done) (stateOf held now)))
         → Running now′ held′ (done + 1)
     running-next z same taken =
         let few = run .few in

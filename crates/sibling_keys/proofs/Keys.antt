@@ -53,7 +53,8 @@ module _ {k : ℕ} {key : ℕ → ℕ} {kids before after : List ℕ} {i : ℕ} 
   pub keying-reads : (w c : ℕ) → w ≤ k → w + c < k → getD after (w + c) 0 ≡ getD (part w k before) c 0
   keying-reads w c h b =
       sym (getD-take k after (w + c) 0 b)
-      ∙ (ap (λ l. getD l (w + c) 0) (inv .same) ∙ (getD-take k before (w + c) 0 b ∙ sym (getD-take (k - w) (drop w before) c 0 (omega arith) ∙ getD-drop w before c 0)))
+      ∙ (ap (λ l. getD l (w + c) 0) (inv .same) ∙ (getD-take k before (w + c) 0 b ∙ sym (getD-take (k - w) (drop w before) c 0 (omega arith)
+      ∙ getD-drop w before c 0)))
 
   -- the W of a kid and its key have their places
   pub keying-places : {factor : List ℕ} {w j : ℕ} → Kids factor (part w k before) kids j → w ≤ k → k + (k - w) ≤ length before → i < length kids
@@ -63,7 +64,8 @@ module _ {k : ℕ} {key : ℕ → ℕ} {kids before after : List ℕ} {i : ℕ} 
       (omega (arith, length-take (k - w) (drop w before)), omega (arith, length-take (k - w) (drop w before), inv .long))
 
   module _ (more : i < length kids) {v : ℕ} (e : v ≡ key (getD kids i 0)) (room : k + getD kids i 0 < length after) where
-    keys-next : (c : ℕ) → (c ∈ take i kids) ⊎ (c ∈ (getD kids i 0 ∷ [])) → (c ≡ getD kids i 0) ⊎ (c ≢ getD kids i 0) → getD (set after (k + getD kids i 0) v) (k + c) 0 ≡ key c
+    keys-next : (c : ℕ) → (c ∈ take i kids) ⊎ (c ∈ (getD kids i 0 ∷ [])) → (c ≡ getD kids i 0) ⊎ (c ≢ getD kids i 0)
+        → getD (set after (k + getD kids i 0) v) (k + c) 0 ≡ key c
     keys-next c m (inl q) = rw q (getD-set-same after (k + getD kids i 0) v 0 room ∙ e)
     keys-next c (inl m) (inr q) = getD-set-other after (k + getD kids i 0) (k + c) v 0 (λ p. q (omega arith)) ∙ inv .keys c m
     keys-next c (inr m) (inr q) = absurd (q (List·Memᴰ·eq-of-singleton m))

@@ -57,7 +57,8 @@ module _ (factor rooms kids : List ℕ) (j : ℕ) where
       pub turned-light : held + getD rooms (getD kids i 0) 0 ≤ 2 * (maxColumns * mostEntries)
       turned-light = omega (arith, inv .light, pre .few, pre .light (getD kids i 0) child)
 
-      pub turned-turn : {m r v : ℕ} → m ≡ max most (held + getD rooms (getD kids i 0) 0) → (r ≡ rowsIn factor (getD kids i 0)) × (r ≤ maxColumns) → v ≡ t r
+      pub turned-turn : {m r v : ℕ} → m ≡ max most (held + getD rooms (getD kids i 0) 0) → (r ≡ rowsIn factor (getD kids i 0)) × (r ≤ maxColumns)
+          → v ≡ t r
           → Turned factor rooms kids m held (held + v) (i + 1)
       turned-turn {m} {r} {v} em er ev =
           let c = getD kids i 0 in
@@ -67,7 +68,8 @@ module _ (factor rooms kids : List ℕ) (j : ℕ) where
           let turn = in-turn-next (rowsIn factor) need 0 (take i kids) c in
           let last = but-last-next (rowsIn factor) (take i kids) c in
           let sums : sum (map entries (take i kids ++ (c ∷ []))) ≡ sum (map entries (take i kids)) + entries c =
-          rw (map-append entries (take i kids) (c ∷ []), sum-append (map entries (take i kids)) (entries c ∷ [])) (omega (arith, sum-cons (entries c) [], sum-nil)) in
+          rw (map-append entries (take i kids) (c ∷ []), sum-append (map entries (take i kids)) (entries c ∷ []))
+          (omega (arith, sum-cons (entries c) [], sum-nil)) in
           record {
             so-far = rw one (omega (arith, turn, em, inv .so-far, inv .updates));
             but-last = rw one (omega (arith, last, inv .updates));

@@ -18,7 +18,8 @@ use Rattle.siblings.proofs.Works.{alone-light}
 
 pub record Arranging (mark : ℕ) (factor list₀ work₀ list work : List ℕ) (scratch₀ scratch w k j : ℕ) : Type 0 where
   pub same : take w work ≡ take w work₀
-  pub done : (i : ℕ) → 0 < i → i < j → kidsAt (startsIn list₀ work₀) list i ≡ arrangedIn mark factor (kidsAt (startsIn list₀ work₀) list₀) (length list₀) i
+  pub done : (i : ℕ) → 0 < i → i < j → kidsAt (startsIn list₀ work₀) list i ≡ arrangedIn mark factor (kidsAt (startsIn list₀ work₀) list₀)
+      (length list₀) i
   pub rest : (i : ℕ) → j ≤ i → i ≤ length list₀ → kidsAt (startsIn list₀ work₀) list i ≡ kidsAt (startsIn list₀ work₀) list₀ i
   pub roots : kidsAt (startsIn list₀ work₀) list 0 ≡ kidsAt (startsIn list₀ work₀) list₀ 0
   pub rooms : (i : ℕ) → 0 < i → i < j → getD (part w k work) i 0 ≡ aloneIn mark factor (kidsAt (startsIn list₀ work₀) list₀) (length list₀) i
@@ -91,7 +92,8 @@ module _ {mark : ℕ} {factor list₀ work₀ : List ℕ} {scratch₀ w k : ℕ}
       inside = omega (arith, pre .inside j more, inv .list-long)
 
       pub rooms-length : length (part w k work) ≡ n + 1
-      rooms-length = part-length w k work (omega (arith, pre .rooms)) (omega (arith, pre .rooms, pre .room, inv .work-long)) ∙ omega (arith, pre .rooms)
+      rooms-length =
+          part-length w k work (omega (arith, pre .rooms)) (omega (arith, pre .rooms, pre .room, inv .work-long)) ∙ omega (arith, pre .rooms)
 
       lower : (c : ℕ) → c ∈ kids j → (0 < c) × (c < j)
       lower c m = pre .family .kin .lower j c (inv .low) m
@@ -119,5 +121,10 @@ module _ {mark : ℕ} {factor list₀ work₀ : List ℕ} {scratch₀ w k : ℕ}
         where
           count : length (kids j) ≤ getD work₀ (j + 1) 0
           count =
-              rw (kids-are starts list₀ j, start-at j (omega arith), start-at (j + 1) (omega arith), length-slice (getD work₀ j 0) (getD work₀ (j + 1) 0) list₀ (pre .inside j more))
+              rw (
+                kids-are starts list₀ j,
+                start-at j (omega arith),
+                start-at (j + 1) (omega arith),
+                length-slice (getD work₀ j 0) (getD work₀ (j + 1) 0) list₀ (pre .inside j more),
+              )
               (omega arith)

@@ -57,9 +57,11 @@ module _ {mark : ℕ} {factor list₀ work₀ list work : List ℕ} {scratch₀ 
 
     other-list : (i : ℕ) → i ≤ n → i ≢ j → kidsAt starts list′ i ≡ kidsAt starts list i
     other-list i u q =
-        rw (kids-are starts list′ i, kids-are starts list i, start-at pre i (omega arith), start-at pre (i + 1) (omega arith), stored) (go (compare i j))
+        rw (kids-are starts list′ i, kids-are starts list i, start-at pre i (omega arith), start-at pre (i + 1) (omega arith), stored)
+        (go (compare i j))
       where
-        go : Compare i j → slice (getD work₀ i 0) (getD work₀ (i + 1) 0) (sets list a (arrangedIn mark factor kids n j)) ≡ slice (getD work₀ i 0) (getD work₀ (i + 1) 0) list
+        go : Compare i j → slice (getD work₀ i 0) (getD work₀ (i + 1) 0) (sets list a (arrangedIn mark factor kids n j)) ≡ slice (getD work₀ i 0)
+            (getD work₀ (i + 1) 0) list
         go (below h) =
             let f = starts-rise pre (i + 1) (j - (i + 1)) (omega arith) in
             let g : i + 1 + (j - (i + 1)) ≡ j = omega arith in
@@ -74,7 +76,8 @@ module _ {mark : ℕ} {factor list₀ work₀ list work : List ℕ} {scratch₀ 
     own-room : getD (part w k work′) j 0 ≡ aloneIn mark factor kids n j
     own-room =
         rw (d .rooms, sorted)
-        (getD-set-same (part w k work) j _ 0 (omega (arith, rooms-length pre inv more)) ∙ need-alone (pre .family) (part w k work) j (inv .low) more (known pre inv more))
+        (getD-set-same (part w k work) j _ 0 (omega (arith, rooms-length pre inv more)) ∙ need-alone (pre .family) (part w k work) j (inv .low) more
+        (known pre inv more))
 
     other-room : (i : ℕ) → i ≢ j → getD (part w k work′) i 0 ≡ getD (part w k work) i 0
     other-room i q = rw (d .rooms) (getD-set-other (part w k work) j i _ 0 q)

@@ -27,14 +27,17 @@ kids-sorted key {factor} {rooms} {kids} pre = record {
 
 -- ---- the children of one column
 module _ (mark : ℕ) {factor kids work work₁ ys : List ℕ} {scratch j w k : ℕ} (pre : Sortable factor kids work scratch j w k)
-    (keyed : Keyed k (keyAt mark factor (part w k work) j) kids work work₁) (long : length work₁ ≡ length work) (es : ys ≡ sort (keyIn (part k (length work₁) work₁)) kids)
+    (keyed : Keyed k (keyAt mark factor (part w k work) j) kids work work₁) (long : length work₁ ≡ length work)
+    (es : ys ≡ sort (keyIn (part k (length work₁) work₁)) kids)
   where
     rooms-same : part w k work₁ ≡ part w k work
     rooms-same = part-same w k work₁ work (keyed .same)
 
     -- the keys as the sort reads them
     read : (c : ℕ) → c ∈ kids → keyIn (part k (length work₁) work₁) c ≡ keyAt mark factor (part w k work) j c
-    read c m = part-at k (length work₁) work₁ c (omega (arith, pre .children .known c m, length-take (k - w) (drop w work), pre .room, pre .own)) ∙ keyed .keys c m
+    read c m =
+        part-at k (length work₁) work₁ c (omega (arith, pre .children .known c m, length-take (k - w) (drop w work), pre .room, pre .own))
+        ∙ keyed .keys c m
 
     sorted : ys ≡ sortedBy mark factor kids work j w k
     sorted = es ∙ sort-same _ _ kids read
@@ -48,7 +51,8 @@ module _ (mark : ℕ) {factor kids work work₁ ys : List ℕ} {scratch j w k : 
         record {
           sorted = sorted;
           rooms = part-set w k j r work₁ (pre .own) ∙ rw (rooms-same, need);
-          same = take-set-le w work₁ (w + j) r (omega arith) ∙ (sym (take-take w k work₁ (omega (arith, pre .own))) ∙ (ap (take w) (keyed .same) ∙ take-take w k work (omega (arith, pre .own))));
+          same = take-set-le w work₁ (w + j) r (omega arith) ∙ (sym (take-take w k work₁ (omega (arith, pre .own)))
+              ∙ (ap (take w) (keyed .same) ∙ take-take w k work (omega (arith, pre .own))));
         }
 
 -- ---- in their place

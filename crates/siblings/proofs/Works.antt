@@ -22,10 +22,12 @@ use Rattle.room.proofs.Entries.{entries-fit}
 use Rattle.sibling_keys.specs.Kids.{keyAt, needAt}
 use Rattle.siblings.specs.Arranged.{Family, aloneIn, arrangedIn}
 
-in-turn-same : (size need other : ℕ → ℕ) (h : ℕ) (cs : List ℕ) → ((c : ℕ) → c ∈ cs → need c ≡ other c) → inTurn size need h cs ≡ inTurn size other h cs
+in-turn-same : (size need other : ℕ → ℕ) (h : ℕ) (cs : List ℕ) → ((c : ℕ) → c ∈ cs → need c ≡ other c)
+    → inTurn size need h cs ≡ inTurn size other h cs
 unfolding inTurn
 in-turn-same size need other h [] e = refl
-in-turn-same size need other h (c ∷ cs) e = rw (e c (List·Memᴰ·head refl), in-turn-same size need other (h + t (size c)) cs (λ d m. e d (List·Memᴰ·tail m)))
+in-turn-same size need other h (c ∷ cs) e =
+    rw (e c (List·Memᴰ·head refl), in-turn-same size need other (h + t (size c)) cs (λ d m. e d (List·Memᴰ·tail m)))
 
 module _ {mark : ℕ} {factor : List ℕ} {kids : ℕ → List ℕ} {n : ℕ} (family : Family mark factor kids n) where
   -- W is no greater than n fronts
@@ -37,7 +39,8 @@ module _ {mark : ℕ} {factor : List ℕ} {kids : ℕ → List ℕ} {n : ℕ} (f
       omega (
         arith,
         greatest-least (rooms (rowsIn factor) pops [] steps) (n * mostEntries)
-            (rooms-bound (rowsIn factor) pops n mostEntries [] steps (λ i m. entries-fit (suc (rowsIn factor i)) (omega (arith, family .rows i))) (λ x m. absurd (List·Memᴰ·not-nil m)) (omega (arith, family .short j l u))),
+            (rooms-bound (rowsIn factor) pops n mostEntries [] steps (λ i m. entries-fit (suc (rowsIn factor i)) (omega (arith, family .rows i)))
+            (λ x m. absurd (List·Memᴰ·not-nil m)) (omega (arith, family .short j l u))),
         family .few,
       )
 
@@ -54,5 +57,6 @@ module _ {mark : ℕ} {factor : List ℕ} {kids : ℕ → List ℕ} {n : ℕ} (f
         let cs = arrangedIn mark factor kids n j in
         let own : ℕ → ℕ = λ c. aloneIn mark factor kids n c in
         let same = in-turn-same (rowsIn factor) (λ c. getD rooms c 0) own 0 cs (λ c m. known c (sort-elements _ c (kids j) .0 m)) in
-        let deeper = ap (peakOf (rowsIn factor) (λ i. length (kids i))) (steps-enough mark (rowsIn factor) kids (family .kin .lower) n (suc n) j low high (omega arith)) in
+        let deeper = ap (peakOf (rowsIn factor) (λ i. length (kids i))) (steps-enough mark (rowsIn factor) kids (family .kin .lower) n (suc n) j low
+        high (omega arith)) in
         rw same (sym (deeper ∙ need-children mark (rowsIn factor) kids (family .kin) n j low (omega arith)))

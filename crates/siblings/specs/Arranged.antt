@@ -90,6 +90,7 @@ pub record Arrangeable (mark : ℕ) (factor list work : List ℕ) (scratch w k :
 
 -- every list but that of the roots stands by the mark; what lies before the W is as it was
 pub record AllArranged (mark : ℕ) (factor list work list′ work′ : List ℕ) (w : ℕ) : Type 0 where
-  pub lists : (j : ℕ) → 0 < j → j ≤ length list → kidsAt (startsIn list work) list′ j ≡ arrangedIn mark factor (kidsAt (startsIn list work) list) (length list) j
+  pub lists : (j : ℕ) → 0 < j → j ≤ length list
+      → kidsAt (startsIn list work) list′ j ≡ arrangedIn mark factor (kidsAt (startsIn list work) list) (length list) j
   pub roots : kidsAt (startsIn list work) list′ 0 ≡ kidsAt (startsIn list work) list 0
   pub same : take w work′ ≡ take w work

@@ -1,4 +1,5 @@
--- The number that is answered for each way out: 27 for a key that does not read through, 26 for one over the sizes, else that of the check's answer, whose
+-- The number that is answered for each way out: 27 for a key that does not read through, 26 for one over the sizes, else that of the check's answer,
+-- whose
 -- number and place together fit 64 bits.
 -- Assumes nothing.
 use Prim.Native.Nat.{ℕ, _+_, _*_, _^_, _<_}
@@ -23,7 +24,8 @@ module _ (key plan : List ℕ) where
   pub unreadable-is-27 : {number place : ℕ} → readKey key ≡ bad number place → 27 * 2 ^ 32 ≡ called key plan
   unreadable-is-27 e = called-by (call-unreadable _ e)
 
-  pub over-is-26 : {head : JobHead} {count at : ℕ} → KeyParts key head count at → (programColumns < head .n) ⊎ (programRows < count) → 26 * 2 ^ 32 ≡ called key plan
+  pub over-is-26 : {head : JobHead} {count at : ℕ} → KeyParts key head count at → (programColumns < head .n) ⊎ (programRows < count)
+      → 26 * 2 ^ 32 ≡ called key plan
   over-is-26 parts h = called-by (call-over _ (parts .whole) (rw (parts .counted) at h))
 
   module _ {a : Answer} (e : a ≡ solverAnswer (record { key = key; plan = plan })) where

@@ -28,7 +28,8 @@ early-refuses passed h e n = absurd (n (ap (λ (a : Answer). a .number) e))
 early-refuses (refused a l) h e n = let leaves = h .0 in rw (leaves, e)
 
 -- the outcome is by the first test that refuses
-by-first : (ts us : List (RunCall → Verdict)) (call : RunCall) (lent : List ℕ) → first ts call ≡ first us call → outcome ts runDone zeros call lent ≡ outcome us runDone zeros call lent
+by-first : (ts us : List (RunCall → Verdict)) (call : RunCall) (lent : List ℕ) → first ts call ≡ first us call
+    → outcome ts runDone zeros call lent ≡ outcome us runDone zeros call lent
 unfolding outcome
 by-first ts us call lent e = rw (e, outcome)
 
@@ -52,7 +53,8 @@ module _ (n : ℕ) (columns pops stack : List ℕ) where
   pub all-long : {r : Bool} → r ≡ anyShort n columns pops stack → r ≡ false → (n ≤ length columns) × ((n ≤ length pops) × (n ≤ length stack))
   all-long {r} e f = go (below-or (length columns) n) (below-or (length pops) n)
     where
-      go : (length columns < n) ⊎ (n ≤ length columns) → (length pops < n) ⊎ (n ≤ length pops) → (n ≤ length columns) × ((n ≤ length pops) × (n ≤ length stack))
+      go : (length columns < n) ⊎ (n ≤ length columns) → (length pops < n) ⊎ (n ≤ length pops)
+          → (n ≤ length columns) × ((n ≤ length pops) × (n ≤ length stack))
       go (inl h) q = absurd (true-false refl (columns-short h ∙ sym e ∙ f))
       go (inr a) (inl h) = absurd (true-false refl (pops-short a h ∙ sym e ∙ f))
       go (inr a) (inr b) = (a, (b, ltb-false (length stack) n (stack-short a b ∙ sym e ∙ f)))
@@ -123,12 +125,14 @@ module _ (call : RunCall) where
               unfolding runLengthsTest
               run-short h e =
                   ap left e
-                  ∙ refuses (lists-pass ∙ first-refuses runLengthsTest (stepsTest ∷ leftTest ∷ []) call (refused-if short (answer 7 0 0) untouched (sym d ∙ h)))
+                  ∙ refuses (lists-pass ∙ first-refuses runLengthsTest (stepsTest ∷ leftTest ∷ []) call (refused-if short (answer 7 0 0) untouched
+                  (sym d ∙ h)))
 
               -- the steps decide
               pub run-steps : b ≡ false → {a : Answer} {after : List ℕ} → a ≡ stepsAnswer call → after ≡ zeros (call .stack)
                   → _≡_ {A = Outcome (List ℕ)} (record { answer = a; lent = after }) (ran call)
               unfolding ran runLengthsTest
               run-steps h e f =
-                  let passes = lists-pass ∙ first-passes runLengthsTest (stepsTest ∷ leftTest ∷ []) call (passed-if short (answer 7 0 0) untouched (sym d ∙ h)) in
+                  let passes = lists-pass ∙ first-passes runLengthsTest (stepsTest ∷ leftTest ∷ []) call (passed-if short (answer 7 0 0) untouched
+                  (sym d ∙ h)) in
                   rw (e, f) (sym (from-steps call) ∙ sym (by-first runTests (stepsTest ∷ leftTest ∷ []) call (call .stack) passes))

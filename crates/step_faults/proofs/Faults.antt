@@ -75,11 +75,13 @@ module _ (n : ℕ) (starts rows columns pops : List ℕ) (room : ℕ) (stack : L
         -- too much room
         pub fault-over : room < u → 23 ≡ fault
         unfolding stepFault
-        fault-over h = rw (known, plenty, fits-is, sym e ∙ f, used-is n starts rows columns pops stack held done room, ← g, lt-ltb room u h, stepFault)
+        fault-over h =
+            rw (known, plenty, fits-is, sym e ∙ f, used-is n starts rows columns pops stack held done room, ← g, lt-ltb room u h, stepFault)
 
         pub fault-none : u ≤ room → 0 ≡ fault
         unfolding stepFault
-        fault-none h = rw (known, plenty, fits-is, sym e ∙ f, used-is n starts rows columns pops stack held done room, ← g, le-ltb room u h, stepFault)
+        fault-none h =
+            rw (known, plenty, fits-is, sym e ∙ f, used-is n starts rows columns pops stack held done room, ← g, le-ltb room u h, stepFault)
 
   -- a step without fault has a column of 1 to n and pops no more than is held
   pub fault-zero : fault ≡ 0 → Column n c × (off ≤ held .count)

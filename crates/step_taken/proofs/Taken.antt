@@ -23,8 +23,10 @@ use Rattle.held_updates.proofs.Step.{pops-at, used, used-is}
 use Rattle.step_taken.specs.Ready.{Ready}
 use Rattle.step_taken.proofs.Pushed.{push-root, push-update}
 
-module _ {n : ℕ} {starts rows columns pops stack : List ℕ} {held : Held} {done : ℕ} (step : Ready n starts rows columns pops stack held done) {popped update room : ℕ}
-    (p : popped ≡ total n starts rows (take (getD pops done 0) (heldIn (held .count) stack))) (u : update ≡ t (length (columnOf starts rows (getD columns done 0))))
+module _ {n : ℕ} {starts rows columns pops stack : List ℕ} {held : Held} {done : ℕ} (step : Ready n starts rows columns pops stack held done)
+    {popped update room : ℕ}
+    (p : popped ≡ total n starts rows (take (getD pops done 0) (heldIn (held .count) stack)))
+    (u : update ≡ t (length (columnOf starts rows (getD columns done 0))))
     (r : room ≡ used n starts rows columns pops stack held done) where
   abbrev c : ℕ
   c = getD columns done 0
@@ -53,7 +55,13 @@ module _ {n : ℕ} {starts rows columns pops stack : List ℕ} {held : Held} {do
         enough = step .enough;
         entries-enough = omega (arith, entries-stay);
         few = omega arith;
-        entries-few = omega (arith, u, step .kept .entries-are, total-small n starts rows (step .factor) (step .kept), update-small n starts rows (step .factor) (step .column));
+        entries-few = omega (
+          arith,
+          u,
+          step .kept .entries-are,
+          total-small n starts rows (step .factor) (step .kept),
+          update-small n starts rows (step .factor) (step .column),
+        );
       }
 
   module _ {next : Held} (e : next ≡ steppedOf held off popped update room) where
@@ -111,7 +119,8 @@ module _ {n : ℕ} {starts rows columns pops stack : List ℕ} {held : Held} {do
       place = omega (arith, counted)
 
       pub store-within : (1 ≤ next .count) × (next .count ≤ n) × (next .count - 1 < length stack)
-      store-within = let free = step .free in let long = step .kept .listed in (omega (arith, one-more), omega (arith, one-more), omega (arith, place))
+      store-within =
+          let free = step .free in let long = step .kept .listed in (omega (arith, one-more), omega (arith, one-more), omega (arith, place))
 
       stored : heldIn (next .count) (set stack (next .count - 1) c) ≡ c ∷ staying
       stored = rw (place, one-more) (held-push stack (held .count - off) c (rw (← place) (store-within .2)))
@@ -135,5 +144,6 @@ module _ {n : ℕ} {starts rows columns pops stack : List ℕ} {held : Held} {do
       state-update =
           after-is (heldIn (next .count) (set stack (next .count - 1) c)) (stored ∙ sym (push-update call c staying (λ z. some (u ∙ z))))
 
-      pub taken-update : Kept n starts rows (set stack (next .count - 1) c) next × ((next .count ≤ held .count + 1) × (stateOf next (set stack (next .count - 1) c) ≡ after))
+      pub taken-update : Kept n starts rows (set stack (next .count - 1) c) next ×
+          ((next .count ≤ held .count + 1) × (stateOf next (set stack (next .count - 1) c) ≡ after))
       taken-update = (kept-update, (grown, state-update))

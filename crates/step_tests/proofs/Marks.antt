@@ -4,7 +4,8 @@ use Prim.Native.Nat.{ℕ, suc, _+_, _-_, _<_, _≤_}
 use mathlib.Core.Path.{_≡_, refl, sym, _∙_}
 use mathlib.Core.Logic.{_⊎_, inl, inr, _≢_}
 use mathlib.Core.Bool.{true, false}
-use mathlib.Core.List.{List, [], _∷_, _++_, List·Memᴰ·head, List·Memᴰ·not-nil, List·Memᴰ·cases-cons, List·Memᴰ·append-cases, Memᴰ·append-left, Memᴰ·append-right}
+use mathlib.Core.List.{List, [], _∷_, _++_, List·Memᴰ·head, List·Memᴰ·not-nil, List·Memᴰ·cases-cons}
+use mathlib.Core.List.{List·Memᴰ·append-cases, Memᴰ·append-left, Memᴰ·append-right}
 use native.Mathlib.Omega.{arith}
 use native.Mathlib.Numerals.{add-one}
 use lib.ListN.{length, getD, set, take, drop, length-append, length-set, length-replicate, getD-replicate, List·getD-append}
@@ -53,7 +54,8 @@ module _ (order : List ℕ) where
       cleared : (j : ℕ) → j ≤ length order → getD (z ++ drop (length order + 1) work) j 0 ≡ 0
       cleared j l =
           List·getD-append z (drop (length order + 1) work) 0 j (omega (arith, count))
-          ∙ rw e (getD-replicate {A = ℕ} (length (take (length order + 1) work)) j 0 0 (omega (arith, length-take-le (length order + 1) work (omega arith))))
+          ∙ rw e (getD-replicate {A = ℕ} (length (take (length order + 1) work)) j 0 0
+          (omega (arith, length-take-le (length order + 1) work (omega arith))))
 
   module _ (within : Within (length order) order) (work₀ work : List ℕ) (i : ℕ) (inv : Marks order work₀ work i) where
     pub marks-stop : length order ≤ i → 0 ≡ least (repeated order) (length order)
@@ -63,7 +65,8 @@ module _ (order : List ℕ) where
       found : 0 < getD work (getD order i 0) 0 → i + 1 ≡ least (repeated order) (length order)
       found p =
           let e : i + 1 ≡ suc i = omega arith in
-          e ∙ sym (least-here (repeated order) i (length order) (inv .none) (repeats i (inv .marked (getD order i 0) (within i more .1) p)) (omega arith))
+          e ∙ sym (least-here (repeated order) i (length order) (inv .none) (repeats i (inv .marked (getD order i 0) (within i more .1) p))
+          (omega arith))
 
       turn : getD work (getD order i 0) 0 ≤ 0 → Marks order work₀ (set work (getD order i 0) 1) (i + 1)
       turn p = rw add-one (record {
@@ -78,7 +81,8 @@ module _ (order : List ℕ) where
           inside : getD order i 0 < length work
           inside = omega (arith, within i more .1, inv .room)
 
-          one : (j : ℕ) → j ≤ length order → 0 < getD (set work (getD order i 0) 1) j 0 → (j ≡ getD order i 0) ⊎ (j ≢ getD order i 0) → j ∈ (take i order ++ (getD order i 0 ∷ []))
+          one : (j : ℕ) → j ≤ length order → 0 < getD (set work (getD order i 0) 1) j 0 → (j ≡ getD order i 0) ⊎ (j ≢ getD order i 0)
+              → j ∈ (take i order ++ (getD order i 0 ∷ []))
           one j l q (inl e) = Memᴰ·append-right (take i order) (List·Memᴰ·head e)
           one j l q (inr e) = Memᴰ·append-left _ (inv .marked j l (omega (arith, getD-set-other work (getD order i 0) j 1 0 e)))
 

@@ -23,16 +23,19 @@ pub record Popped (parents order pops work : List ℕ) (i : ℕ) : Type 0 where
 
 module _ (parents order pops : List ℕ) where
   -- the counts came back in the first n + 2 numbers of work
-  pub popped-start : (work counts : List ℕ) → length parents + 1 < length work → length counts ≡ length (take (length parents + 2) work) → Tally parents counts
+  pub popped-start : (work counts : List ℕ) → length parents + 1 < length work → length counts ≡ length (take (length parents + 2) work)
+      → Tally parents counts
       → Popped parents order pops (counts ++ drop (length parents + 2) work) 0
   unfolding least
   popped-start work counts h e t = record {
-    counted = λ j l. List·getD-append counts (drop (length parents + 2) work) 0 j (omega (arith, e, length-take-le (length parents + 2) work (omega arith))) ∙ t .each j l;
+    counted = λ j l. List·getD-append counts (drop (length parents + 2) work) 0 j
+        (omega (arith, e, length-take-le (length parents + 2) work (omega arith))) ∙ t .each j l;
     none = refl;
     seen = omega arith;
   }
 
-  module _ (within : Within (length order) order) (same : length order ≡ length parents) (work : List ℕ) (i : ℕ) (inv : Popped parents order pops work i) where
+  module _ (within : Within (length order) order) (same : length order ≡ length parents) (work : List ℕ) (i : ℕ)
+      (inv : Popped parents order pops work i) where
     pub popped-stop : length order ≤ i → 0 ≡ least (popsWrong parents order pops) (length order)
     popped-stop h = let s = inv .seen in let e : i ≡ length order = omega arith in rw e at (sym (inv .none))
 
@@ -45,12 +48,15 @@ module _ (parents order pops : List ℕ) where
       popped-found p =
           let e : i + 1 ≡ suc i = omega arith in
           let d : suc i - 1 ≡ i = omega arith in
-          e ∙ sym (least-here (popsWrong parents order pops) i (length order) (inv .none) (rw (d, ne-eqb (getD pops i 0) (length (kidsIn parents (getD order i 0))) (λ q. p (q ∙ sym count)))) (omega arith))
+          e ∙ sym (least-here (popsWrong parents order pops) i (length order) (inv .none)
+          (rw (d, ne-eqb (getD pops i 0) (length (kidsIn parents (getD order i 0))) (λ q. p (q ∙ sym count)))) (omega arith))
 
       pub popped-turn : getD pops i 0 ≡ getD work j 0 → Popped parents order pops work (i + 1)
       unfolding columnAt
       popped-turn p = rw add-one (record {
         counted = inv .counted;
-        none = let d : suc i - 1 ≡ i = omega arith in least-none (popsWrong parents order pops) i (inv .none) (rw (d, eq-eqb (getD pops i 0) (length (kidsIn parents (getD order i 0))) (p ∙ count)));
+        none = let d : suc i - 1 ≡ i = omega arith in
+            least-none (popsWrong parents order pops) i (inv .none)
+            (rw (d, eq-eqb (getD pops i 0) (length (kidsIn parents (getD order i 0))) (p ∙ count)));
         seen = omega arith;
       })

@@ -19,12 +19,15 @@ module _ (written bytes : List ℕ) where
   pub short-is : length bytes < length written → stored written bytes ≡ record { answer = answer 10 0 (length written); lent = zeros bytes }
   unfolding stored bytesTest
   short-is h =
-      outcome-zeroed _ _ zeros bytes bytes (first-last (bytesTest written) bytes ∙ over-refuses (length bytes) (length written) (answer 10 0 (length written)) zeroed h)
+      outcome-zeroed _ _ zeros bytes bytes (first-last (bytesTest written) bytes ∙ over-refuses (length bytes) (length written)
+      (answer 10 0 (length written)) zeroed h)
 
-  pub whole-is : length written ≤ length bytes → stored written bytes ≡ record { answer = answer 0 0 (length written); lent = thenZeros written bytes }
+  pub whole-is : length written ≤ length bytes
+      → stored written bytes ≡ record { answer = answer 0 0 (length written); lent = thenZeros written bytes }
   unfolding stored bytesTest
   whole-is h =
-      outcome-done _ _ zeros bytes bytes (first-last (bytesTest written) bytes ∙ over-passes-iff (length bytes) (length written) (answer 10 0 (length written)) zeroed .1 h)
+      outcome-done _ _ zeros bytes bytes (first-last (bytesTest written) bytes ∙ over-passes-iff (length bytes) (length written)
+      (answer 10 0 (length written)) zeroed .1 h)
 
 -- ---- bytes written from the front on: the slice has their first places, and `needed` is how many they are
 
@@ -40,7 +43,8 @@ module _ (written before : List ℕ) {entry : List ℕ} {needed : ℕ} (n : need
   module _ (h : needed ≤ length entry) where
     -- the places behind them are cleared
     pub finished-whole : {r : Answer} {rest : List ℕ} → r ≡ answer 0 0 needed → rest ≡ zeros (take (length entry - needed) (drop needed entry))
-        → _≡_ {A = Outcome (List ℕ)} (record { answer = r; lent = take needed entry ++ (rest ++ drop (length entry - needed) (drop needed entry)) }) (stored written before)
+        → _≡_ {A = Outcome (List ℕ)} (record { answer = r; lent = take needed entry ++ (rest ++ drop (length entry - needed) (drop needed entry)) })
+        (stored written before)
     finished-whole a z =
         let left = cleared-from needed entry h z ∙ ap (zerosFrom needed) e ∙ stored-from written before (sym n) (omega (arith, same-places)) in
         rw (left, a, n) (sym (whole-is written before (omega (arith, same-places))))

@@ -62,7 +62,8 @@ module _ {n : ℕ} {A : Pattern} (good : Below n A) where
       go : (k < n) ⊎ (n ≤ k) → getD (parentsOf n A) k 0 ≡ parent A (suc k)
       go (inl h) = family-at (parent A) n k h
       go (inr h) =
-          List·getD-eq-default (parentsOf n A) 0 {n = k} (omega (arith, length-parents)) ∙ sym (root-rows good (suc k) .0 (none-over (suc k) (omega arith)))
+          List·getD-eq-default (parentsOf n A) 0 {n = k} (omega (arith, length-parents)) ∙ sym
+          (root-rows good (suc k) .0 (none-over (suc k) (omega arith)))
 
   pub rows-tie : (j : ℕ) → rowsIn (startsOf n A) j ≡ rowCount A j
   unfolding rowsIn R
@@ -99,7 +100,8 @@ module _ {n : ℕ} {A : Pattern} (good : Below n A) where
   pub same-pops : popsIn (parentsOf n A) ≡ popsOf n A
   same-pops i j = length (same-kids i j)
 
-  pub same-peak : (mark : ℕ) → peakOf (rowsIn (startsOf n A)) (popsIn (parentsOf n A)) (orderIn mark (parentsOf n A) (startsOf n A)) ≡ peak n A (orderOf mark n A)
+  pub same-peak : (mark : ℕ) → peakOf (rowsIn (startsOf n A)) (popsIn (parentsOf n A)) (orderIn mark (parentsOf n A) (startsOf n A)) ≡ peak n A
+      (orderOf mark n A)
   unfolding peak
   same-peak mark i = peakOf (same-rows i) (same-pops i) (same-order mark i)
 
@@ -119,4 +121,5 @@ module _ {n : ℕ} {A : Pattern} (good : Below n A) where
       rises zero l h = absurd (omega arith)
       rises (suc k) l h =
           let e : suc k - 1 ≡ k = omega arith in
-          rw (e, ← start-at (startsOf n A) k, ← start-at (startsOf n A) (suc k)) (laid-starts (listsOf n (R A)) .rising (suc k) (omega arith) (omega (arith, length-lists (R A) n, length-parents)))
+          rw (e, ← start-at (startsOf n A) k, ← start-at (startsOf n A) (suc k)) (laid-starts (listsOf n (R A)) .rising (suc k) (omega arith)
+          (omega (arith, length-lists (R A) n, length-parents)))

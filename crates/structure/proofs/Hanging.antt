@@ -36,7 +36,8 @@ length-hanging n (suc p) c w = length-set (set w (n + c) (getD w (suc p) 0)) (su
 pub hanging-else : (n p c : ℕ) (w : List ℕ) (x : ℕ) → x ≢ p → x ≢ n + c → getD (hanging n p c w) x 0 ≡ getD w x 0
 unfolding hanging
 hanging-else n zero c w x h g = refl
-hanging-else n (suc p) c w x h g = getD-set-other (set w (n + c) (getD w (suc p) 0)) (suc p) x c 0 h ∙ getD-set-other w (n + c) x (getD w (suc p) 0) 0 g
+hanging-else n (suc p) c w x h g =
+    getD-set-other (set w (n + c) (getD w (suc p) 0)) (suc p) x c 0 h ∙ getD-set-other w (n + c) x (getD w (suc p) 0) 0 g
 
 module _ (n p c : ℕ) (w : List ℕ) (first : 1 ≤ p) (parent : p ≤ n) (column : 1 ≤ c) where
   hanging-first : p < length w → getD (hanging n p c w) p 0 ≡ c
@@ -45,7 +46,8 @@ module _ (n p c : ℕ) (w : List ℕ) (first : 1 ≤ p) (parent : p ≤ n) (colu
 
   hanging-next : n + c < length w → getD (hanging n p c w) (n + c) 0 ≡ getD w p 0
   hanging-next l =
-      rw (hanging-is n p c w (λ e. omega arith), getD-set-other (set w (n + c) (getD w p 0)) p (n + c) c 0 (λ e. omega arith)) (getD-set-same w (n + c) (getD w p 0) 0 l)
+      rw (hanging-is n p c w (λ e. omega arith), getD-set-other (set w (n + c) (getD w p 0)) p (n + c) c 0 (λ e. omega arith))
+      (getD-set-same w (n + c) (getD w p 0) 0 l)
 
 -- ---- the children of each column
 
@@ -55,7 +57,8 @@ module _ (A : Pattern) where
   Chains n m w = (j : ℕ) → 1 ≤ j → j ≤ n → Chain w n (getD w j 0) (hung A m j)
 
   -- one column more is hung
-  pub hanging-chains : (n m : ℕ) (w : List ℕ) → m < n → n + n < length w → parent A (suc m) ≤ n → Chains n m w → Chains n (suc m) (hanging n (parent A (suc m)) (suc m) w)
+  pub hanging-chains : (n m : ℕ) (w : List ℕ) → m < n → n + n < length w → parent A (suc m) ≤ n → Chains n m w
+      → Chains n (suc m) (hanging n (parent A (suc m)) (suc m) w)
   hanging-chains n m w mn long pn ch j l u = go (compare j p)
     where
       p : ℕ
@@ -78,5 +81,7 @@ module _ (A : Pattern) where
       go (above d) = other (λ e. omega arith)
       go (level e) =
           let first : 1 ≤ p = omega arith in
-          rw (hung-yes A m j (sym e), e)
-          (hanging-first n p (suc m) w first pn (omega arith) (omega arith), (omega arith, rw (hanging-next n p (suc m) w first pn (omega arith) (omega arith)) (kept p (getD w p 0) (ch p first pn))))
+          rw (hung-yes A m j (sym e), e) (
+            hanging-first n p (suc m) w first pn (omega arith) (omega arith),
+            (omega arith, rw (hanging-next n p (suc m) w first pn (omega arith) (omega arith)) (kept p (getD w p 0) (ch p first pn))),
+          )

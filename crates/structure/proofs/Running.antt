@@ -43,7 +43,8 @@ unfolding upTo startsFrom flat
 run-begin A p s f x y w w₁ l e =
     record {
       most = omega arith;
-      stored = stored-none A (set s 0 0) f w w₁ (rw length-set (l .starts-long)) (getD-set-same s 0 0 0 (omega (arith, l .starts-long))) (l .work-long) e;
+      stored = stored-none A (set s 0 0) f w w₁ (rw length-set (l .starts-long)) (getD-set-same s 0 0 0 (omega (arith, l .starts-long)))
+          (l .work-long) e;
       parents-are = refl;
       starts-are = rw (lists-none (R A)) (sym (set-set s 0 0 0));
       rows-are = rw (lists-none (R A));
@@ -84,7 +85,8 @@ module _ {n m : ℕ} {A : Pattern} {p₀ s₀ f₀ w₀ x₀ y₀ p s f w x y : 
       }
 
   -- there is no room for the next list
-  pub run-short : (s₁ : List ℕ) {w₁ x₁ y₁ : List ℕ} {turn len : ℕ} → s₀ ≡ set s₁ 0 0 → m < n → Gathers n m A w w₁ x₁ y₁ turn len → length f - getD s m 0 < len → Listed n m A p₀ s₁ f₀ p s f
+  pub run-short : (s₁ : List ℕ) {w₁ x₁ y₁ : List ℕ} {turn len : ℕ} → s₀ ≡ set s₁ 0 0 → m < n → Gathers n m A w w₁ x₁ y₁ turn len
+      → length f - getD s m 0 < len → Listed n m A p₀ s₁ f₀ p s f
   run-short s₁ e l g h = listed s₁ e (λ k. lacks good (r .stored) l (R A (m + 1)) refl (rw (← g .count) h))
 
   -- all columns are done
@@ -93,7 +95,8 @@ module _ {n m : ℕ} {A : Pattern} {p₀ s₀ f₀ w₀ x₀ y₀ p s f w x y : 
 
   -- ---- column m + 1
 
-  module _ (l : m < n) {w₁ x₁ y₁ : List ℕ} {turn len : ℕ} (g : Gathers n m A w w₁ x₁ y₁ turn len) (lw : length w₁ ≡ length w) (lx : length x₁ ≡ length x) (ly : length y₁ ≡ length y) where
+  module _ (l : m < n) {w₁ x₁ y₁ : List ℕ} {turn len : ℕ} (g : Gathers n m A w w₁ x₁ y₁ turn len) (lw : length w₁ ≡ length w)
+      (lx : length x₁ ≡ length x) (ly : length y₁ ≡ length y) where
     pub run-held : (len ≤ length x₁) × (len ≤ length y₁)
     run-held =
         let k = asc-length n (m + 1) (R A (m + 1)) (R-asc good (m + 1)) (λ i t. R-range good (m + 1) i t .1) in
@@ -115,9 +118,22 @@ module _ {n m : ℕ} {A : Pattern} {p₀ s₀ f₀ w₀ x₀ y₀ p s f w x y : 
           record {
             most = omega arith;
             stored = rw add-one on;
-            parents-are = rw (add-one, map-upTo (parent A) m, sets-append (map (parent A) (upTo m)) p₀ 0 (parent A (suc m) ∷ []), at-p, ← r .parents-are) (k .parents-are ∙ ap (set p m) head);
-            starts-are = rw (add-one, starts-next (R A) m, sets-append (startsFrom 0 (listsOf m (R A))) s₀ 0 (length (rowsTo A (suc m)) ∷ []), at-s, ← r .starts-are) (k .starts-are ∙ ap (set s (m + 1)) end);
-            rows-are = rw (add-one, flat-more (R A) m, sets-append (rowsTo A m) f₀ 0 (R A (suc m)), at-f, ← r .rows-are) (k .rows-are ∙ ap (sets f (getD s m 0)) (is ∙ next));
+            parents-are = rw (
+              add-one,
+              map-upTo (parent A) m,
+              sets-append (map (parent A) (upTo m)) p₀ 0 (parent A (suc m) ∷ []),
+              at-p,
+              ← r .parents-are,
+            ) (k .parents-are ∙ ap (set p m) head);
+            starts-are = rw (
+              add-one,
+              starts-next (R A) m,
+              sets-append (startsFrom 0 (listsOf m (R A))) s₀ 0 (length (rowsTo A (suc m)) ∷ []),
+              at-s,
+              ← r .starts-are,
+            ) (k .starts-are ∙ ap (set s (m + 1)) end);
+            rows-are = rw (add-one, flat-more (R A) m, sets-append (rowsTo A m) f₀ 0 (R A (suc m)), at-f, ← r .rows-are)
+                (k .rows-are ∙ ap (sets f (getD s m 0)) (is ∙ next));
             room-p = r .room-p;
             room-x = r .room-x;
             room-y = r .room-y;

@@ -44,7 +44,8 @@ parent-is A j = refl
 
 -- ---- before the first column: no list, and no column is hung
 
-pub stored-none : {n : ℕ} (A : Pattern) (fs fr w w₁ : List ℕ) → n < length fs → getD fs 0 0 ≡ 0 → n + n + n < length w → w₁ ≡ zeros w → Stored n 0 A fs fr w₁
+pub stored-none : {n : ℕ} (A : Pattern) (fs fr w w₁ : List ℕ) → n < length fs → getD fs 0 0 ≡ 0 → n + n + n < length w → w₁ ≡ zeros w
+    → Stored n 0 A fs fr w₁
 unfolding flat
 stored-none A fs fr w w₁ long z hw e =
     record {
@@ -62,7 +63,8 @@ stored-none A fs fr w w₁ long z hw e =
 
 -- ---- column m + 1
 
-module _ {n m : ℕ} {A : Pattern} {fs fr w : List ℕ} (good : Below n A) (st : Stored n m A fs fr w) (mn : m < n) (list : List ℕ) (is : list ≡ R A (m + 1)) where
+module _ {n m : ℕ} {A : Pattern} {fs fr w : List ℕ} (good : Below n A) (st : Stored n m A fs fr w) (mn : m < n) (list : List ℕ)
+    (is : list ≡ R A (m + 1)) where
   ends : getD fs m 0 + length list ≡ length (rowsTo A (suc m))
   ends = omega (arith, st .starts-are m (omega arith), length-more (R A) m, ap length (rw add-one at is))
 
@@ -109,7 +111,11 @@ module _ {n m : ℕ} {A : Pattern} {fs fr w : List ℕ} (good : Below n A) (st :
             starts-long = rw (s .starts-are, length-set) (st .starts-long);
             starts-are = λ k l. rw starts-now (starts k l);
             chains = rw work-now (hanging-chains A n m w₁ mn (omega (arith, st .work-long)) (parent-within good (suc m)) chains);
-            fresh = λ q l. rw (work-now, hanging-else n (parent A (suc m)) (suc m) w₁ q (λ e. omega (arith, parent-within good (suc m))) (λ e. omega arith)) (fresh q l);
+            fresh = λ q l. rw (
+              work-now,
+              hanging-else n (parent A (suc m)) (suc m) w₁ q (λ e. omega (arith, parent-within good (suc m)))
+                  (λ e. omega arith),
+            ) (fresh q l);
             work-long = rw (work-now, length-hanging n (parent A (suc m)) (suc m) w₁, lw) (st .work-long);
           }
         where
@@ -125,7 +131,8 @@ module _ {n m : ℕ} {A : Pattern} {fs fr w : List ℕ} (good : Below n A) (st :
           rows : take (length (rowsTo A (suc m))) (sets fr (length (rowsTo A m)) (R A (suc m))) ≡ rowsTo A (suc m)
           rows =
               let e : sets fr (length (rowsTo A m)) (R A (suc m)) ≡ rowsTo A (suc m) ++ drop (length (rowsTo A m) + length (R A (suc m))) fr =
-              sets-eq (R A (suc m)) fr (length (rowsTo A m)) (omega (arith, ends, fits, length-more (R A) m)) ∙ rw (flat-more (R A) m, st .rows-are) in
+              sets-eq (R A (suc m)) fr (length (rowsTo A m)) (omega (arith, ends, fits, length-more (R A) m)) ∙ rw
+              (flat-more (R A) m, st .rows-are) in
               rw e (take-at (rowsTo A (suc m)) (drop (length (rowsTo A m) + length (R A (suc m))) fr) (length (rowsTo A (suc m))) refl)
 
           starts : (k : ℕ) → k ≤ suc m → getD (set fs (suc m) (length (rowsTo A (suc m)))) k 0 ≡ length (rowsTo A k)

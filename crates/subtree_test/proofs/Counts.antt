@@ -26,7 +26,8 @@ use Rattle.subtree_test.specs.Steps.{EachOnce}
 pub order-has : {n : ℕ} {order : List ℕ} → EachOnce n order → length order ≡ n → (j : ℕ) → (j ∈ order) ↔ ((1 ≤ j) × (j ≤ n))
 order-has {n} {order} o long j = (
   o .range j,
-  λ (l, u). all-there order (upTo n) (o .once) (λ i m. let (a, b) = o .range i m in upTo-into n i a b) (omega (arith, length-upTo n)) j (upTo-into n j l u),
+  λ (l, u). all-there order (upTo n) (o .once) (λ i m. let (a, b) = o .range i m in upTo-into n i a b) (omega (arith, length-upTo n)) j
+      (upTo-into n j l u),
 )
 
 module _ (parents : List ℕ) (tree : TreeIn parents) (j : ℕ) (l : 1 ≤ j) (u : j ≤ length parents) where
@@ -49,6 +50,7 @@ module _ (parents : List ℕ) (tree : TreeIn parents) (j : ℕ) (l : 1 ≤ j) (u
       omega (
         arith,
         length-upTo (length parents),
-        distinct-length (subtreeOf (parentIn parents) (length parents) j) (upTo (length parents)) (subtree-distinct (parentIn parents) (length parents) j)
+        distinct-length (subtreeOf (parentIn parents) (length parents) j) (upTo (length parents))
+            (subtree-distinct (parentIn parents) (length parents) j)
             (λ x m. let (a, b) = under-range tree j x l u (subtree-is tree j x l u .0 m) in upTo-into (length parents) x a b),
       )

@@ -56,7 +56,9 @@ module _ (f : ℕ → ℕ) (n : ℕ) where
   with-last : (a b : ℕ) → f (suc n) ≡ b → Earliest f n a → Earliest f (suc n) (earlier a b)
   unfolding earlier
   with-last zero zero e (none z h) = none refl (last-too (λ c. f c ≡ 0) n h e)
-  with-last zero (suc b) e (none z h) = found (omega arith) (suc n) (omega arith) (omega arith) e (last-too (λ c. (f c ≡ 0) ⊎ (suc b ≤ f c)) n (λ c l u. inl (h c l u)) (inr (omega arith)))
+  with-last zero (suc b) e (none z h) =
+      found (omega arith) (suc n) (omega arith) (omega arith) e (last-too (λ c. (f c ≡ 0) ⊎ (suc b ≤ f c)) n (λ c l u. inl (h c l u))
+      (inr (omega arith)))
   with-last (suc a) b e (none z h) = absurd (omega arith)
   with-last zero b e (found p c l u q h) = absurd (omega arith)
   with-last (suc a) zero e (found p c l u q h) = found p c l (omega arith) q (last-too (λ c. (f c ≡ 0) ⊎ (suc a ≤ f c)) n h (inl e))
@@ -75,7 +77,8 @@ module _ (f : ℕ → ℕ) (n : ℕ) where
           rw m (found p c l (omega arith) q (last-too (λ c. (f c ≡ 0) ⊎ (suc a ≤ f c)) n h (inr (omega arith))))
       go (inr k) =
           let m : min (suc a) (suc b) ≡ suc b = omega arith in
-          rw m (found (omega arith) (suc n) (omega arith) (omega arith) e (last-too (λ c. (f c ≡ 0) ⊎ (suc b ≤ f c)) n (low (suc b) k) (inr (omega arith))))
+          rw m (found (omega arith) (suc n) (omega arith) (omega arith) e (last-too (λ c. (f c ≡ 0) ⊎ (suc b ≤ f c)) n (low (suc b) k)
+          (inr (omega arith))))
 
 pub earliest-is : (f : ℕ → ℕ) (n : ℕ) → Earliest f n (earliest f n)
 unfolding earliest

@@ -41,8 +41,10 @@ module _ (par step below : ℕ → ℕ) (c : ℕ) where
   pub judged : Judged
   judged = go (test (eqb (par c) 0)) (below-or (step (par c)) (step c)) (below-or (step c + below (par c)) (step (par c) + below c))
     where
-      go : Test (eqb (par c) 0) → (step (par c) < step c) ⊎ (step c ≤ step (par c)) → (step c + below (par c) < step (par c) + below c) ⊎ (step (par c) + below c ≤ step c + below (par c)) → Judged
+      go : Test (eqb (par c) 0) → (step (par c) < step c) ⊎ (step c ≤ step (par c))
+          → (step c + below (par c) < step (par c) + below c) ⊎ (step (par c) + below c ≤ step c + below (par c)) → Judged
       go (passes e) a b = let z = eqb-true (par c) 0 e in within (sym (stray-root z)) (λ l. absurd (omega arith))
       go (fails e) (inl a) b = let z : par c ≢ 0 = eqb-false (par c) 0 e in strays (sym (stray-late z a)) (omega arith) (λ f. omega (arith, f .0))
-      go (fails e) (inr a) (inl b) = let z : par c ≢ 0 = eqb-false (par c) 0 e in strays (sym (stray-early z a b)) (omega arith) (λ f. omega (arith, f .1))
+      go (fails e) (inr a) (inl b) =
+          let z : par c ≢ 0 = eqb-false (par c) 0 e in strays (sym (stray-early z a b)) (omega arith) (λ f. omega (arith, f .1))
       go (fails e) (inr a) (inr b) = within (sym (stray-none (eqb-false (par c) 0 e) a b)) (λ l. (a, b))

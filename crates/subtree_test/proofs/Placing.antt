@@ -34,14 +34,20 @@ module _ {order : List ℕ} (each : EachOnce (length order) order) where
 
   other : (i k : ℕ) → i < k → k < length order → getD order i 0 ≢ getD order k 0
   other i k l h e =
-      absurd (omega (arith, one-step order (each .once) (suc i) (suc k) (omega arith) (omega arith) (omega arith) (omega arith) (column-at order i ∙ (e ∙ sym (column-at order k)))))
+      absurd (omega (
+        arith,
+        one-step order (each .once) (suc i) (suc k) (omega arith) (omega arith) (omega arith) (omega arith)
+            (column-at order i ∙ (e ∙ sym (column-at order k))),
+      ))
 
   pub writing-turn : {steps : List ℕ} {k : ℕ} → Writing order steps k → k < length order → Writing order (set steps (getD order k 0) (k + 1)) (k + 1)
-  writing-turn {steps} {k} inv h = record { done = λ i l. go i (below-or i k) l; seen = omega arith; long = length-set steps (getD order k 0) (k + 1) ∙ inv .long }
+  writing-turn {steps} {k} inv h =
+      record { done = λ i l. go i (below-or i k) l; seen = omega arith; long = length-set steps (getD order k 0) (k + 1) ∙ inv .long }
     where
       go : (i : ℕ) → (i < k) ⊎ (k ≤ i) → i < k + 1 → listed (set steps (getD order k 0) (k + 1)) (getD order i 0) ≡ i + 1
       go i (inl l) u = getD-set-other steps (getD order k 0) (getD order i 0) (k + 1) 0 (other i k l h) ∙ inv .done i l
-      go i (inr l) u = let e : i ≡ k = omega arith in rw e (getD-set-same steps (getD order k 0) (k + 1) 0 (omega (arith, inv .long, column-fits k h)))
+      go i (inr l) u =
+          let e : i ≡ k = omega arith in rw e (getD-set-same steps (getD order k 0) (k + 1) 0 (omega (arith, inv .long, column-fits k h)))
 
 pub writing-stop : {order steps : List ℕ} {k : ℕ} → Writing order steps k → length order ≤ k → StepsIn order steps
 writing-stop inv h i l = inv .done i (omega arith)
@@ -63,15 +69,18 @@ module _ (parents steps below : List ℕ) (i : ℕ) where
   pub late-judged : p ≢ 0 → listed steps p < listed steps (i + 1) → listed steps p ≡ judgedAs
   late-judged = rw above at (stray-late (parentIn parents) (listed steps) (listed below) (i + 1))
 
-  pub early-judged : p ≢ 0 → listed steps (i + 1) ≤ listed steps p → listed steps (i + 1) + listed below p < listed steps p + listed below (i + 1) → listed steps p ≡ judgedAs
+  pub early-judged : p ≢ 0 → listed steps (i + 1) ≤ listed steps p → listed steps (i + 1) + listed below p < listed steps p + listed below (i + 1)
+      → listed steps p ≡ judgedAs
   early-judged = rw above at (stray-early (parentIn parents) (listed steps) (listed below) (i + 1))
 
-  pub none-judged : p ≢ 0 → listed steps (i + 1) ≤ listed steps p → listed steps p + listed below (i + 1) ≤ listed steps (i + 1) + listed below p → 0 ≡ judgedAs
+  pub none-judged : p ≢ 0 → listed steps (i + 1) ≤ listed steps p → listed steps p + listed below (i + 1) ≤ listed steps (i + 1) + listed below p
+      → 0 ≡ judgedAs
   none-judged = rw above at (stray-none (parentIn parents) (listed steps) (listed below) (i + 1))
 
   -- the parent has its places, and no sum is too great
   pub sums-fit : Placed parents steps below → i < length parents → p ≢ 0
-      → (p < length steps) × (p < length below) × (listed steps (i + 1) + listed below p ≤ maxColumns + maxColumns) × (listed steps p + listed below (i + 1) ≤ maxColumns + maxColumns)
+      → (p < length steps) × (p < length below) × (listed steps (i + 1) + listed below p ≤ maxColumns + maxColumns) ×
+      (listed steps p + listed below (i + 1) ≤ maxColumns + maxColumns)
   sums-fit placed h z =
       let low = parent-low parents (placed .tree) i in (
         omega (arith, placed .steps-length),

@@ -120,7 +120,8 @@ module _ {par : ℕ → ℕ} {n : ℕ} {order : List ℕ} {step below : ℕ → 
   stray-least = go (earliest (strayStep par step below) n) (earliest-is (strayStep par step below) n)
     where
       go : (r : ℕ) → Earliest (strayStep par step below) n r → r ≡ least (scattered par n order) n
-      go r (none z h) = rw z (sym (least-zero-iff (scattered par n order) n .1 (λ k l u. none-scattered (suc n) (λ c a b. inl (h c a b)) k l u (omega arith))))
+      go r (none z h) =
+          rw z (sym (least-zero-iff (scattered par n order) n .1 (λ k l u. none-scattered (suc n) (λ c a b. inl (h c a b)) k l u (omega arith))))
       go zero (found p c l u e h) = absurd (omega arith)
       go (suc r) (found p c l u e h) = at (judged par step below c)
         where
@@ -129,4 +130,5 @@ module _ {par : ℕ → ℕ} {n : ℕ} {order : List ℕ} {step below : ℕ → 
           at (strays q z f) =
               let here : step (par c) ≡ suc r = sym q ∙ e in
               let high : suc r ≤ n = omega (arith, parent-step c z .1) in
-              sym (least-found-iff (scattered par n order) n r .1 (high, stray-scattered (suc r) h c z here f, λ k a b. none-scattered (suc r) h k a (omega arith) (omega arith)))
+              sym (least-found-iff (scattered par n order) n r .1
+              (high, stray-scattered (suc r) h c z here f, λ k a b. none-scattered (suc r) h k a (omega arith) (omega arith)))

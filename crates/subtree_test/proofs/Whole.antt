@@ -25,7 +25,8 @@ pub steps-asked : {n : ℕ} {order : List ℕ} (work : List ℕ) → EachOnce n 
     → EachOnce (length order) order × (length (take (n + 1) work) ≡ length order + 1)
 steps-asked {n} work each long room = (rw long each, omega (arith, long, length-take-le (n + 1) work (omega arith)))
 
-module _ (parents order : List ℕ) (tree : TreeIn parents) (few : length parents ≤ maxColumns) (each : EachOnce (length parents) order) (long : length order ≡ length parents) where
+module _ (parents order : List ℕ) (tree : TreeIn parents) (few : length parents ≤ maxColumns) (each : EachOnce (length parents) order)
+    (long : length order ≡ length parents) where
   module _ (steps below : List ℕ) (stepped : StepsIn order steps) (counts : Descendants parents below) where
     step-is : (s : ℕ) → 1 ≤ s → s ≤ length parents → listed steps (columnAt order s) ≡ s
     unfolding columnAt
@@ -71,7 +72,8 @@ module _ (parents order : List ℕ) (tree : TreeIn parents) (few : length parent
 
       back-length : length z ≡ m
       back-length =
-          back-kept ∙ (part-length m (m + m) (s ++ drop m work) (omega arith) (omega (arith, length-append s (drop m work), length-drop m work, front-length)) ∙ omega arith)
+          back-kept ∙ (part-length m (m + m) (s ++ drop m work) (omega arith)
+          (omega (arith, length-append s (drop m work), length-drop m work, front-length)) ∙ omega arith)
 
       pub front-room : m ≡ length (take m both)
       front-room = sym (ap length front ∙ front-length)

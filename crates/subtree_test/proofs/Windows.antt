@@ -78,14 +78,16 @@ module _ {par : ℕ → ℕ} {n : ℕ} {order : List ℕ} {step below : ℕ → 
             piece .earlier,
             given .counted j l u,
             length-slice (piece .from) (step j) order high,
-            same-length (slice (piece .from) (step j) order) (subtreeOf par n j) (slice-distinct order (piece .from) (step j) (given .once)) (subtree-distinct par n j)
+            same-length (slice (piece .from) (step j) order) (subtreeOf par n j) (slice-distinct order (piece .from) (step j) (given .once))
+                (subtree-distinct par n j)
                 (λ x m. under-is x .1 (all x .0 m)) (λ x m. all x .1 (under-is x .0 m)),
           )
 
       pub together-inside : Inside par step below j
       together-inside y v =
           let p = slice-steps order y (piece .from) (step j) high .0 (all y .1 v) in
-          let e : step y ≡ p .step = ap step (sym (p .is)) ∙ given .stepped (p .step) (omega (arith, p .behind)) (omega (arith, p .within, high, given .long)) in
+          let e : step y ≡ p .step = ap step (sym (p .is)) ∙ given .stepped (p .step) (omega (arith, p .behind))
+          (omega (arith, p .within, high, given .long)) in
           (omega (arith, e, p .within), omega (arith, e, p .behind, room))
 
       pub together-begins : Begins par step below j
@@ -94,14 +96,20 @@ module _ {par : ℕ → ℕ} {n : ℕ} {order : List ℕ} {step below : ℕ → 
           let a = piece .earlier in
           record {
             column = columnAt order k;
-            under = all (columnAt order k) .0 (slice-steps order (columnAt order k) (piece .from) (step j) high .1 (record { step = k; behind = omega arith; within = omega arith; is = refl }));
+            under = all (columnAt order k) .0 (slice-steps order (columnAt order k) (piece .from) (step j) high .1
+                (record { step = k; behind = omega arith; within = omega arith; is = refl }));
             first = omega (arith, given .stepped k (omega arith) (omega (arith, high, given .long)), room);
           }
 
     -- ---- to the rule
 
     pub inside-together : Inside par step below j → Together par order (step j)
-    inside-together inside = piece-together par order (step j) low high (given .once) (record { from = from; earlier = omega (arith, low, count); all = λ x. rw here (outward x, inward x) })
+    inside-together inside =
+        piece-together par order (step j) low high (given .once) (record {
+          from = from;
+          earlier = omega (arith, low, count);
+          all = λ x. rw here (outward x, inward x);
+        })
       where
         w : ℕ
         w = length (subtreeOf par n j)
@@ -121,4 +129,5 @@ module _ {par : ℕ → ℕ} {n : ℕ} {order : List ℕ} {step below : ℕ → 
 
         outward : (x : ℕ) → x ∈ slice from (step j) order → Under par j x
         outward x m =
-            under-is x .0 (all-there (subtreeOf par n j) (slice from (step j) order) (subtree-distinct par n j) (λ i k. inward i (under-is i .0 k)) (omega (arith, length-slice from (step j) order high)) x m)
+            under-is x .0 (all-there (subtreeOf par n j) (slice from (step j) order) (subtree-distinct par n j) (λ i k. inward i (under-is i .0 k))
+            (omega (arith, length-slice from (step j) order high)) x m)

@@ -1,4 +1,5 @@
--- Line 1 number by number: behind those read, one more in front of a space leaves the rest of the line to say what it is; in front of a newline two or three
+-- Line 1 number by number: behind those read, one more in front of a space leaves the rest of the line to say what it is; in front of a newline two
+-- or three
 -- numbers are a head, any other count is none.
 -- Assumes nothing.
 use Prim.Native.Nat.{ℕ}

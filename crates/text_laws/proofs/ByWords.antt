@@ -1,4 +1,5 @@
--- A line read word by word: behind a number and a space come the numbers of the rest of the line, behind a number and a newline no more, and a line that
+-- A line read word by word: behind a number and a space come the numbers of the rest of the line, behind a number and a newline no more, and a line
+-- that
 -- begins with neither has none. All of it by the printed form, whose first word is fixed.
 -- Assumes nothing.
 use Prim.Native.Nat.{ℕ}
@@ -14,7 +15,8 @@ use Rattle.text_laws.proofs.Lines.{after-line, after-part}
 use Rattle.text_laws.proofs.Numbers.{numbers-iff, no-cons}
 
 -- the first line of a text
-pub first-line-iff : (t : List ℕ) (x : ℕ) (xs : List ℕ) → (numbersAt t 1 ≡ x ∷ xs) ↔ ((rest : List ℕ) × (t ≡ printed (decimalOf x) xs ++ rest) × All Short (x ∷ xs))
+pub first-line-iff : (t : List ℕ) (x : ℕ) (xs : List ℕ)
+    → (numbersAt t 1 ≡ x ∷ xs) ↔ ((rest : List ℕ) × (t ≡ printed (decimalOf x) xs ++ rest) × All Short (x ∷ xs))
 unfolding afterLines
 first-line-iff t x xs = numbers-iff t 1 x xs
 
@@ -52,10 +54,12 @@ first-fixed x y b c u v p q e =
     (decimal-injective x y w, f, g)
 
 -- the first number of a line stands in front of such a byte
-pub first-number : (t : List ℕ) (x : ℕ) (xs : List ℕ) → numbersAt t 1 ≡ x ∷ xs → (b : ℕ) × (rest : List ℕ) × Ends b × Short x × (t ≡ decimalOf x ++ (b ∷ rest))
+pub first-number : (t : List ℕ) (x : ℕ) (xs : List ℕ) → numbersAt t 1 ≡ x ∷ xs
+    → (b : ℕ) × (rest : List ℕ) × Ends b × Short x × (t ≡ decimalOf x ++ (b ∷ rest))
 first-number t x xs e = go xs (first-line-iff t x xs .0 e)
   where
-    go : (xs : List ℕ) → (rest : List ℕ) × (t ≡ printed (decimalOf x) xs ++ rest) × All Short (x ∷ xs) → (b : ℕ) × (rest : List ℕ) × Ends b × Short x × (t ≡ decimalOf x ++ (b ∷ rest))
+    go : (xs : List ℕ) → (rest : List ℕ) × (t ≡ printed (decimalOf x) xs ++ rest) × All Short (x ∷ xs)
+        → (b : ℕ) × (rest : List ℕ) × Ends b × Short x × (t ≡ decimalOf x ++ (b ∷ rest))
     go [] h = (newline, h .0, inr refl, h .2 .0, h .1 ∙ printed-last x (h .0))
     go (y ∷ ys) h = (space, printed (decimalOf y) ys ++ h .0, inl refl, h .2 .0, h .1 ∙ printed-more x y ys (h .0))
 
@@ -91,4 +95,5 @@ module _ (x : ℕ) (s : Short x) where
 
   pub after-next : (t : List ℕ) → afterLines 1 (decimalOf x ++ (space ∷ t)) ≡ afterLines 1 t
   after-next t =
-      after-part (decimalOf x) (space ∷ t) (all-map (λ b d n. omega arith) (decimalOf x) (decimal-digits x)) ∙ after-part (space ∷ []) t (λ n. omega arith, tt)
+      after-part (decimalOf x) (space ∷ t) (all-map (λ b d n. omega arith) (decimalOf x) (decimal-digits x)) ∙ after-part (space ∷ []) t
+      (λ n. omega arith, tt)

@@ -14,14 +14,17 @@ use Rattle.papers.specs.Text.{digit, isDecimal, valueOf, decimalOf}
 use Rattle.list_laws.proofs.Tests.{below-or, true-false, not-true}
 use Rattle.text_laws.specs.Grammar.{Short, Decimal}
 use Rattle.text_laws.proofs.Parts.{and-iff}
-use Rattle.text_laws.proofs.Decimals.{decimal-small, decimal-more, decimal-each, digit-iff, digits-iff, decimal-digits, decimal-value, digits-behind, value-below}
+use Rattle.text_laws.proofs.Decimals.{decimal-small, decimal-more, decimal-each, digit-iff, digits-iff, decimal-digits}
+use Rattle.text_laws.proofs.Decimals.{decimal-value, digits-behind, value-below}
 
 -- the test of a word
 pub decimal-word-iff : (w : List ℕ) → (isDecimal w ≡ true) ↔ Decimal w
 unfolding isDecimal
 decimal-word-iff [] = (λ e. absurd (true-false e refl), λ h. absurd (let l = h .some in omega arith))
-decimal-word-iff (d ∷ []) =
-    (λ e. record { digits = (digit-iff d .0 e, tt); some = omega arith; few = omega arith; lead = λ l. absurd (omega arith) }, λ h. digit-iff d .1 (h .digits .0))
+decimal-word-iff (d ∷ []) = (
+  λ e. record { digits = (digit-iff d .0 e, tt); some = omega arith; few = omega arith; lead = λ l. absurd (omega arith) },
+  λ h. digit-iff d .1 (h .digits .0),
+)
 decimal-word-iff (d ∷ e ∷ ds) =
     let i = and-iff _ _ in
     let k = and-iff _ _ in
@@ -54,7 +57,13 @@ first : (x : ℕ) → First x (decimalOf x)
 first =
     decimal-each First
     (λ x l. record { head = digit x; tail = []; parts = refl; zero-alone = λ h. omega arith; alone = λ h. refl })
-    (λ x l ih. record { head = ih .head; tail = ih .tail ++ (digit (x % 10) ∷ []); parts = rw (ih .parts); zero-alone = λ h. ih .zero-alone (omega arith); alone = λ h. absurd (omega arith) })
+    (λ x l ih. record {
+      head = ih .head;
+      tail = ih .tail ++ (digit (x % 10) ∷ []);
+      parts = rw (ih .parts);
+      zero-alone = λ h. ih .zero-alone (omega arith);
+      alone = λ h. absurd (omega arith);
+    })
 
 -- the decimal of a number of at most 13 digits is one
 pub decimal-is : (x : ℕ) → Short x → Decimal (decimalOf x)
@@ -62,7 +71,12 @@ decimal-is x h =
     let f = first x in
     let e = f .parts in
     let l = ap length e in
-    record { digits = decimal-digits x; some = omega arith; few = length-decimal (maxDigits - 1) x h; lead = λ m. rw e (λ z. lead f (omega arith) z (below-or x 10)) }
+    record {
+      digits = decimal-digits x;
+      some = omega arith;
+      few = length-decimal (maxDigits - 1) x h;
+      lead = λ m. rw e (λ z. lead f (omega arith) z (below-or x 10));
+    }
   where
     lead : (f : First x (decimalOf x)) → 0 < length (f .tail) → f .head ≡ digit 0 → (x < 10) ⊎ (10 ≤ x) → ⊥
     lead f l z (inl s) = omega (arith, ap length (f .alone s))

@@ -79,7 +79,9 @@ digits-iff w =
     (λ e. all-map (λ x. digit-iff x .0) w (i .0 e), λ p. i .1 (all-map (λ x. digit-iff x .1) w p))
 
 pub decimal-digits : (x : ℕ) → All Digit (decimalOf x)
-decimal-digits = decimal-each (λ x w. All Digit w) (λ x l. (omega arith, tt)) (λ x l ih. all-append Digit (decimalOf (x / 10)) (digit (x % 10) ∷ []) ih (omega arith, tt))
+decimal-digits =
+    decimal-each (λ x w. All Digit w) (λ x l. (omega arith, tt)) (λ x l ih. all-append Digit (decimalOf (x / 10)) (digit (x % 10) ∷ []) ih
+    (omega arith, tt))
 
 -- ---- values
 
@@ -92,7 +94,8 @@ value-append v (x ∷ xs) ys = value-append (10 * v + (x - digit 0)) xs ys
 pub decimal-value : (x : ℕ) → valueOf 0 (decimalOf x) ≡ x
 unfolding valueOf
 decimal-value =
-    decimal-each (λ x w. valueOf 0 w ≡ x) (λ x l. omega arith) (λ x l ih. rw (value-append 0 (decimalOf (x / 10)) (digit (x % 10) ∷ []), ih) (omega arith))
+    decimal-each (λ x w. valueOf 0 w ≡ x) (λ x l. omega arith) (λ x l ih. rw (value-append 0 (decimalOf (x / 10)) (digit (x % 10) ∷ []), ih)
+    (omega arith))
 
 pub decimal-injective : (x y : ℕ) → decimalOf x ≡ decimalOf y → x ≡ y
 decimal-injective x y e = sym (decimal-value x) ∙ ap (valueOf 0) e ∙ decimal-value y
@@ -105,7 +108,8 @@ digits-behind v (d ∷ ds) h p =
     let low = p .0 .0 in
     let high = p .0 .1 in
     let e : digit (d - digit 0) ≡ d = omega arith in
-    digits-behind (10 * v + (d - digit 0)) ds (omega arith) (p .1) ∙ rw (decimal-next v (d - digit 0) h (omega arith), e) (append-assoc (decimalOf v) (d ∷ []) ds)
+    digits-behind (10 * v + (d - digit 0)) ds (omega arith) (p .1) ∙ rw (decimal-next v (d - digit 0) h (omega arith), e)
+    (append-assoc (decimalOf v) (d ∷ []) ds)
 
 pub value-below : (v : ℕ) (ds : List ℕ) → All Digit ds → valueOf v ds < (v + 1) * 10 ^ length ds
 unfolding valueOf

@@ -7,7 +7,8 @@ use mathlib.Core.Logic.{_↔_}
 use mathlib.Core.Bool.{true, false}
 use mathlib.Core.List.{List, [], _∷_, _++_, append-assoc, map}
 use native.Mathlib.Omega.{arith}
-use Rattle.papers.specs.Text.{newline, Cut, line, unended, cut, afterLines, wordsOf, isDecimal, allDecimal, valueOf, numbersOf, numbersAt, decimalOf, printed}
+use Rattle.papers.specs.Text.{newline, Cut, line, unended, cut, afterLines, wordsOf, isDecimal, allDecimal, valueOf}
+use Rattle.papers.specs.Text.{numbersOf, numbersAt, decimalOf, printed}
 use Rattle.list_laws.proofs.Tests.{Test, passes, fails, test}
 use Rattle.text_laws.specs.Grammar.{All, Digit, InWord, InLine, Short, spaced}
 use Rattle.text_laws.proofs.Parts.{and-iff, all-append, all-map}
@@ -97,10 +98,12 @@ module _ (text : List ℕ) (q : ℕ) where
   at-end e = rw (e, numbersAt)
 
   -- line q reads as numbers just where the text goes on there with those numbers printed
-  pub numbers-iff : (x : ℕ) (xs : List ℕ) → (numbersAt text q ≡ x ∷ xs) ↔ ((rest : List ℕ) × (afterLines (q - 1) text ≡ printed (decimalOf x) xs ++ rest) × All Short (x ∷ xs))
+  pub numbers-iff : (x : ℕ) (xs : List ℕ)
+      → (numbersAt text q ≡ x ∷ xs) ↔ ((rest : List ℕ) × (afterLines (q - 1) text ≡ printed (decimalOf x) xs ++ rest) × All Short (x ∷ xs))
   numbers-iff x xs = (there (cut (afterLines (q - 1) text)) refl, back)
     where
-      there : (c : Cut) → cut (afterLines (q - 1) text) ≡ c → numbersAt text q ≡ x ∷ xs → (rest : List ℕ) × (afterLines (q - 1) text ≡ printed (decimalOf x) xs ++ rest) × All Short (x ∷ xs)
+      there : (c : Cut) → cut (afterLines (q - 1) text) ≡ c → numbersAt text q ≡ x ∷ xs
+          → (rest : List ℕ) × (afterLines (q - 1) text ≡ printed (decimalOf x) xs ++ rest) × All Short (x ∷ xs)
       there (line l rest) f e =
           let (a, s) = numbers-of-iff l x xs .0 (sym (at-line f) ∙ e) in
           (rest, cut-iff (afterLines (q - 1) text) l rest .0 f .0 ∙ rw a (sym (printed-line x xs rest)), s)
@@ -109,7 +112,8 @@ module _ (text : List ℕ) (q : ℕ) where
       back : (rest : List ℕ) × (afterLines (q - 1) text ≡ printed (decimalOf x) xs ++ rest) × All Short (x ∷ xs) → numbersAt text q ≡ x ∷ xs
       back h =
           let (rest, e, s) = h in
-          let f = cut-iff (afterLines (q - 1) text) (spaced (decimalOf x) (map decimalOf xs)) rest .1 (e ∙ printed-line x xs rest, in-line (decimalOf x) xs (decimal-digits x)) in
+          let f = cut-iff (afterLines (q - 1) text) (spaced (decimalOf x) (map decimalOf xs)) rest .1
+          (e ∙ printed-line x xs rest, in-line (decimalOf x) xs (decimal-digits x)) in
           at-line f ∙ numbers-of-iff (spaced (decimalOf x) (map decimalOf xs)) x xs .1 (refl, s)
 
 -- a line is the first of what follows the lines before it

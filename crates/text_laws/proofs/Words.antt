@@ -51,12 +51,23 @@ line-words (b ∷ bs) = go (test (eqb b space)) (line-words bs)
     go : Test (eqb b space) → Line bs → Line (b ∷ bs)
     go (passes p) k =
         let e = eqb-true b space p in
-        record { word = []; words = k .word ∷ k .words; are = words-here b bs e ∙ ap (λ (l : List (List ℕ)). [] ∷ l) (k .are); makes = rw (e, ← k .makes) }
+        record {
+          word = [];
+          words = k .word ∷ k .words;
+          are = words-here b bs e ∙ ap (λ (l : List (List ℕ)). [] ∷ l) (k .are);
+          makes = rw (e, ← k .makes);
+        }
     go (fails p) k =
-        record { word = b ∷ k .word; words = k .words; are = words-later b bs (eqb-false b space p) ∙ ap (onWord b) (k .are); makes = ap (λ (l : List ℕ). b ∷ l) (k .makes) ∙ on (k .word) (k .words) }
+        record {
+          word = b ∷ k .word;
+          words = k .words;
+          are = words-later b bs (eqb-false b space p) ∙ ap (onWord b) (k .are);
+          makes = ap (λ (l : List ℕ). b ∷ l) (k .makes) ∙ on (k .word) (k .words);
+        }
 
 -- what is printed is words with one space between, and a newline
 pub printed-spaced : (w xs : List ℕ) → printed w xs ≡ spaced w (map decimalOf xs) ++ (newline ∷ [])
 unfolding printed
 printed-spaced w [] = refl
-printed-spaced w (x ∷ xs) = rw (printed-spaced (decimalOf x) xs) (sym (append-assoc w (space ∷ spaced (decimalOf x) (map decimalOf xs)) (newline ∷ [])))
+printed-spaced w (x ∷ xs) =
+    rw (printed-spaced (decimalOf x) xs) (sym (append-assoc w (space ∷ spaced (decimalOf x) (map decimalOf xs)) (newline ∷ [])))

@@ -1,4 +1,5 @@
--- Rows read one by one to the end of the line: those read, and behind them the rest of the line, are the line's numbers. Each takes a byte at least, so
+-- Rows read one by one to the end of the line: those read, and behind them the rest of the line, are the line's numbers. Each takes a byte at least,
+-- so
 -- their count stays within the place.
 -- Assumes nothing.
 use Prim.Native.Nat.{ℕ, _+_, _<_, _≤_}
@@ -52,13 +53,15 @@ module _ {text : List ℕ} {at t : ℕ} {rows₀ rows : List ℕ} {k count : ℕ
   one-kept : (v : ℕ) {rows′ : List ℕ} → rows′ ≡ set rows (t + count) (narrowed v) → rows′ ≡ sets rows₀ t (map narrowed (x .list ++ (v ∷ [])))
   one-kept v e =
       let c = x .counted in
-      rw (map-append narrowed (x .list) (v ∷ [])) (sets-more (map narrowed (x .list)) rows₀ t (narrowed v) (t + count) (x .kept) e (omega (arith, length-map (x .list) narrowed)))
+      rw (map-append narrowed (x .list) (v ∷ [])) (sets-more (map narrowed (x .list)) rows₀ t (narrowed v) (t + count) (x .kept) e
+      (omega (arith, length-map (x .list) narrowed)))
 
   one-counted : (v : ℕ) → length (x .list ++ (v ∷ [])) ≡ count + 1
   one-counted v = let c = x .counted in omega (arith, length-append (x .list) (v ∷ []))
 
   -- one more, in front of a space
-  pub rows-turn : {v next : ℕ} {rows′ : List ℕ} → Number text k space v next → rows′ ≡ set rows (t + count) (narrowed v) → RowsRead text at t rows₀ rows′ next (count + 1)
+  pub rows-turn : {v next : ℕ} {rows′ : List ℕ} → Number text k space v next → rows′ ≡ set rows (t + count) (narrowed v)
+      → RowsRead text at t rows₀ rows′ next (count + 1)
   rows-turn {v} {next} n e =
       let p = x .paced in
       let o = n .on in
@@ -101,7 +104,8 @@ module _ {text : List ℕ} {at t : ℕ} {rows₀ rows : List ℕ} {k count : ℕ
 
 -- ---- a line of rows, by its count
 
-counted-rows : {text : List ℕ} {at said next : ℕ} → Number text at space said next → {list : List ℕ} → numbersAt (drop next text) 1 ≡ list → 0 < length list
+counted-rows : {text : List ℕ} {at said next : ℕ} → Number text at space said next → {list : List ℕ} → numbersAt (drop next text) 1 ≡ list
+    → 0 < length list
     → numbersAt (drop at text) 1 ≡ said ∷ list
 counted-rows {said = said} n {list} f s = more-numbers n ∙ ap (behind (said ∷ [])) f ∙ behind-some (said ∷ []) list s
 
@@ -127,15 +131,18 @@ module _ {text : List ℕ} {at t : ℕ} {rows₀ : List ℕ} where
     line-no-rows (all-rows list end e f s l p k) g = absurd (let z : _≡_ {A = ℕ} 0 1 = cc in omega arith)
     line-no-rows (no-rows e f) g = line-bad (more-numbers n ∙ ap (behind (said ∷ [])) f)
 
-    pub line-rows : {r : Line} {count end : ℕ} → RowsTold text next t rows₀ rows r → r ≡ Rows count end → count ≡ said → LineTold text at t rows₀ rows (Rows count end)
+    pub line-rows : {r : Line} {count end : ℕ} → RowsTold text next t rows₀ rows r → r ≡ Rows count end → count ≡ said
+        → LineTold text at t rows₀ rows (Rows count end)
     line-rows {count = count} {end = end} (all-rows list m e f s l p k) g h =
         let a : length list ≡ count = cc in
         let b : m ≡ end = cc in
         let o = n .on in
-        row-line list end (ap (λ (c : ℕ). Rows c end) (sym a)) (counted-rows n f s ∙ ap (λ (c : ℕ). c ∷ list) (sym (a ∙ h))) (line-behind n (rw b at l)) (omega arith) k
+        row-line list end (ap (λ (c : ℕ). Rows c end) (sym a)) (counted-rows n f s ∙ ap (λ (c : ℕ). c ∷ list) (sym (a ∙ h)))
+        (line-behind n (rw b at l)) (omega arith) k
     line-rows (no-rows e f) g h = absurd (let z : _≡_ {A = ℕ} 0 1 = cc in omega arith)
 
-    pub line-differs : {r : Line} {count end : ℕ} → RowsTold text next t rows₀ rows r → r ≡ Rows count end → count ≢ said → LineTold text at t rows₀ rows Bad
+    pub line-differs : {r : Line} {count end : ℕ} → RowsTold text next t rows₀ rows r → r ≡ Rows count end → count ≢ said
+        → LineTold text at t rows₀ rows Bad
     unfolding isRowLine
     line-differs {count = count} (all-rows list m e f s l p k) g h =
         let a : length list ≡ count = cc in

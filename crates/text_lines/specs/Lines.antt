@@ -1,4 +1,5 @@
--- What is read of a line of rows, and what is kept of it. A store past the end of a slice stores nothing, so what is kept of rows is the same whether or not all
+-- What is read of a line of rows, and what is kept of it. A store past the end of a slice stores nothing, so what is kept of rows is the same whether
+-- or not all
 -- find room. Of a bad line nothing is said to be kept.
 -- Assumes nothing.
 use Prim.Native.Nat.{ℕ, _+_, _<_, _≤_}

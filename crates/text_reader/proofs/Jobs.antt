@@ -1,4 +1,5 @@
--- A whole text: its length, line 1, the lines of rows and the end, each tested once those before it pass. The job of a text that passes is what was read.
+-- A whole text: its length, line 1, the lines of rows and the end, each tested once those before it pass. The job of a text that passes is what was
+-- read.
 -- Assumes nothing.
 use Prim.Native.Nat.{ℕ, _<_, _≤_}
 use mathlib.Core.Path.{_≡_, refl, sym, ap, _∙_}
@@ -47,14 +48,17 @@ module _ {text : List ℕ} {r : Head} where
 -- ---- the tests in their order
 
 module _ (text : List ℕ) where
-  over-refused : (more : Bool) → (more || ltb inputBytes (length text)) ≡ true → first textTests (record { text = text; more = more }) ≡ refused (answer 26 0 0) untouched
+  over-refused : (more : Bool) → (more || ltb inputBytes (length text)) ≡ true
+      → first textTests (record { text = text; more = more }) ≡ refused (answer 26 0 0) untouched
   unfolding textTests inputTest
-  over-refused more e = first-refuses inputTest _ (record { text = text; more = more }) (refused-if (more || ltb inputBytes (length text)) _ untouched e)
+  over-refused more e =
+      first-refuses inputTest _ (record { text = text; more = more }) (refused-if (more || ltb inputBytes (length text)) _ untouched e)
 
   module _ (h : length text ≤ inputBytes) where
     to-head : first textTests (whole text) ≡ first (headTest ∷ rowLinesTest ∷ endTest ∷ []) (whole text)
     unfolding textTests inputTest
-    to-head = first-passes inputTest (headTest ∷ rowLinesTest ∷ endTest ∷ []) (whole text) (passed-if _ _ untouched (le-ltb inputBytes (length text) h))
+    to-head =
+        first-passes inputTest (headTest ∷ rowLinesTest ∷ endTest ∷ []) (whole text) (passed-if _ _ untouched (le-ltb inputBytes (length text) h))
 
     head-refused : textHead text .fine ≡ false → first textTests (whole text) ≡ refused (answer 25 1 0) untouched
     unfolding headTest
@@ -64,12 +68,14 @@ module _ (text : List ℕ) where
       columns-refused : programColumns < textHead text .n → first textTests (whole text) ≡ refused (answer 26 1 0) untouched
       unfolding headTest
       columns-refused l =
-          to-head ∙ first-refuses headTest (rowLinesTest ∷ endTest ∷ []) (whole text) (rw (f, headTest) (refused-if _ _ untouched (lt-ltb programColumns (textHead text .n) l)))
+          to-head ∙ first-refuses headTest (rowLinesTest ∷ endTest ∷ []) (whole text)
+          (rw (f, headTest) (refused-if _ _ untouched (lt-ltb programColumns (textHead text .n) l)))
 
       to-lines : textHead text .n ≤ programColumns → first textTests (whole text) ≡ first (rowLinesTest ∷ endTest ∷ []) (whole text)
       unfolding headTest
       to-lines l =
-          to-head ∙ first-passes headTest (rowLinesTest ∷ endTest ∷ []) (whole text) (rw (f, headTest) (passed-if _ _ untouched (le-ltb programColumns (textHead text .n) l)))
+          to-head ∙ first-passes headTest (rowLinesTest ∷ endTest ∷ []) (whole text)
+          (rw (f, headTest) (passed-if _ _ untouched (le-ltb programColumns (textHead text .n) l)))
 
 -- ---- what is told of a text
 
@@ -111,5 +117,6 @@ module _ {text starts₀ rows₀ starts rows : List ℕ} {more : Bool} where
           told-job {count = count} (all-lines e p s k) g =
               let a : length (textJob text .rows) ≡ count = cc in
               let is = x .is in
-              rw m (job-read (to-told h x l ∙ p) (ap (Job head) (sym a) ∙ ap (λ (h : JobHead). Job h (length (textJob text .rows))) (same-head head (sym (ap (λ q. q .n) is)) (sym (ap (λ q. q .mark) is)) (sym (ap (λ q. q .limit) is)))) s k)
+              rw m (job-read (to-told h x l ∙ p) (ap (Job head) (sym a) ∙ ap (λ (h : JobHead). Job h (length (textJob text .rows)))
+              (same-head head (sym (ap (λ q. q .n) is)) (sym (ap (λ q. q .mark) is)) (sym (ap (λ q. q .limit) is)))) s k)
           told-job (bad-lines c q e p) g = absurd (let z : _≡_ {A = ℕ} 0 1 = cc in omega arith)

@@ -1,4 +1,5 @@
--- A job that is not refused has no row that is narrowed, so what is kept of it is the job; and neither its analysis nor what is printed of it sees the difference.
+-- A job that is not refused has no row that is narrowed, so what is kept of it is the job; and neither its analysis nor what is printed of it sees
+-- the difference.
 -- Assumes nothing.
 use Prim.Native.Nat.{ℕ, zero, suc, _≤_}
 use mathlib.Core.Path.{_≡_, refl, sym, ap, _∙_}
@@ -38,7 +39,13 @@ module _ (n : ℕ) (starts rows : List ℕ) (few : n ≤ maxColumns) (p : Passed
   front-kept zero l = rw (lists-none (columnOf starts rows))
   front-kept (suc m) l =
       let column = columnOf starts rows (suc m) in
-      rw (lists-more (columnOf starts rows) m, flat-more (listsOf m (columnOf starts rows)) column, map-append narrowed (flat (listsOf m (columnOf starts rows))) column, front-kept m (omega arith), small-kept n column few (p .within (suc m) (omega arith) l))
+      rw (
+        lists-more (columnOf starts rows) m,
+        flat-more (listsOf m (columnOf starts rows)) column,
+        map-append narrowed (flat (listsOf m (columnOf starts rows))) column,
+        front-kept m (omega arith),
+        small-kept n column few (p .within (suc m) (omega arith) l),
+      )
 
   rows-kept : map narrowed rows ≡ rows
   rows-kept = rw (rows-laid (p .whole)) at (front-kept n (omega arith))
@@ -47,11 +54,13 @@ module _ (n : ℕ) (starts rows : List ℕ) (few : n ≤ maxColumns) (p : Passed
 pub kept-passed : (job : Job) → first jobTests job ≡ passed → keptJob job ≡ job
 kept-passed job e =
     let p = passes-iff job .0 e in
-    ap (λ (rows : List ℕ). record { n = job .n; starts = job .starts; rows = rows; mark = job .mark; limit = job .limit }) (rows-kept (job .n) (job .starts) (job .rows) (p .few) (p .lists))
+    ap (λ (rows : List ℕ). record { n = job .n; starts = job .starts; rows = rows; mark = job .mark; limit = job .limit })
+    (rows-kept (job .n) (job .starts) (job .rows) (p .few) (p .lists))
 
 -- ---- the analysis of a job, and what is printed of it
 
-refused-analysed : (job : Job) (lent : Lent) {a : Answer} {l : Leaves} → first jobTests job ≡ refused a l → analysed job lent ≡ record { answer = a; lent = lent }
+refused-analysed : (job : Job) (lent : Lent) {a : Answer} {l : Leaves} → first jobTests job ≡ refused a l
+    → analysed job lent ≡ record { answer = a; lent = lent }
 unfolding analysed analysisTests answerOf
 refused-analysed job lent e =
     let some = job-untouched job e .1 in
@@ -65,7 +74,8 @@ kept-analysed job lent = go (first jobTests job) refl
     go passed e = ap (λ (j : Job). analysed j lent) (kept-passed job e)
     go (refused a l) e = refused-analysed (keptJob job) lent (kept-tests job ∙ e) ∙ sym (refused-analysed job lent e)
 
-pub kept-printed : (job : Job) (lent : Lent) → jobPrinted (keptJob job) (analysed (keptJob job) lent .answer) ≡ jobPrinted job (analysed job lent .answer)
+pub kept-printed : (job : Job) (lent : Lent)
+    → jobPrinted (keptJob job) (analysed (keptJob job) lent .answer) ≡ jobPrinted job (analysed job lent .answer)
 unfolding jobPrinted
 kept-printed job lent = rw (kept-analysed job lent) (go (first jobTests job) refl)
   where

@@ -1,4 +1,5 @@
--- The lines of rows read one by one: each line is the next one's beginning, its rows stand behind those before it, and the starts with them. No line so far
+-- The lines of rows read one by one: each line is the next one's beginning, its rows stand behind those before it, and the starts with them. No line
+-- so far
 -- has a fault, so the first that has one is the first of all.
 -- Assumes nothing.
 use Prim.Native.Nat.{ℕ, suc, _+_, _-_, _<_, _≤_}
@@ -23,7 +24,8 @@ use Rattle.text_lines.specs.declared.Line.the-variants.{Rows}
 use Rattle.text_reader.specs.declared.Lines.{Lines}
 use Rattle.text_reader.specs.declared.Lines.the-variants as lines
 use Rattle.text_reader.specs.Reading.{columnLists, LinesTold, all-lines, bad-lines}
-use Rattle.text_reader.proofs.Tests.{lists-none, lists-more, length-lists, line-bad, line-over, line-fine, lines-refuse, end-refuses, end-passes}
+use Rattle.text_reader.proofs.Tests.{lists-none, lists-more, length-lists, line-bad, line-over, line-fine, lines-refuse}
+use Rattle.text_reader.proofs.Tests.{end-refuses, end-passes}
 use Rattle.text_reader.proofs.RowLines.{RowLine}
 
 -- the lines of the first j columns, up to k, with `total` rows
@@ -39,7 +41,8 @@ pub record LinesRead (text : List ℕ) (n : ℕ) (starts₀ rows₀ starts rows 
   pub kept : rows ≡ sets rows₀ 0 (map narrowed (flat (textLists text j)))
 
 -- none yet: the first start is stored
-pub lines-start : (text : List ℕ) (n : ℕ) (starts rows : List ℕ) {at : ℕ} → LineTo text 0 at → LinesRead text n (set starts 0 0) rows (set starts 0 0) rows 0 0 at
+pub lines-start : (text : List ℕ) (n : ℕ) (starts rows : List ℕ) {at : ℕ} → LineTo text 0 at
+    → LinesRead text n (set starts 0 0) rows (set starts 0 0) rows 0 0 at
 unfolding least flat startsFrom
 lines-start text n starts rows l =
     record {
@@ -54,7 +57,8 @@ lines-start text n starts rows l =
       kept = rw (lists-none text);
     }
 
-pub told-first : {text starts₀ rows₀ starts rows : List ℕ} {r : Lines} → LinesTold text (set starts₀ 0 0) rows₀ starts rows r → LinesTold text starts₀ rows₀ starts rows r
+pub told-first : {text starts₀ rows₀ starts rows : List ℕ} {r : Lines} → LinesTold text (set starts₀ 0 0) rows₀ starts rows r
+    → LinesTold text starts₀ rows₀ starts rows r
 told-first {text} {starts₀} (all-lines e p s k) = all-lines e p (s ∙ starts-again starts₀ (columnLists text)) k
 told-first (bad-lines number place e p) = bad-lines number place e p
 
@@ -100,12 +104,15 @@ module _ {text : List ℕ} {n : ℕ} {starts₀ rows₀ starts rows : List ℕ} 
     more-kept =
         let front = map narrowed (flat (textLists text j)) in
         let v : 0 + length front ≡ total = omega (arith, x .counted, length-map (flat (textLists text j)) narrowed) in
-        rw (more-rows, map-append narrowed (flat (textLists text j)) (y .list), sets-append front rows₀ 0 (map narrowed (y .list)), v, ← x .kept) (y .kept)
+        rw (more-rows, map-append narrowed (flat (textLists text j)) (y .list), sets-append front rows₀ 0 (map narrowed (y .list)), v, ← x .kept)
+        (y .kept)
 
     -- with too many
-    pub lines-over : {starts′ : List ℕ} → n ≡ textHead text .n → j < n → programRows < total + count → LinesTold text starts₀ rows₀ starts′ rows′ (lines.Refused 26 (j + 2))
+    pub lines-over : {starts′ : List ℕ} → n ≡ textHead text .n → j < n → programRows < total + count
+        → LinesTold text starts₀ rows₀ starts′ rows′ (lines.Refused 26 (j + 2))
     lines-over e l h =
-        bad-lines 26 (j + 2) refl (lines-refuse text j 26 (x .fine) (omega arith) (line-over text (suc j) is-row-line (omega (arith, more-counted))) (omega arith))
+        bad-lines 26 (j + 2) refl (lines-refuse text j 26 (x .fine) (omega arith) (line-over text (suc j) is-row-line (omega (arith, more-counted)))
+        (omega arith))
 
     -- with few enough
     pub lines-turn : {starts′ : List ℕ} → j < n → total + count ≤ programRows → starts′ ≡ set starts (j + 1) (total + count)
@@ -123,7 +130,8 @@ module _ {text : List ℕ} {n : ℕ} {starts₀ rows₀ starts rows : List ℕ} 
           counted = c;
           few = h;
           paced = omega arith;
-          started = rw more-starts (sets-more (startsFrom 0 (textLists text j)) starts₀ 0 (total + count) (j + 1) (x .started) e (omega (arith, length-starts 0 (textLists text j), length-lists text j)));
+          started = rw more-starts (sets-more (startsFrom 0 (textLists text j)) starts₀ 0 (total + count) (j + 1) (x .started) e
+              (omega (arith, length-starts 0 (textLists text j), length-lists text j)));
           kept = more-kept;
         })
 
@@ -145,4 +153,5 @@ module _ {text : List ℕ} {n : ℕ} {starts₀ rows₀ starts rows : List ℕ} 
     -- none
     pub lines-done : length text ≤ k → LinesTold text starts₀ rows₀ starts rows (lines.Rows total)
     lines-done h =
-        all-lines (ap lines.Rows (rw all-read at (x .counted))) (end-passes text all-fine (omega (arith, left-long))) (rw all-read at (x .started)) (rw all-read at (x .kept))
+        all-lines (ap lines.Rows (rw all-read at (x .counted))) (end-passes text all-fine (omega (arith, left-long))) (rw all-read at (x .started))
+        (rw all-read at (x .kept))

@@ -1,4 +1,5 @@
--- A job with its rows narrowed is refused as the job is: a row that is narrowed is over n, and so is what stands for it, so both are 5 at the same column.
+-- A job with its rows narrowed is refused as the job is: a row that is narrowed is over n, and so is what stands for it, so both are 5 at the same
+-- column.
 -- Assumes nothing.
 use Prim.Native.Nat.{ℕ, zero, suc, _+_, _<_, _≤_}
 use mathlib.Core.Path.{_≡_, refl, sym, ap, _∙_}
@@ -10,7 +11,8 @@ use lib.ListN.{length, take, drop, length-map}
 use Rattle.papers.specs.Bounds.{maxColumns}
 use Rattle.papers.specs.Lists.{least}
 use Rattle.papers.specs.Job.{Job, start, columnOf}
-use Rattle.papers.specs.Refusals.{answer, untouched, Verdict, passed, refused, first, refusedAt, columnsTest, markTest, limitTest, falls, rowFault, rowsFault, columnFault, startsTest, rowsTest, jobTests}
+use Rattle.papers.specs.Refusals.{answer, untouched, Verdict, passed, refused, first, refusedAt, columnsTest, markTest}
+use Rattle.papers.specs.Refusals.{limitTest, falls, rowFault, rowsFault, columnFault, startsTest, rowsTest, jobTests}
 use Rattle.list_laws.proofs.Leasts.{least-found-iff, least-same}
 use Rattle.list_laws.proofs.Tests.{below-or, Test, passes, fails, test}
 use Rattle.job_laws.proofs.Firsts.{first-passes, first-refuses, over-refuses}
@@ -61,9 +63,12 @@ module _ (n : ℕ) (starts rows : List ℕ) (few : n ≤ maxColumns) where
 
   rows-same : rowsTest n starts (map narrowed rows) ≡ rowsTest n starts rows
   unfolding rowsTest refusedAt
-  rows-same = rw (least-same _ (λ j. ltb 0 (columnFault n starts rows j)) n (λ k a b. ap (ltb 0) (fault-same k b))) (go (least (λ j. ltb 0 (columnFault n starts rows j)) n) refl)
+  rows-same =
+      rw (least-same _ (λ j. ltb 0 (columnFault n starts rows j)) n (λ k a b. ap (ltb 0) (fault-same k b)))
+      (go (least (λ j. ltb 0 (columnFault n starts rows j)) n) refl)
     where
-      go : (j : ℕ) → least (λ j. ltb 0 (columnFault n starts rows j)) n ≡ j → refusedAt (columnFault n starts (map narrowed rows) j) j 0 untouched ≡ refusedAt (columnFault n starts rows j) j 0 untouched
+      go : (j : ℕ) → least (λ j. ltb 0 (columnFault n starts rows j)) n ≡ j
+          → refusedAt (columnFault n starts (map narrowed rows) j) j 0 untouched ≡ refusedAt (columnFault n starts rows j) j 0 untouched
       go zero e = refl
       go (suc j) e = ap (λ (f : ℕ). refusedAt f (suc j) 0 untouched) (fault-same (suc j) (least-found-iff _ n j .0 e .0))
 
@@ -72,7 +77,8 @@ starts-same : (n : ℕ) (starts rows : List ℕ) → startsTest n starts (map na
 unfolding startsTest
 starts-same n starts rows = go (test (eqb (length starts) (n + 1))) (test (eqb (start starts 1) 0)) (least (falls starts) n) refl
   where
-    go : Test (eqb (length starts) (n + 1)) → Test (eqb (start starts 1) 0) → (j : ℕ) → least (falls starts) n ≡ j → startsTest n starts (map narrowed rows) ≡ startsTest n starts rows
+    go : Test (eqb (length starts) (n + 1)) → Test (eqb (start starts 1) 0) → (j : ℕ) → least (falls starts) n ≡ j
+        → startsTest n starts (map narrowed rows) ≡ startsTest n starts rows
     go (fails e) f j z = rw (e, startsTest)
     go (passes e) (fails f) j z = rw (e, f, startsTest)
     go (passes e) (passes f) (suc j) z = rw (e, f, z, startsTest)
@@ -101,4 +107,6 @@ kept-tests job = go (below-or maxColumns (job .n))
     go (inl l) =
         let e = over-refuses maxColumns (job .n) (answer 1 0 0) untouched l in
         first-refuses _ _ (keptJob job) e ∙ sym (first-refuses _ _ job e)
-    go (inr l) = first-same jobTests (keptJob job) job (refl, (refl, (refl, (starts-same (job .n) (job .starts) (job .rows), (rows-same (job .n) (job .starts) (job .rows) l, tt)))))
+    go (inr l) =
+        first-same jobTests (keptJob job) job
+        (refl, (refl, (refl, (starts-same (job .n) (job .starts) (job .rows), (rows-same (job .n) (job .starts) (job .rows) l, tt)))))

@@ -32,7 +32,8 @@ lines-fine : (input : Input) → rowLinesTest input ≡ passed → least (faulty
 unfolding rowLinesTest
 lines-fine input e = go (least (faulty (lineFault (input .text))) (textHead (input .text) .n)) refl
   where
-    go : (j : ℕ) → least (faulty (lineFault (input .text))) (textHead (input .text) .n) ≡ j → least (faulty (lineFault (input .text))) (textHead (input .text) .n) ≡ 0
+    go : (j : ℕ) → least (faulty (lineFault (input .text))) (textHead (input .text) .n) ≡ j
+        → least (faulty (lineFault (input .text))) (textHead (input .text) .n) ≡ 0
     go zero z = z
     go (suc j) z = absurd (refused-passed refl (rw (z, rowLinesTest) at e))
 
@@ -43,7 +44,8 @@ rows-fit text (suc n) z =
     let f = ltb-false 0 (lineFault text (suc n)) (least-zero-iff (faulty (lineFault text)) (suc n) .0 z (suc n) (omega arith) (omega arith)) in
     go f (test (isRowLine (numbersAt text (suc (suc n))))) (below-or programRows (length (flat (textLists text (suc n)))))
   where
-    go : lineFault text (suc n) ≤ 0 → Test (isRowLine (numbersAt text (suc (suc n)))) → (programRows < length (flat (textLists text (suc n)))) ⊎ (length (flat (textLists text (suc n))) ≤ programRows)
+    go : lineFault text (suc n) ≤ 0 → Test (isRowLine (numbersAt text (suc (suc n))))
+        → (programRows < length (flat (textLists text (suc n)))) ⊎ (length (flat (textLists text (suc n))) ≤ programRows)
         → length (flat (textLists text (suc n))) ≤ programRows
     go f r (inr l) = l
     go f (fails r) (inl l) = absurd (omega (arith, line-bad text (suc n) r))

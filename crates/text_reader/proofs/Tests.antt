@@ -1,4 +1,5 @@
--- The tests of a text's lines, one by one: the line of a column by its numbers and the rows so far, the lines by the first at fault, the end by what is left.
+-- The tests of a text's lines, one by one: the line of a column by its numbers and the rows so far, the lines by the first at fault, the end by what
+-- is left.
 -- Assumes nothing.
 use Prim.Native.Nat.{ℕ, suc, _+_, _<_, _≤_}
 use mathlib.Core.Path.{_≡_, refl, _∙_}

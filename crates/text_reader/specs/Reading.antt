@@ -1,4 +1,5 @@
--- What is read of a job text, and what is kept of it. Rows are kept narrowed, as kept_rows does it; that the job's tests do not see the difference is a
+-- What is read of a job text, and what is kept of it. Rows are kept narrowed, as kept_rows does it; that the job's tests do not see the difference is
+-- a
 -- theorem. After a refusal nothing is said of the slices.
 -- Assumes nothing.
 use Prim.Native.Nat.{ℕ}
@@ -28,16 +29,21 @@ whole text = record { text = text; more = false }
 -- the lines of rows and what follows them
 pub data LinesTold (text starts₀ rows₀ starts rows : List ℕ) (r : Lines) : Type 0 where
   all-lines : r ≡ lines.Rows (length (flat (columnLists text))) → first (rowLinesTest ∷ endTest ∷ []) (whole text) ≡ passed
-      → starts ≡ sets starts₀ 0 (startsFrom 0 (columnLists text)) → rows ≡ sets rows₀ 0 (map narrowed (flat (columnLists text))) → LinesTold text starts₀ rows₀ starts rows r
-  bad-lines : (number place : ℕ) → r ≡ lines.Refused number place → first (rowLinesTest ∷ endTest ∷ []) (whole text) ≡ refused (answer number place 0) untouched
+      → starts ≡ sets starts₀ 0 (startsFrom 0 (columnLists text)) → rows ≡ sets rows₀ 0 (map narrowed (flat (columnLists text)))
+      → LinesTold text starts₀ rows₀ starts rows r
+  bad-lines : (number place : ℕ) → r ≡ lines.Refused number place
+      → first (rowLinesTest ∷ endTest ∷ []) (whole text) ≡ refused (answer number place 0) untouched
       → LinesTold text starts₀ rows₀ starts rows r
 
 -- the whole text: its job, kept at the front of the slices; or its refusal
 pub data JobTold (input : Input) (starts₀ rows₀ starts rows : List ℕ) (r : JobRead) : Type 0 where
   job-read : first textTests input ≡ passed
-      → r ≡ job.Job (record { n = textJob (input .text) .n; mark = textJob (input .text) .mark; limit = textJob (input .text) .limit }) (length (textJob (input .text) .rows))
-      → starts ≡ sets starts₀ 0 (textJob (input .text) .starts) → rows ≡ sets rows₀ 0 (map narrowed (textJob (input .text) .rows)) → JobTold input starts₀ rows₀ starts rows r
-  text-refused : (number place : ℕ) → first textTests input ≡ refused (answer number place 0) untouched → r ≡ job.Refused number place → JobTold input starts₀ rows₀ starts rows r
+      → r ≡ job.Job (record { n = textJob (input .text) .n; mark = textJob (input .text) .mark; limit = textJob (input .text) .limit })
+      (length (textJob (input .text) .rows))
+      → starts ≡ sets starts₀ 0 (textJob (input .text) .starts) → rows ≡ sets rows₀ 0 (map narrowed (textJob (input .text) .rows))
+      → JobTold input starts₀ rows₀ starts rows r
+  text-refused : (number place : ℕ) → first textTests input ≡ refused (answer number place 0) untouched → r ≡ job.Refused number place
+      → JobTold input starts₀ rows₀ starts rows r
 
 -- a job with its rows as they are kept
 abbrev pub keptJob : Job → Job

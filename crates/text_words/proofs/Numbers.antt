@@ -1,4 +1,5 @@
--- The number that digits make with the byte behind them. If a line that begins there has numbers, then its first is those digits, since no more of them
+-- The number that digits make with the byte behind them. If a line that begins there has numbers, then its first is those digits, since no more of
+-- them
 -- follow, and a byte that ends it stands behind. So where one of the two fails the line has none.
 -- Assumes nothing.
 use Prim.Native.Nat.{ℕ, _+_, _<_, _≤_}
@@ -37,14 +38,16 @@ module _ (text : List ℕ) (at : ℕ) {count value : ℕ} (d : DigitsRead text a
   behind-digits h = rw add-one (drop-cons text (at + count) 0 h)
 
   -- a decimal, and the byte behind it
-  pub number-here : {b : ℕ} → isDecimal digits ≡ true → at + count < length text → getD text (at + count) 0 ≡ b → Number text at b value (at + count + 1)
+  pub number-here : {b : ℕ} → isDecimal digits ≡ true → at + count < length text → getD text (at + count) 0 ≡ b
+      → Number text at b value (at + count + 1)
   number-here {b} e h g =
       let (w, s) = decimal-iff digits value .0 (e, sym (d .valued)) in
       record { short = s; stands = parts ∙ rw (behind-digits h, g, ← w); on = omega arith; inside = omega arith }
 
   module _ (stop : Stop text at count) where
     -- a first number is these digits
-    all-digits : {x b : ℕ} {rest : List ℕ} → Ends b → Short x → drop at text ≡ decimalOf x ++ (b ∷ rest) → (digits ≡ decimalOf x) × (drop (at + count) text ≡ b ∷ rest)
+    all-digits : {x b : ℕ} {rest : List ℕ} → Ends b → Short x → drop at text ≡ decimalOf x ++ (b ∷ rest)
+        → (digits ≡ decimalOf x) × (drop (at + count) text ≡ b ∷ rest)
     all-digits {x} {b} {rest} n s e =
         let (u, f, g) = within Digit digits (decimalOf x) b (drop (at + count) text) rest (d .there .digits) (no-digit b n) (sym parts ∙ e) in
         go u f g
@@ -58,11 +61,13 @@ module _ (text : List ℕ) (at : ℕ) {count value : ℕ} (d : DigitsRead text a
             let (there, byte) = first-behind text (at + count) g in
             z (rw byte (all-back Digit digits (c ∷ u) (rw f at (decimal-digits x)) .0))
 
-        go : (u : List ℕ) → decimalOf x ≡ digits ++ u → drop (at + count) text ≡ u ++ (b ∷ rest) → (digits ≡ decimalOf x) × (drop (at + count) text ≡ b ∷ rest)
+        go : (u : List ℕ) → decimalOf x ≡ digits ++ u → drop (at + count) text ≡ u ++ (b ∷ rest)
+            → (digits ≡ decimalOf x) × (drop (at + count) text ≡ b ∷ rest)
         go [] f g = (sym (f ∙ append-nil digits), g)
         go (c ∷ u) f g = absurd (no-more c u f g stop)
 
-    first-digits : (l : List ℕ) → numbersAt (drop at text) 1 ≡ l → ((x b : ℕ) (rest : List ℕ) → Ends b → digits ≡ decimalOf x → isDecimal digits ≡ true → drop (at + count) text ≡ b ∷ rest → ⊥) → l ≡ []
+    first-digits : (l : List ℕ) → numbersAt (drop at text) 1 ≡ l → ((x b : ℕ) (rest : List ℕ) → Ends b → digits ≡ decimalOf x
+        → isDecimal digits ≡ true → drop (at + count) text ≡ b ∷ rest → ⊥) → l ≡ []
     first-digits [] e f = refl
     first-digits (x ∷ xs) e f =
         let (b, rest, n, s, g) = first-number (drop at text) x xs e in
@@ -77,4 +82,6 @@ module _ (text : List ℕ) (at : ℕ) {count value : ℕ} (d : DigitsRead text a
     none-bad h = first-digits _ refl (λ x b rest n w i e. true-false i h)
 
     pub none-other : getD text (at + count) 0 ≢ space → getD text (at + count) 0 ≢ newline → numbersAt (drop at text) 1 ≡ []
-    none-other h g = first-digits _ refl (λ x b rest n w i e. let (there, byte) = first-behind text (at + count) e in ⊎-elim (λ (k : b ≡ space). h (byte ∙ k)) (λ (k : b ≡ newline). g (byte ∙ k)) n)
+    none-other h g =
+        first-digits _ refl (λ x b rest n w i e. let (there, byte) = first-behind text (at + count) e in ⊎-elim (λ (k : b ≡ space). h (byte ∙ k))
+        (λ (k : b ≡ newline). g (byte ∙ k)) n)

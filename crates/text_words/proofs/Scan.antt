@@ -61,7 +61,12 @@ module _ (text : List ℕ) (at : ℕ) where
     digits-decimal h g =
         let e = digits-long in
         let few = d .few in
-        decimal-word-iff _ .1 (record { digits = d .digits; some = omega arith; few = omega arith; lead = λ l z. g (omega arith) (sym (first-digit h) ∙ z) })
+        decimal-word-iff _ .1 (record {
+          digits = d .digits;
+          some = omega arith;
+          few = omega arith;
+          lead = λ l z. g (omega arith) (sym (first-digit h) ∙ z);
+        })
 
     -- or none
     pub no-decimal : ¬ Decimal (take i (drop at text)) → isDecimal (take i (drop at text)) ≡ false
@@ -95,14 +100,19 @@ module _ (text : List ℕ) (at : ℕ) where
         omega arith
 
     -- one digit more
-    pub digits-turn : {b : ℕ} → i < maxDigits → at + i < length text → b ≡ getD text (at + i) 0 → Digit b → DigitsRead text at (i + 1) (10 * value + (b - 48))
+    pub digits-turn : {b : ℕ} → i < maxDigits → at + i < length text → b ≡ getD text (at + i) 0 → Digit b
+        → DigitsRead text at (i + 1) (10 * value + (b - 48))
     unfolding valueOf
     digits-turn {b} h g e digit =
         let there : i < length (drop at text) = omega (arith, left-long (d .there)) in
         let last : getD (drop at text) i 0 ≡ b = getD-drop at text i 0 ∙ sym e in
         let parts : take (suc i) (drop at text) ≡ take i (drop at text) ++ (b ∷ []) = rw (← last) (take-suc (drop at text) i 0 there) in
         record {
-          there = record { digits = rw (add-one, parts) (all-append Digit (take i (drop at text)) (b ∷ []) (d .there .digits) (digit, tt)); few = omega arith; inside = omega arith };
+          there = record {
+            digits = rw (add-one, parts) (all-append Digit (take i (drop at text)) (b ∷ []) (d .there .digits) (digit, tt));
+            few = omega arith;
+            inside = omega arith;
+          };
           valued = rw (add-one, parts, value-append 0 (take i (drop at text)) (b ∷ []), ← d .valued);
         }
 

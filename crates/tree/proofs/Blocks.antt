@@ -39,7 +39,8 @@ module _ (kids : ℕ → List ℕ) where
 
   pub blocks-append : (a b : List ℕ) → blocks kids (a ++ b) ≡ blocks kids a ++ blocks kids b
   blocks-append [] b = rw blocks-nil refl
-  blocks-append (c ∷ a) b = rw (blocks-cons c (a ++ b), blocks-cons c a, blocks-append a b) (sym (append-assoc (block kids c) (blocks kids a) (blocks kids b)))
+  blocks-append (c ∷ a) b =
+      rw (blocks-cons c (a ++ b), blocks-cons c a, blocks-append a b) (sym (append-assoc (block kids c) (blocks kids a) (blocks kids b)))
 
   module _ (lower : (j c : ℕ) → 0 < j → c ∈ kids j → (0 < c) × (c < j)) where
     -- a column after its children
@@ -49,13 +50,15 @@ module _ (kids : ℕ → List ℕ) where
     block-is (suc k) l =
         steps-suc 0 (λ c. 0) kids k (suc k)
         ∙ rw (arranged-zero (λ c. 0) kids (stepsOf 0 (λ c. 0) kids k) (suc k))
-        (ap (λ l. l ++ (suc k ∷ [])) (flatMap-same (stepsOf 0 (λ c. 0) kids k) (block kids) (kids (suc k)) (λ c m. let (a, b) = lower (suc k) c l m in steps-enough 0 (λ c. 0) kids lower k c c a (omega arith) (omega arith))))
+        (ap (λ l. l ++ (suc k ∷ [])) (flatMap-same (stepsOf 0 (λ c. 0) kids k) (block kids) (kids (suc k)) (λ c m. let (a, b) = lower (suc k) c l m in
+        steps-enough 0 (λ c. 0) kids lower k c c a (omega arith) (omega arith))))
 
     pub block-count : (j : ℕ) → 0 < j → length (block kids j) ≡ length (blocks kids (kids j)) + 1
     block-count j l = ap length (block-is j l) ∙ length-append (blocks kids (kids j)) (j ∷ [])
 
   -- ---- siblings that lie from place i to place e
-  pub blocks-next : (list : List ℕ) (i e : ℕ) → i < e → e ≤ length list → blocks kids (slice i e list) ≡ block kids (getD list i 0) ++ blocks kids (slice (i + 1) e list)
+  pub blocks-next : (list : List ℕ) (i e : ℕ) → i < e → e ≤ length list
+      → blocks kids (slice i e list) ≡ block kids (getD list i 0) ++ blocks kids (slice (i + 1) e list)
   blocks-next list i e h g = rw (add-one, slice-cons i e list 0 h g) (blocks-cons (getD list i 0) (slice (suc i) e list))
 
   pub blocks-none : (list : List ℕ) (i e : ℕ) → e ≤ i → blocks kids (slice i e list) ≡ []

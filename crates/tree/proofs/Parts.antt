@@ -40,10 +40,12 @@ module _ (l ys : List ℕ) (a e : ℕ) (rise : a ≤ e) (inside : e ≤ length l
 
   pub back-part : part a e (take a l ++ (ys ++ drop (e - a) (drop a l))) ≡ ys
   back-part =
-      ap (take (e - a)) (drop-at (take a l) (ys ++ drop (e - a) (drop a l)) a (length-take-le a l (omega arith))) ∙ take-at ys (drop (e - a) (drop a l)) (e - a) count
+      ap (take (e - a)) (drop-at (take a l) (ys ++ drop (e - a) (drop a l)) a (length-take-le a l (omega arith))) ∙ take-at ys
+      (drop (e - a) (drop a l)) (e - a) count
 
 -- ---- two parts that came back one after the other: s for the front up to m, then z for the part from m to w
-module _ (work s z : List ℕ) (m w : ℕ) (h : m ≤ w) (g : w ≤ length work) (front-kept : length s ≡ length (take m work)) (back-kept : length z ≡ length (part m w (s ++ drop m work)))
+module _ (work s z : List ℕ) (m w : ℕ) (h : m ≤ w) (g : w ≤ length work) (front-kept : length s ≡ length (take m work))
+    (back-kept : length z ≡ length (part m w (s ++ drop m work)))
   where
     abbrev both : List ℕ
     both = take m (s ++ drop m work) ++ (z ++ drop (w - m) (drop m (s ++ drop m work)))

@@ -38,4 +38,5 @@ pub slice-head : (b i v : ℕ) (l : List ℕ) → i < b → b ≤ length l → s
 slice-head b i v l h g =
     let n = length-set l i v in
     slice-cons i b (set l i v) 0 h (omega arith)
-    ∙ (ap (λ x. x ∷ slice (suc i) b (set l i v)) (getD-set-same l i v 0 (omega arith)) ∙ rw add-one (ap (λ r. v ∷ r) (slice-low (suc i) b i v l (omega arith))))
+    ∙ (ap (λ x. x ∷ slice (suc i) b (set l i v)) (getD-set-same l i v 0 (omega arith)) ∙ rw add-one
+    (ap (λ r. v ∷ r) (slice-low (suc i) b i v l (omega arith))))

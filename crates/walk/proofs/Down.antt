@@ -17,11 +17,13 @@ use Rattle.walk.proofs.Levels.{levels-mono}
 use Rattle.walk.proofs.Runs.{set-sets}
 
 -- more room than is asked
-pub wider : {starts list counts steps : List ℕ} {j left at room more : ℕ} → room ≤ more → Asked starts list counts j left at room steps → Asked starts list counts j left at more steps
+pub wider : {starts list counts steps : List ℕ} {j left at room more : ℕ} → room ≤ more → Asked starts list counts j left at room steps
+    → Asked starts list counts j left at more steps
 wider h a = let f = a .fits in record { laid = a .laid; known = a .known; count = a .count; fits = omega arith }
 
 -- a column's count is one more than its children's
-pub own-count : {starts list counts : List ℕ} → Laid starts list counts → (j : ℕ) → 0 < j → length (ownSteps starts list j) ≡ length (kidsSteps starts list j) + 1
+pub own-count : {starts list counts : List ℕ} → Laid starts list counts → (j : ℕ) → 0 < j
+    → length (ownSteps starts list j) ≡ length (kidsSteps starts list j) + 1
 own-count {starts} {list} laid j l = block-count (kidsAt starts list) (laid .lower) j l
 
 -- no count, no steps
@@ -37,8 +39,16 @@ pub record Down (starts list counts : List ℕ) (j left : ℕ) (d₀ : List ℕ)
   pub long : length d ≡ length d₀
   pub room : at + left ≤ length d₀
 
-pub down-start : {starts list counts d₀ : List ℕ} {j left at : ℕ} → Asked starts list counts j left at (length d₀) (ownSteps starts list j) → Down starts list counts j left d₀ at d₀ j left at
-down-start a = record { asks = record { laid = a .laid; known = a .known; count = a .count; fits = omega arith }; after = omega arith; stored = refl; long = refl; room = a .fits }
+pub down-start : {starts list counts d₀ : List ℕ} {j left at : ℕ} → Asked starts list counts j left at (length d₀) (ownSteps starts list j)
+    → Down starts list counts j left d₀ at d₀ j left at
+down-start a =
+    record {
+      asks = record { laid = a .laid; known = a .known; count = a .count; fits = omega arith };
+      after = omega arith;
+      stored = refl;
+      long = refl;
+      room = a .fits;
+    }
 
 module _ {starts list counts d₀ d : List ℕ} {j left at c size a : ℕ} (inv : Down starts list counts j left d₀ at d c size a) where
   pub down-stop : c ≡ 0 → d ≡ sets d₀ at (ownSteps starts list j)
@@ -67,14 +77,16 @@ module _ {starts list counts d₀ d : List ℕ} {j left at c size a : ℕ} (inv 
         let s = down-size in
         let before = kidsSteps starts list c in
         let e : a + size - 1 ≡ a + length before = omega arith in
-        rw (e, block-is (kidsAt starts list) (inv .asks .laid .lower) c (omega arith), sets-append before d a (c ∷ [])) (set-sets before d a (a + length before) c (omega arith))
+        rw (e, block-is (kidsAt starts list) (inv .asks .laid .lower) c (omega arith), sets-append before d a (c ∷ []))
+        (set-sets before d a (a + length before) c (omega arith))
 
     -- a block of one is a leaf: its children take no steps, so with its own step stored all is written
     pub down-leaf : size ≡ 1 → set d (a + size - 1) c ≡ sets d₀ at (ownSteps starts list j)
     down-leaf one = let none = no-steps (kidsSteps starts list c) (omega (arith, down-size)) in rw none at last-stored ∙ inv .stored
 
     pub down-turn : {d′ : List ℕ} {c′ size′ a′ : ℕ} → Asked starts list counts c′ size′ a′ (a + (size - 1)) (ownSteps starts list c′) → a ≤ a′
-        → sets d′ a′ (ownSteps starts list c′) ≡ sets (set d (a + size - 1) c) a (kidsSteps starts list c) → length d′ ≡ length (set d (a + size - 1) c)
+        → sets d′ a′ (ownSteps starts list c′) ≡ sets (set d (a + size - 1) c) a (kidsSteps starts list c)
+        → length d′ ≡ length (set d (a + size - 1) c)
         → Down starts list counts j left d₀ at d′ c′ size′ a′
     down-turn q l e n =
         let s = down-size in

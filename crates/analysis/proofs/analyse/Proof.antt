@@ -1,6 +1,7 @@
 -- A refused job and a short slice are ways of their own; everything else is the plan that is made, what a refusal left being cleared.
 -- Assumes nothing.
 use mathlib.Core.Path.{sym, _∙_}
+use native.Mathlib.Omega.{arith}
 use Rattle.job_laws.proofs.Outcomes.{job-answered}
 use Rattle.column_laws.proofs.Testing.{tested}
 use Rattle.lent.proofs.Longs.{not-short}
@@ -34,9 +35,6 @@ cleared c = c
 abbrev after-planned₁ : tie.Then3 → tie.After-planned
 after-planned₁ c = search
 
-first-fault-requires : tie.Need-first-fault-requires
-first-fault-requires c κs = tt
-
 returns : tie.Need-returns
 returns c = way-job _ _ (after-first-fault (search) .first-fault .ensures) (c .if1 .taken)
 
@@ -54,57 +52,54 @@ planned-requires c κs = (
   not-short _ _ (sym (after-too-short (search) .too-short .ensures) ∙ else2 (search) .if2 .left),
 )
 
-clear-all-requires : tie.Need-clear-all-requires
-clear-all-requires c κs = tt
-
 same-length : tie.Need-same-length
-same-length c = cleared (search) .clear-all .kept .0 ∙ after-planned₁ (search) .planned .kept .1 .1 .1 .0
+same-length c = omega (arith, cleared (search) .clear-all .kept, after-planned₁ (search) .planned .kept)
 
 same-length-2 : tie.Need-same-length-2
-same-length-2 c = cleared (search) .clear-all .kept .1 .0 ∙ after-planned₁ (search) .planned .kept .1 .1 .1 .1 .0
+same-length-2 c = omega (arith, cleared (search) .clear-all .kept, after-planned₁ (search) .planned .kept)
 
 same-length-3 : tie.Need-same-length-3
-same-length-3 c = cleared (search) .clear-all .kept .1 .1 .0 ∙ after-planned₁ (search) .planned .kept .1 .1 .1 .1 .1 .0
+same-length-3 c = omega (arith, cleared (search) .clear-all .kept, after-planned₁ (search) .planned .kept)
 
 same-length-4 : tie.Need-same-length-4
-same-length-4 c = cleared (search) .clear-all .kept .1 .1 .1 .0 ∙ after-planned₁ (search) .planned .kept .1 .1 .1 .1 .1 .1 .0
+same-length-4 c = omega (arith, cleared (search) .clear-all .kept, after-planned₁ (search) .planned .kept)
 
 same-length-5 : tie.Need-same-length-5
-same-length-5 c = cleared (search) .clear-all .kept .1 .1 .1 .1 .0 ∙ after-planned₁ (search) .planned .kept .1 .1 .1 .1 .1 .1 .1 .0
+same-length-5 c = omega (arith, cleared (search) .clear-all .kept, after-planned₁ (search) .planned .kept)
 
 same-length-6 : tie.Need-same-length-6
-same-length-6 c = cleared (search) .clear-all .kept .1 .1 .1 .1 .1 .0 ∙ after-planned₁ (search) .planned .kept .1 .1 .1 .1 .1 .1 .1 .1 .0
+same-length-6 c = omega (arith, cleared (search) .clear-all .kept, after-planned₁ (search) .planned .kept)
 
 returns-3 : tie.Need-returns-3
 returns-3 c =
     let k = after-planned₁ (search) .planned .kept in
     made-cleared (after-planned₁ (search) .planned .ensures) (record {
-      parents = k .1 .1 .1 .0;
-      order = k .1 .1 .1 .1 .0;
-      pops = k .1 .1 .1 .1 .1 .0;
-      starts = k .1 .1 .1 .1 .1 .1 .0;
-      rows = k .1 .1 .1 .1 .1 .1 .1 .0;
-      work = k .1 .1 .1 .1 .1 .1 .1 .1 .0;
+      parents = omega arith;
+      order = omega arith;
+      pops = omega arith;
+      starts = omega arith;
+      rows = omega arith;
+      work = omega arith;
     }) (then3 (search) .if3 .taken)
     (cleared (search) .clear-all .ensures)
 
 same-length-7 : tie.Need-same-length-7
-same-length-7 c = after-planned (search) .planned .kept .1 .1 .1 .0
+same-length-7 c = omega (arith, after-planned (search) .planned .kept)
 
 same-length-8 : tie.Need-same-length-8
-same-length-8 c = after-planned (search) .planned .kept .1 .1 .1 .1 .0
+same-length-8 c = omega (arith, after-planned (search) .planned .kept)
 
 same-length-9 : tie.Need-same-length-9
-same-length-9 c = after-planned (search) .planned .kept .1 .1 .1 .1 .1 .0
+same-length-9 c = omega (arith, after-planned (search) .planned .kept)
 
 same-length-10 : tie.Need-same-length-10
-same-length-10 c = after-planned (search) .planned .kept .1 .1 .1 .1 .1 .1 .0
+same-length-10 c = omega (arith, after-planned (search) .planned .kept)
 
 same-length-11 : tie.Need-same-length-11
-same-length-11 c = after-planned (search) .planned .kept .1 .1 .1 .1 .1 .1 .1 .0
+same-length-11 c = omega (arith, after-planned (search) .planned .kept)
 
 same-length-12 : tie.Need-same-length-12
-same-length-12 c = after-planned (search) .planned .kept .1 .1 .1 .1 .1 .1 .1 .1 .0
+same-length-12 c = omega (arith, after-planned (search) .planned .kept)
 
 returns-4 : tie.Need-returns-4
 returns-4 c = after-planned (search) .planned .ensures .done (c .if3 .left)
@@ -113,12 +108,12 @@ pub analyse-spec : {M : Type 1} → statement M
 analyse-spec =
     tie.close
     (tie.spec
-    first-fault-requires
+    (λ c κs. tt)
     returns
     too-short-requires
     returns-2
     planned-requires
-    clear-all-requires
+    (λ c κs. tt)
     same-length
     same-length-2
     same-length-3

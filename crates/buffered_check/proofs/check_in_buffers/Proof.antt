@@ -23,27 +23,6 @@ in-buffers job plan e = ap (λ (o : Outcome Lent). o .answer) e
 abbrev after-check-plan : tie.After-check-plan → tie.After-check-plan
 after-check-plan c = c
 
-slice-aggregate-check-plan : tie.Need-slice-aggregate-check-plan
-slice-aggregate-check-plan c = search needs
-
-slice-aggregate-check-plan-2 : tie.Need-slice-aggregate-check-plan-2
-slice-aggregate-check-plan-2 c = search needs
-
-slice-aggregate-check-plan-3 : tie.Need-slice-aggregate-check-plan-3
-slice-aggregate-check-plan-3 c = search needs
-
-slice-aggregate-check-plan-4 : tie.Need-slice-aggregate-check-plan-4
-slice-aggregate-check-plan-4 c = search needs
-
-slice-aggregate-check-plan-5 : tie.Need-slice-aggregate-check-plan-5
-slice-aggregate-check-plan-5 c = search needs
-
-slice-aggregate-check-plan-6 : tie.Need-slice-aggregate-check-plan-6
-slice-aggregate-check-plan-6 c = search needs
-
-check-plan-requires : tie.Need-check-plan-requires
-check-plan-requires c κs = search needs
-
 returns : tie.Need-returns
 returns c = in-buffers _ _ (after-check-plan (search) .check-plan .ensures)
 
@@ -51,11 +30,11 @@ pub check-in-buffers-spec : {M : Type 1} → statement M
 check-in-buffers-spec =
     tie.close
     (tie.spec
-    slice-aggregate-check-plan
-    slice-aggregate-check-plan-2
-    slice-aggregate-check-plan-3
-    slice-aggregate-check-plan-4
-    slice-aggregate-check-plan-5
-    slice-aggregate-check-plan-6
-    check-plan-requires
+    (λ c. search needs)
+    (λ c. search needs)
+    (λ c. search needs)
+    (λ c. search needs)
+    (λ c. search needs)
+    (λ c. search needs)
+    (λ c κs. search needs)
     returns)

@@ -56,34 +56,19 @@ after-next₂ c = search
 abbrev cleared₂ : tie.After-read-plan → tie.After-clear-all
 cleared₂ c = search
 
-match-key-requires : tie.Need-match-key-requires
-match-key-requires c κs = search needs
-
-enum-known-place : tie.Need-enum-known-place
-enum-known-place c = search needs
-
-answered-requires : tie.Need-answered-requires
-answered-requires c κs = search needs
-
 returns : tie.Need-returns
 returns c =
     refuses (refuses-11 _ _ _ (entry (search) .pre .0) (entry (search) .pre .1) (matched (search) .match-key .ensures)
     (after-place (search) .place .given .1) (c .answered .ensures)) (λ n. omega (arith, number-of (c .answered .ensures)))
-
-enum-known-next : tie.Need-enum-known-next
-enum-known-next c = search needs
-
-clear-all-requires : tie.Need-clear-all-requires
-clear-all-requires c κs = search needs
 
 read-plan-requires : tie.Need-read-plan-requires
 read-plan-requires c κs =
     let long = entry₁ (search) .pre .1 in (
       tested _ (entry₁ (search) .pre .0) .few,
       begins-key _ _ (matched (search) .match-key .ensures) (after-next (search) .next .given .1) .2,
-      omega (arith, long .order, cleared (search) .clear-all .kept .1 .0),
-      omega (arith, long .pops, cleared (search) .clear-all .kept .1 .1 .0),
-      omega (arith, long .starts, cleared (search) .clear-all .kept .1 .1 .1 .0),
+      omega (arith, long .order, cleared (search) .clear-all .kept),
+      omega (arith, long .pops, cleared (search) .clear-all .kept),
+      omega (arith, long .starts, cleared (search) .clear-all .kept),
     )
 
 judge-reading-requires : tie.Need-judge-reading-requires
@@ -94,54 +79,54 @@ judge-reading-requires c κs = (
         (after-next₂ (search) .next .given .1) (read (search) .read-plan .ensures .0)
         (λ i. omega (arith, after-shared-slice-known3₂ (search) .shared-slice-known3 .given i)) (cleared₂ (search) .clear-all .ensures)
         (read (search) .read-plan .ensures .1)
-        (read (search) .read-plan .kept .1 .1 .1 .1 .1 .1 .0 ∙ cleared₂ (search) .clear-all .kept .1 .1 .1 .1 .0),
+        (omega (arith, read (search) .read-plan .kept, cleared₂ (search) .clear-all .kept)),
     long-alike (record {
       parents = cleared₂ (search) .clear-all .kept .0;
-      order = read (search) .read-plan .kept .1 .1 .1 .0 ∙ cleared₂ (search) .clear-all .kept .1 .0;
-      pops = read (search) .read-plan .kept .1 .1 .1 .1 .0 ∙ cleared₂ (search) .clear-all .kept .1 .1 .0;
-      starts = read (search) .read-plan .kept .1 .1 .1 .1 .1 .0 ∙ cleared₂ (search) .clear-all .kept .1 .1 .1 .0;
-      rows = read (search) .read-plan .kept .1 .1 .1 .1 .1 .1 .0 ∙ cleared₂ (search) .clear-all .kept .1 .1 .1 .1 .0;
-      work = cleared₂ (search) .clear-all .kept .1 .1 .1 .1 .1 .0;
+      order = omega (arith, read (search) .read-plan .kept, cleared₂ (search) .clear-all .kept);
+      pops = omega (arith, read (search) .read-plan .kept, cleared₂ (search) .clear-all .kept);
+      starts = omega (arith, read (search) .read-plan .kept, cleared₂ (search) .clear-all .kept);
+      rows = omega (arith, read (search) .read-plan .kept, cleared₂ (search) .clear-all .kept);
+      work = omega (arith, cleared₂ (search) .clear-all .kept);
     }) (entry₂ (search) .pre .1),
   ),
 )
 
 same-length : tie.Need-same-length
-same-length c = judged (search) .judge-reading .kept .1 .1 .1 .1 .0 ∙ cleared₂ (search) .clear-all .kept .0
+same-length c = omega (arith, judged (search) .judge-reading .kept, cleared₂ (search) .clear-all .kept)
 
 same-length-2 : tie.Need-same-length-2
-same-length-2 c = read (search) .read-plan .kept .1 .1 .1 .0 ∙ cleared₂ (search) .clear-all .kept .1 .0
+same-length-2 c = omega (arith, read (search) .read-plan .kept, cleared₂ (search) .clear-all .kept)
 
 same-length-3 : tie.Need-same-length-3
-same-length-3 c = read (search) .read-plan .kept .1 .1 .1 .1 .0 ∙ cleared₂ (search) .clear-all .kept .1 .1 .0
+same-length-3 c = omega (arith, read (search) .read-plan .kept, cleared₂ (search) .clear-all .kept)
 
 same-length-4 : tie.Need-same-length-4
-same-length-4 c = read (search) .read-plan .kept .1 .1 .1 .1 .1 .0 ∙ cleared₂ (search) .clear-all .kept .1 .1 .1 .0
+same-length-4 c = omega (arith, read (search) .read-plan .kept, cleared₂ (search) .clear-all .kept)
 
 same-length-5 : tie.Need-same-length-5
-same-length-5 c = read (search) .read-plan .kept .1 .1 .1 .1 .1 .1 .0 ∙ cleared₂ (search) .clear-all .kept .1 .1 .1 .1 .0
+same-length-5 c = omega (arith, read (search) .read-plan .kept, cleared₂ (search) .clear-all .kept)
 
 same-length-6 : tie.Need-same-length-6
-same-length-6 c = judged (search) .judge-reading .kept .1 .1 .1 .1 .1 .1 .1 .1 .1 .0 ∙ cleared₂ (search) .clear-all .kept .1 .1 .1 .1 .1 .0
+same-length-6 c = omega (arith, judged (search) .judge-reading .kept, cleared₂ (search) .clear-all .kept)
 
 returns-2 : tie.Need-returns-2
 returns-2 c =
     ruled _ _ _ (entry₂ (search) .pre .0) (entry₂ (search) .pre .1) (matched₂ (search) .match-key .ensures) (after-next₂ (search) .next .given .1)
     (read (search) .read-plan .ensures .0) (λ i. omega (arith, after-shared-slice-known3₂ (search) .shared-slice-known3 .given i))
     (cleared₂ (search) .clear-all .ensures) (read (search) .read-plan .ensures .1)
-    (read (search) .read-plan .kept .1 .1 .1 .1 .1 .1 .0 ∙ cleared₂ (search) .clear-all .kept .1 .1 .1 .1 .0)
+    (omega (arith, read (search) .read-plan .kept, cleared₂ (search) .clear-all .kept))
     (judged (search) .judge-reading .ensures)
 
 pub judge-bytes-spec : {M : Type 1} → statement M
 judge-bytes-spec =
     tie.close
     (tie.spec
-    match-key-requires
-    enum-known-place
-    answered-requires
+    (λ c κs. search needs)
+    (λ c. search needs)
+    (λ c κs. search needs)
     returns
-    enum-known-next
-    clear-all-requires
+    (λ c. search needs)
+    (λ c κs. search needs)
     read-plan-requires
     judge-reading-requires
     same-length

@@ -1,6 +1,7 @@
 -- Each answer of the reading has its case; the slices hold the plan where its rows found room.
 -- Assumes nothing.
 use borrow.Author.Needs.{needs}
+use native.Mathlib.Omega.{arith}
 use Rattle.bytes_judge.specs.Ruled.{fault, over, judged}
 use Rattle.bytes_judge.proofs.judge_reading.Statement.{statement}
 use Rattle.bytes_judge.proofs.judge_reading.Tie as tie
@@ -21,20 +22,8 @@ else1 c = c
 abbrev after-judge : tie.After-judge → tie.After-judge
 after-judge c = c
 
-enum-known-reading : tie.Need-enum-known-reading
-enum-known-reading c = search needs
-
-answered-requires : tie.Need-answered-requires
-answered-requires c κs = search needs
-
 returns : tie.Need-returns
 returns c = fault _ _ (after-reading (search) .reading .given .1) (c .answered .ensures)
-
-enum-known-reading-2 : tie.Need-enum-known-reading-2
-enum-known-reading-2 c = search needs
-
-answered-requires-2 : tie.Need-answered-requires-2
-answered-requires-2 c κs = search needs
 
 returns-2 : tie.Need-returns-2
 returns-2 c = over _ _ (after-reading2 (search) .reading2 .given .1) (c .before .if1 .taken) (c .answered2 .ensures)
@@ -49,10 +38,10 @@ judge-requires c κs = (
 )
 
 same-length : tie.Need-same-length
-same-length c = after-judge (search) .judge .kept .1 .1 .1 .1 .0
+same-length c = omega (arith, after-judge (search) .judge .kept)
 
 same-length-2 : tie.Need-same-length-2
-same-length-2 c = after-judge (search) .judge .kept .1 .1 .1 .1 .1 .1 .1 .1 .1 .0
+same-length-2 c = omega (arith, after-judge (search) .judge .kept)
 
 returns-3 : tie.Need-returns-3
 returns-3 c =
@@ -63,11 +52,11 @@ pub judge-reading-spec : {M : Type 1} → statement M
 judge-reading-spec =
     tie.close
     (tie.spec
-    enum-known-reading
-    answered-requires
+    (λ c. search needs)
+    (λ c κs. search needs)
     returns
-    enum-known-reading-2
-    answered-requires-2
+    (λ c. search needs)
+    (λ c κs. search needs)
     returns-2
     judge-requires
     same-length

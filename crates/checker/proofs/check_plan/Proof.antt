@@ -4,10 +4,12 @@ use Prim.Native.Nat.{ℕ}
 use mathlib.Core.Path.{sym, ap, _∙_}
 use lib.ListN.{replicate}
 use borrow.Author.Needs.{needs}
+use native.Mathlib.Omega.{arith}
 use Rattle.job_laws.proofs.Outcomes.{job-answered}
 use Rattle.lent.proofs.Alike.{zeros-alike}
 use Rattle.lent.proofs.Longs.{not-short}
 use Rattle.column_laws.proofs.Testing.{tested}
+use Rattle.slices.proofs.Zeroed.{zeros-as-long}
 use Rattle.bytes_judge.proofs.Ways.{way-job, way-short, way-refused, way-done}
 use Rattle.checker.proofs.check_plan.Statement.{statement}
 use Rattle.checker.proofs.check_plan.Tie as tie
@@ -43,17 +45,11 @@ after-clear-all c = c
 abbrev judged₁ : tie.Then3 → tie.After-judge-bytes
 judged₁ c = search
 
-first-fault-requires : tie.Need-first-fault-requires
-first-fault-requires c κs = search needs
-
 returns : tie.Need-returns
 returns c = way-job _ _ _ (after-first-fault (search) .first-fault .ensures) (c .if1 .taken)
 
 too-short-requires : tie.Need-too-short-requires
 too-short-requires c κs = tested _ (job-answered _ (after-first-fault (search) .first-fault .ensures) (c .if1 .left)) .few
-
-answered-requires : tie.Need-answered-requires
-answered-requires c κs = search needs
 
 returns-2 : tie.Need-returns-2
 returns-2 c =
@@ -66,77 +62,71 @@ judge-bytes-requires c κs = (
   not-short _ _ (sym (after-too-short (search) .too-short .ensures) ∙ else2 (search) .if2 .left),
 )
 
-clear-all-requires : tie.Need-clear-all-requires
-clear-all-requires c κs = search needs
-
 same-length : tie.Need-same-length
-same-length c = after-clear-all (search) .clear-all .kept .0 ∙ judged₁ (search) .judge-bytes .kept .1 .1 .1 .1 .0
+same-length c = omega (arith, after-clear-all (search) .clear-all .kept, judged₁ (search) .judge-bytes .kept)
 
 same-length-2 : tie.Need-same-length-2
-same-length-2 c = after-clear-all (search) .clear-all .kept .1 .0 ∙ judged₁ (search) .judge-bytes .kept .1 .1 .1 .1 .1 .0
+same-length-2 c = omega (arith, after-clear-all (search) .clear-all .kept, judged₁ (search) .judge-bytes .kept)
 
 same-length-3 : tie.Need-same-length-3
-same-length-3 c = after-clear-all (search) .clear-all .kept .1 .1 .0 ∙ judged₁ (search) .judge-bytes .kept .1 .1 .1 .1 .1 .1 .0
+same-length-3 c = omega (arith, after-clear-all (search) .clear-all .kept, judged₁ (search) .judge-bytes .kept)
 
 same-length-4 : tie.Need-same-length-4
-same-length-4 c = after-clear-all (search) .clear-all .kept .1 .1 .1 .0 ∙ judged₁ (search) .judge-bytes .kept .1 .1 .1 .1 .1 .1 .1 .0
+same-length-4 c = omega (arith, after-clear-all (search) .clear-all .kept, judged₁ (search) .judge-bytes .kept)
 
 same-length-5 : tie.Need-same-length-5
-same-length-5 c = after-clear-all (search) .clear-all .kept .1 .1 .1 .1 .0 ∙ judged₁ (search) .judge-bytes .kept .1 .1 .1 .1 .1 .1 .1 .1 .0
+same-length-5 c = omega (arith, after-clear-all (search) .clear-all .kept, judged₁ (search) .judge-bytes .kept)
 
 same-length-6 : tie.Need-same-length-6
-same-length-6 c = after-clear-all (search) .clear-all .kept .1 .1 .1 .1 .1 .0 ∙ judged₁ (search) .judge-bytes .kept .1 .1 .1 .1 .1 .1 .1 .1 .1 .0
+same-length-6 c = omega (arith, after-clear-all (search) .clear-all .kept, judged₁ (search) .judge-bytes .kept)
 
 returns-3 : tie.Need-returns-3
 returns-3 c =
-    let kept = judged₁ (search) .judge-bytes .kept .1 .1 .1 .1 in
+    let k = judged₁ (search) .judge-bytes .kept in
     way-refused (judged₁ (search) .judge-bytes .ensures) (then3 (search) .if3 .taken)
     (zeros-alike _ _ (record {
-      parents = kept .0;
-      order = kept .1 .0;
-      pops = kept .1 .1 .0;
-      starts = kept .1 .1 .1 .0;
-      rows = kept .1 .1 .1 .1 .0;
-      work = kept .1 .1 .1 .1 .1 .0;
+      parents = omega arith;
+      order = omega arith;
+      pops = omega arith;
+      starts = omega arith;
+      rows = omega arith;
+      work = omega arith;
     }) (after-clear-all (search) .clear-all .ensures))
 
-clear64-requires : tie.Need-clear64-requires
-clear64-requires c κs = search needs
-
 same-length-7 : tie.Need-same-length-7
-same-length-7 c = judged (search) .judge-bytes .kept .1 .1 .1 .1 .0
+same-length-7 c = omega (arith, judged (search) .judge-bytes .kept)
 
 same-length-8 : tie.Need-same-length-8
-same-length-8 c = judged (search) .judge-bytes .kept .1 .1 .1 .1 .1 .0
+same-length-8 c = omega (arith, judged (search) .judge-bytes .kept)
 
 same-length-9 : tie.Need-same-length-9
-same-length-9 c = judged (search) .judge-bytes .kept .1 .1 .1 .1 .1 .1 .0
+same-length-9 c = omega (arith, judged (search) .judge-bytes .kept)
 
 same-length-10 : tie.Need-same-length-10
-same-length-10 c = judged (search) .judge-bytes .kept .1 .1 .1 .1 .1 .1 .1 .0
+same-length-10 c = omega (arith, judged (search) .judge-bytes .kept)
 
 same-length-11 : tie.Need-same-length-11
-same-length-11 c = judged (search) .judge-bytes .kept .1 .1 .1 .1 .1 .1 .1 .1 .0
+same-length-11 c = omega (arith, judged (search) .judge-bytes .kept)
 
 same-length-12 : tie.Need-same-length-12
-same-length-12 c = after-clear64 (search) .clear64 .kept .0 ∙ judged (search) .judge-bytes .kept .1 .1 .1 .1 .1 .1 .1 .1 .1 .0
+same-length-12 c = omega (arith, after-clear64 (search) .clear64 .kept, judged (search) .judge-bytes .kept)
 
 returns-4 : tie.Need-returns-4
 returns-4 c =
-    way-done (judged (search) .judge-bytes .ensures) (else3 (search) .if3 .left) (after-clear64 (search) .clear64 .ensures ∙ ap
-    (λ (k : ℕ). replicate {A = ℕ} k 0) (judged (search) .judge-bytes .kept .1 .1 .1 .1 .1 .1 .1 .1 .1 .0))
+    way-done (judged (search) .judge-bytes .ensures) (else3 (search) .if3 .left)
+    (zeros-as-long _ _ (after-clear64 (search) .clear64 .ensures) (omega (arith, judged (search) .judge-bytes .kept)))
 
 pub check-plan-spec : {M : Type 1} → statement M
 check-plan-spec =
     tie.close
     (tie.spec
-    first-fault-requires
+    (λ c κs. search needs)
     returns
     too-short-requires
-    answered-requires
+    (λ c κs. search needs)
     returns-2
     judge-bytes-requires
-    clear-all-requires
+    (λ c κs. search needs)
     same-length
     same-length-2
     same-length-3
@@ -144,7 +134,7 @@ check-plan-spec =
     same-length-5
     same-length-6
     returns-3
-    clear64-requires
+    (λ c κs. search needs)
     same-length-7
     same-length-8
     same-length-9

@@ -48,12 +48,12 @@ covered-requires c κs = markable (at-loop (search) .loop .inv) (in-loop (search
 add-d : tie.Need-add-d Inv-loop μ-loop
 add-d c =
     let l = link-first (at-loop (search) .loop .inv) (in-loop (search) .loop-test .taken) in
-    let g = entry (search) .good .1 .1 .1 .1 .1 .1 .0 in omega arith
+    let g = entry (search) .good in omega arith
 
 mul-d : tie.Need-mul-d Inv-loop μ-loop
 mul-d c =
     let l = link-first (at-loop (search) .loop .inv) (in-loop (search) .loop-test .taken) in
-    let g = entry (search) .good .1 .1 .1 .1 .1 .1 .0 in omega arith
+    let g = entry (search) .good in omega arith
 
 slice-read-d : tie.Need-slice-read-d Inv-loop μ-loop
 slice-read-d c = link (at-loop (search) .loop .inv) (in-loop (search) .loop-test .taken)
@@ -78,15 +78,15 @@ sub-turn c = let l = at-loop (search) .loop .inv .turns in omega arith
 add-d-2 : tie.Need-add-d-2 Inv-loop μ-loop
 add-d-2 c =
     let l = link-first (at-loop (search) .loop .inv) (in-loop (search) .loop-test .taken) in
-    let g = entry (search) .good .1 .1 .1 .1 .1 .1 .0 in omega arith
+    let g = entry (search) .good in omega arith
 
 mul-d-2 : tie.Need-mul-d-2 Inv-loop μ-loop
 mul-d-2 c =
     let l = link-first (at-loop (search) .loop .inv) (in-loop (search) .loop-test .taken) in
-    let g = entry (search) .good .1 .1 .1 .1 .1 .1 .0 in omega arith
+    let g = entry (search) .good in omega arith
 
 slice-read-d-2 : tie.Need-slice-read-d-2 Inv-loop μ-loop
-slice-read-d-2 c = rw (marked (search) .mark .kept .1 .1 .1 .0) (link (at-loop (search) .loop .inv) (in-loop (search) .loop-test .taken))
+slice-read-d-2 c = omega (arith, marked (search) .mark .kept, link (at-loop (search) .loop .inv) (in-loop (search) .loop-test .taken))
 
 loop-less-2 : tie.Need-loop-less-2 Inv-loop μ-loop
 loop-less-2 c =
@@ -96,17 +96,8 @@ loop-less-2 c =
 loop-again-2 : tie.Need-loop-again-2 Inv-loop μ-loop
 loop-again-2 c =
     joins (at-loop (search) .loop .inv) (in-loop (search) .loop-test .taken) _ (after-handed-on (search) .handed-on .ensures) _ _ _ _
-    (joined (search) .join-rows .ensures) (marked (search) .mark .ensures) (joined (search) .join-rows .kept .1 .1 .1 .0)
-    (joined (search) .join-rows .kept .1 .1 .1 .1 .0) (marked (search) .mark .kept .1 .1 .1 .0)
-
-same-length : tie.Need-same-length Inv-loop μ-loop
-same-length c = omega arith
-
-same-length-2 : tie.Need-same-length-2 Inv-loop μ-loop
-same-length-2 c = omega arith
-
-same-length-3 : tie.Need-same-length-3 Inv-loop μ-loop
-same-length-3 c = omega arith
+    (joined (search) .join-rows .ensures) (marked (search) .mark .ensures) (omega (arith, joined (search) .join-rows .kept))
+    (omega (arith, joined (search) .join-rows .kept)) (omega (arith, marked (search) .mark .kept))
 
 returns : tie.Need-returns Inv-loop μ-loop
 returns c = stop (c .before .loop .inv) (c .loop-test .left)
@@ -133,7 +124,7 @@ join-children-spec =
     slice-read-d-2
     loop-less-2
     loop-again-2
-    same-length
-    same-length-2
-    same-length-3
+    (λ c. omega arith)
+    (λ c. omega arith)
+    (λ c. omega arith)
     returns)

@@ -23,17 +23,11 @@ after-unite c = c
 abbrev after-unite2 : tie.After-unite2 → tie.After-unite2
 after-unite2 c = c
 
-slice-reshare-prefix-unite : tie.Need-slice-reshare-prefix-unite
-slice-reshare-prefix-unite c = omega arith
-
 slice-aggregate-unite : tie.Need-slice-aggregate-unite
 slice-aggregate-unite c = sym (length-take-le _ _ (entry (search) .pre .held-x))
 
 unite-requires : tie.Need-unite-requires
 unite-requires c κs = fits-y _ _ _ _ _ (entry (search) .pre) (then1 (search) .if1 .taken)
-
-slice-reshare-prefix-unite-2 : tie.Need-slice-reshare-prefix-unite-2
-slice-reshare-prefix-unite-2 c = omega arith
 
 slice-aggregate-unite-2 : tie.Need-slice-aggregate-unite-2
 slice-aggregate-unite-2 c = sym (length-take-le _ _ (entry (search) .pre .held-y))
@@ -41,20 +35,8 @@ slice-aggregate-unite-2 c = sym (length-take-le _ _ (entry (search) .pre .held-y
 unite-requires-2 : tie.Need-unite-requires-2
 unite-requires-2 c κs = fits-x _ _ _ _ _ (entry (search) .pre) (else1 (search) .if1 .left)
 
-same-length : tie.Need-same-length
-same-length c = omega arith
-
-same-length-2 : tie.Need-same-length-2
-same-length-2 c = omega arith
-
 returns : tie.Need-returns
 returns c = joined-in-y _ _ _ _ _ (entry (search) .pre) _ _ (then1 (search) .if1 .taken) (after-unite (search) .unite .ensures)
-
-same-length-3 : tie.Need-same-length-3
-same-length-3 c = omega arith
-
-same-length-4 : tie.Need-same-length-4
-same-length-4 c = omega arith
 
 returns-2 : tie.Need-returns-2
 returns-2 c = joined-in-x _ _ _ _ _ (entry (search) .pre) _ _ (else1 (search) .if1 .left) (after-unite2 (search) .unite2 .ensures)
@@ -63,15 +45,15 @@ pub join-rows-spec : {M : Type 1} → statement M
 join-rows-spec =
     tie.close
     (tie.spec
-    slice-reshare-prefix-unite
+    (λ c. omega arith)
     slice-aggregate-unite
     unite-requires
-    slice-reshare-prefix-unite-2
+    (λ c. omega arith)
     slice-aggregate-unite-2
     unite-requires-2
-    same-length
-    same-length-2
+    (λ c. omega arith)
+    (λ c. omega arith)
     returns
-    same-length-3
-    same-length-4
+    (λ c. omega arith)
+    (λ c. omega arith)
     returns-2)

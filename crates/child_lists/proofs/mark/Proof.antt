@@ -23,39 +23,21 @@ at-loop c = c
 loop-holds : tie.Need-loop-holds Inv-loop μ-loop
 loop-holds c = mark-begin _ _ _ _
 
-add-work : tie.Need-add-work Inv-loop μ-loop
-add-work c = omega arith
-
-mul-work : tie.Need-mul-work Inv-loop μ-loop
-mul-work c = omega arith
-
-shared-slice-read-work : tie.Need-shared-slice-read-work Inv-loop μ-loop
-shared-slice-read-work c = omega arith
-
 cast-work : tie.Need-cast-work Inv-loop μ-loop
 cast-work c = omega (arith, c .shared-slice-known .given (at-loop (search) .loop .k))
 
 add-work-2 : tie.Need-add-work-2 Inv-loop μ-loop
-add-work-2 c = let h = mark-place (entry (search) .pre) _ (c .before .loop-test .taken) in let g = entry (search) .good .1 .1 .1 .0 in omega arith
+add-work-2 c = let h = mark-place (entry (search) .pre) _ (c .before .loop-test .taken) in let g = entry (search) .good in omega arith
 
 mul-work-2 : tie.Need-mul-work-2 Inv-loop μ-loop
-mul-work-2 c = let h = mark-place (entry (search) .pre) _ (c .before .loop-test .taken) in let g = entry (search) .good .1 .1 .1 .0 in omega arith
+mul-work-2 c = let h = mark-place (entry (search) .pre) _ (c .before .loop-test .taken) in let g = entry (search) .good in omega arith
 
 slice-write-work : tie.Need-slice-write-work Inv-loop μ-loop
 slice-write-work c =
     let h = mark-place (entry (search) .pre) _ (c .before .loop-test .taken) in let l = at-loop (search) .loop .inv .long in omega arith
 
-add-k : tie.Need-add-k Inv-loop μ-loop
-add-k c = omega arith
-
-loop-less : tie.Need-loop-less Inv-loop μ-loop
-loop-less c = omega arith
-
 loop-again : tie.Need-loop-again Inv-loop μ-loop
 loop-again c = mark-turn (at-loop (search) .loop .inv) (c .before .loop-test .taken)
-
-same-length : tie.Need-same-length Inv-loop μ-loop
-same-length c = omega arith
 
 returns : tie.Need-returns Inv-loop μ-loop
 returns c = mark-stop (c .before .loop .inv) (c .loop-test .left)
@@ -67,15 +49,15 @@ mark-spec =
     Inv-loop
     μ-loop
     loop-holds
-    add-work
-    mul-work
-    shared-slice-read-work
+    (λ c. omega arith)
+    (λ c. omega arith)
+    (λ c. omega arith)
     cast-work
     add-work-2
     mul-work-2
     slice-write-work
-    add-k
-    loop-less
+    (λ c. omega arith)
+    (λ c. omega arith)
     loop-again
-    same-length
+    (λ c. omega arith)
     returns)

@@ -46,15 +46,6 @@ entry₁ c = search
 pattern-rows-requires : tie.Need-pattern-rows-requires
 pattern-rows-requires c κs = part-of (entry (search) .pre .0) (entry (search) .pre .1 .column)
 
-add-c : tie.Need-add-c
-add-c c = omega arith
-
-mul-c : tie.Need-mul-c
-mul-c c = omega arith
-
-slice-read-c : tie.Need-slice-read-c
-slice-read-c c = omega arith
-
 copy-at-requires : tie.Need-copy-at-requires
 copy-at-requires c κs =
     let h = own-fits (tested-below (entry (search) .pre .0)) (entry (search) .pre .1) _ (after-pattern-rows (search) .pattern-rows .ensures) in
@@ -86,13 +77,13 @@ add-if2 : tie.Need-add-if2
 add-if2 c =
     let l = first-link (tested-below (entry (search) .pre .0)) (entry (search) .pre .1) _ (after-pattern-rows (search) .pattern-rows .ensures)
     (else1 (search) .if1 .left) _ (after-longest (search) .longest .ensures) in
-    let g = entry (search) .good .1 .1 .1 .1 .1 .1 .0 in omega arith
+    let g = entry (search) .good in omega arith
 
 mul-if2 : tie.Need-mul-if2
 mul-if2 c =
     let l = first-link (tested-below (entry (search) .pre .0)) (entry (search) .pre .1) _ (after-pattern-rows (search) .pattern-rows .ensures)
     (else1 (search) .if1 .left) _ (after-longest (search) .longest .ensures) in
-    let g = entry (search) .good .1 .1 .1 .1 .1 .1 .0 in omega arith
+    let g = entry (search) .good in omega arith
 
 slice-read-if2 : tie.Need-slice-read-if2
 slice-read-if2 c =
@@ -103,16 +94,13 @@ same-length-2 : tie.Need-same-length-2
 same-length-2 c = refl
 
 same-length-3 : tie.Need-same-length-3
-same-length-3 c = united (search) .unite .kept .1 .1 .0
+same-length-3 c = omega (arith, united (search) .unite .kept)
 
 returns-2 : tie.Need-returns-2
 returns-2 c =
     single (tested-below (entry (search) .pre .0)) (entry (search) .pre .1) _ (after-pattern-rows (search) .pattern-rows .ensures)
     (else1 (search) .if1 .left) _ (after-longest (search) .longest .ensures) _ (after-handed-on (search) .handed-on .ensures) _ _
     (united (search) .unite .ensures) (c .if2 .taken)
-
-add-mark : tie.Need-add-mark
-add-mark c = omega arith
 
 slice-reshare-prefix-mark : tie.Need-slice-reshare-prefix-mark
 slice-reshare-prefix-mark c =
@@ -132,29 +120,26 @@ mark-requires c κs =
     (else1 (search) .if1 .left) _ (after-longest (search) .longest .ensures) _ (after-handed-on (search) .handed-on .ensures) _ _
     (united (search) .unite .ensures)
 
-add-join-children : tie.Need-add-join-children
-add-join-children c = omega arith
-
 join-children-requires : tie.Need-join-children-requires
 join-children-requires c κs =
     several (tested-below (entry (search) .pre .0)) (entry (search) .pre .1) _ (after-pattern-rows (search) .pattern-rows .ensures)
     (else1 (search) .if1 .left) _ (after-longest (search) .longest .ensures) _ (after-handed-on (search) .handed-on .ensures) _ _
-    (united (search) .unite .ensures) _ (marked (search) .mark .ensures) (marked (search) .mark .kept .1 .1 .1 .0)
+    (united (search) .unite .ensures) _ (marked (search) .mark .ensures) (omega (arith, marked (search) .mark .kept))
 
 same-length-4 : tie.Need-same-length-4
-same-length-4 c = joined (search) .join-children .kept .1 .1 .1 .1 .1 .1 .0 ∙ marked (search) .mark .kept .1 .1 .1 .0
+same-length-4 c = omega (arith, joined (search) .join-children .kept, marked (search) .mark .kept)
 
 same-length-5 : tie.Need-same-length-5
-same-length-5 c = joined (search) .join-children .kept .1 .1 .1 .1 .1 .1 .1 .0 ∙ united (search) .unite .kept .1 .1 .0
+same-length-5 c = omega (arith, joined (search) .join-children .kept, united (search) .unite .kept)
 
 same-length-6 : tie.Need-same-length-6
-same-length-6 c = joined (search) .join-children .kept .1 .1 .1 .1 .1 .1 .1 .1 .0
+same-length-6 c = omega (arith, joined (search) .join-children .kept)
 
 returns-3 : tie.Need-returns-3
 returns-3 c =
     all-joined (tested-below (entry₁ (search) .pre .0)) (entry₁ (search) .pre .1) _ (after-pattern-rows (search) .pattern-rows .ensures)
     (else1 (search) .if1 .left) _ (after-longest (search) .longest .ensures) _ (after-handed-on (search) .handed-on .ensures) _ _
-    (united (search) .unite .ensures) _ (marked (search) .mark .ensures) (marked (search) .mark .kept .1 .1 .1 .0) _ _ _ _ _
+    (united (search) .unite .ensures) _ (marked (search) .mark .ensures) (omega (arith, marked (search) .mark .kept)) _ _ _ _ _
     (joined (search) .join-children .ensures)
 
 pub gather-spec : {M : Type 1} → statement M
@@ -162,9 +147,9 @@ gather-spec =
     tie.close
     (tie.spec
     pattern-rows-requires
-    add-c
-    mul-c
-    slice-read-c
+    (λ c. omega arith)
+    (λ c. omega arith)
+    (λ c. omega arith)
     copy-at-requires
     same-length
     returns
@@ -177,11 +162,11 @@ gather-spec =
     same-length-2
     same-length-3
     returns-2
-    add-mark
+    (λ c. omega arith)
     slice-reshare-prefix-mark
     slice-aggregate-mark
     mark-requires
-    add-join-children
+    (λ c. omega arith)
     join-children-requires
     same-length-4
     same-length-5

@@ -17,30 +17,6 @@ abbrev μ-loop : tie.MeasureT-loop
 loop-holds : tie.Need-loop-holds Inv-loop μ-loop
 loop-holds c = refl
 
-before-requires : tie.Need-before-requires Inv-loop μ-loop
-before-requires c κs = tt
-
-wide-requires : tie.Need-wide-requires Inv-loop μ-loop
-wide-requires c κs = tt
-
-mul-slice : tie.Need-mul-slice Inv-loop μ-loop
-mul-slice c = search needs
-
-element-write-slice : tie.Need-element-write-slice Inv-loop μ-loop
-element-write-slice c = search needs
-
-add-i : tie.Need-add-i Inv-loop μ-loop
-add-i c = omega arith
-
-loop-less : tie.Need-loop-less Inv-loop μ-loop
-loop-less c = omega arith
-
-loop-again : tie.Need-loop-again Inv-loop μ-loop
-loop-again c = search needs
-
-returns : tie.Need-returns Inv-loop μ-loop
-returns c = search needs
-
 pub fill64-spec : {M : Type 1} → statement M
 fill64-spec =
     tie.close
@@ -48,11 +24,11 @@ fill64-spec =
     Inv-loop
     μ-loop
     loop-holds
-    before-requires
-    wide-requires
-    mul-slice
-    element-write-slice
-    add-i
-    loop-less
-    loop-again
-    returns)
+    (λ c κs. tt)
+    (λ c κs. tt)
+    (λ c. search needs)
+    (λ c. search needs)
+    (λ c. omega arith)
+    (λ c. omega arith)
+    (λ c. search needs)
+    (λ c. search needs))

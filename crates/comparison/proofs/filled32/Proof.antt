@@ -12,41 +12,17 @@ Inv-loop slice₀ i₀ slice i = Unit {0}
 abbrev μ-loop : tie.MeasureT-loop
 μ-loop slice₀ i₀ slice i = 300 - i
 
-loop-holds : tie.Need-loop-holds Inv-loop μ-loop
-loop-holds c = tt
-
-before-requires : tie.Need-before-requires Inv-loop μ-loop
-before-requires c κs = tt
-
-mul-slice : tie.Need-mul-slice Inv-loop μ-loop
-mul-slice c = search needs
-
-array-write-slice : tie.Need-array-write-slice Inv-loop μ-loop
-array-write-slice c = search needs
-
-add-i : tie.Need-add-i Inv-loop μ-loop
-add-i c = omega arith
-
-loop-less : tie.Need-loop-less Inv-loop μ-loop
-loop-less c = omega arith
-
-loop-again : tie.Need-loop-again Inv-loop μ-loop
-loop-again c = tt
-
-returns : tie.Need-returns Inv-loop μ-loop
-returns c = tt
-
 pub filled32-spec : {M : Type 1} → statement M
 filled32-spec =
     tie.close
     (tie.spec
     Inv-loop
     μ-loop
-    loop-holds
-    before-requires
-    mul-slice
-    array-write-slice
-    add-i
-    loop-less
-    loop-again
-    returns)
+    (λ c. tt)
+    (λ c κs. tt)
+    (λ c. search needs)
+    (λ c. search needs)
+    (λ c. omega arith)
+    (λ c. omega arith)
+    (λ c. tt)
+    (λ c. tt))

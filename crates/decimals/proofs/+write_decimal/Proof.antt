@@ -8,120 +8,82 @@ use borrow.Fn.Kinds.{In}
 use borrow.Fn.PlainCycle.{Measures, is, falls, and}
 use Rattle.decimals.proofs.write_decimal.Reads as write-decimal
 use Rattle.decimals.proofs.write_decimal.Kinds as write-decimal-kinds
-use Rattle.decimals.proofs.+write_decimal.Lts-write_decimal as write-decimal-lts
+use Rattle.decimals.proofs.+write_decimal.Lts-write_decimal as lts
 use Rattle.decimals.proofs.+write_decimal.{statement}
 use Rattle.decimals.proofs.+write_decimal.Tie.{close}
 
 abbrev μ-write-decimal : Measures 1 write-decimal-kinds.ps ℕ
 μ-write-decimal κs a = a .0
 
-abbrev write-decimal-at : ℕ → In 1 write-decimal-kinds.ps
-write-decimal-at t =
-    and 1 write-decimal-kinds.ps (is 1 write-decimal-kinds.ps μ-write-decimal t) write-decimal.Pre
+module _ (t : ℕ) where
+  abbrev here : In 1 write-decimal-kinds.ps
+  here = and 1 write-decimal-kinds.ps (is 1 write-decimal-kinds.ps μ-write-decimal t) write-decimal.Pre
 
-abbrev write-decimal-below : ℕ → In 1 write-decimal-kinds.ps
-write-decimal-below t =
-    and
-    1
-    write-decimal-kinds.ps
-    (falls 1 write-decimal-kinds.ps _<_ μ-write-decimal t)
-    write-decimal.Pre
+  abbrev below : In 1 write-decimal-kinds.ps
+  below = and 1 write-decimal-kinds.ps (falls 1 write-decimal-kinds.ps _<_ μ-write-decimal t) write-decimal.Pre
 
-write-decimal-add-bytes : (t : ℕ) → write-decimal-lts.Need-add-bytes (
-  write-decimal-below t,
-  write-decimal.Post,
-) (write-decimal-at t) write-decimal.Post
-write-decimal-add-bytes t c = search needs
+  abbrev calls : lts.Claims
+  calls = (below, write-decimal.Post)
 
-write-decimal-cast-bytes : (t : ℕ) → write-decimal-lts.Need-cast-bytes (
-  write-decimal-below t,
-  write-decimal.Post,
-) (write-decimal-at t) write-decimal.Post
-write-decimal-cast-bytes t c = search needs
+  -- The places that the answers look back to: `entry (search)` is the one behind the answer at hand.
+  abbrev entry : lts.Start calls here write-decimal.Post → lts.Start calls here write-decimal.Post
+  entry c = c
 
-write-decimal-slice-write-bytes : (t : ℕ) → write-decimal-lts.Need-slice-write-bytes (
-  write-decimal-below t,
-  write-decimal.Post,
-) (write-decimal-at t) write-decimal.Post
-write-decimal-slice-write-bytes t c = let e = c .before .before in one-fits (e .args .x) (e .args .at) (e .args .bytes .now) (c .if1 .taken) (e .pre .1)
+  abbrev else1 : lts.Else1 calls here write-decimal.Post → lts.Else1 calls here write-decimal.Post
+  else1 c = c
 
-write-decimal-add-result : (t : ℕ) → write-decimal-lts.Need-add-result (
-  write-decimal-below t,
-  write-decimal.Post,
-) (write-decimal-at t) write-decimal.Post
-write-decimal-add-result t c = search needs
+  abbrev written : lts.After-write-decimal calls here write-decimal.Post → lts.After-write-decimal calls here write-decimal.Post
+  written c = c
 
-write-decimal-same-length : (t : ℕ) → write-decimal-lts.Need-same-length (
-  write-decimal-below t,
-  write-decimal.Post,
-) (write-decimal-at t) write-decimal.Post
-write-decimal-same-length t c = search needs
+  slice-write-bytes : lts.Need-slice-write-bytes calls here write-decimal.Post
+  slice-write-bytes c =
+      let e = entry (search) in one-fits (e .args .x) (e .args .at) (e .args .bytes .now) (c .if1 .taken) (e .pre .1)
 
-write-decimal-returns : (t : ℕ) → write-decimal-lts.Need-returns (
-  write-decimal-below t,
-  write-decimal.Post,
-) (write-decimal-at t) write-decimal.Post
-write-decimal-returns t c = let e = c .before .before in one-written (e .args .x) (e .args .at) (e .args .bytes .now) (c .if1 .taken)
+  returns : lts.Need-returns calls here write-decimal.Post
+  returns c = let e = entry (search) in one-written (e .args .x) (e .args .at) (e .args .bytes .now) (c .if1 .taken)
 
-write-decimal-write-decimal-requires : (t : ℕ) → write-decimal-lts.Need-write-decimal-requires (
-  write-decimal-below t,
-  write-decimal.Post,
-) (write-decimal-at t) write-decimal.Post
-write-decimal-write-decimal-requires t c κs = let e = c .before .before .before in (let m = e .pre .0 in let l = c .before .if1 .left in omega arith, omega (arith, last-fits (e .args .x) (e .args .at) (e .args .bytes .now) (c .before .if1 .left) (e .pre .1)))
+  write-decimal-requires : lts.Need-write-decimal-requires calls here write-decimal.Post
+  write-decimal-requires c κs =
+      let e = entry (search) in
+      let l = else1 (search) .if1 .left in (
+        omega (arith, e .pre .0),
+        omega (arith, last-fits (e .args .x) (e .args .at) (e .args .bytes .now) l (e .pre .1)),
+      )
 
-write-decimal-add-bytes-2 : (t : ℕ) → write-decimal-lts.Need-add-bytes-2 (
-  write-decimal-below t,
-  write-decimal.Post,
-) (write-decimal-at t) write-decimal.Post
-write-decimal-add-bytes-2 t c = search needs
+  slice-write-bytes-2 : lts.Need-slice-write-bytes-2 calls here write-decimal.Post
+  slice-write-bytes-2 c =
+      let e = entry (search) in
+      let h = last-fits (e .args .x) (e .args .at) (e .args .bytes .now) (else1 (search) .if1 .left) (e .pre .1) in
+      omega (arith, written (search) .write-decimal .ensures .0, written (search) .write-decimal .kept)
 
-write-decimal-cast-bytes-2 : (t : ℕ) → write-decimal-lts.Need-cast-bytes-2 (
-  write-decimal-below t,
-  write-decimal.Post,
-) (write-decimal-at t) write-decimal.Post
-write-decimal-cast-bytes-2 t c = search needs
+  add-result-2 : lts.Need-add-result-2 calls here write-decimal.Post
+  add-result-2 c =
+      let e = entry (search) in
+      let h = last-fits (e .args .x) (e .args .at) (e .args .bytes .now) (else1 (search) .if1 .left) (e .pre .1) in
+      let p = written (search) .write-decimal .ensures .0 in search needs
 
-write-decimal-slice-write-bytes-2 : (t : ℕ) → write-decimal-lts.Need-slice-write-bytes-2 (
-  write-decimal-below t,
-  write-decimal.Post,
-) (write-decimal-at t) write-decimal.Post
-write-decimal-slice-write-bytes-2 t c = let e = c .before .before .before .before .before .before in omega (arith, last-fits (e .args .x) (e .args .at) (e .args .bytes .now) (c .before .before .before .before .if1 .left) (e .pre .1), c .before .before .write-decimal .ensures .0, c .before .before .write-decimal .kept .1 .0)
+  returns-2 : lts.Need-returns-2 calls here write-decimal.Post
+  returns-2 c =
+      let e = entry (search) in
+      last-written (e .args .x) (e .args .at) (e .args .bytes .now) (else1 (search) .if1 .left)
+      (written (search) .write-decimal .ensures .0) (written (search) .write-decimal .ensures .1)
 
-write-decimal-add-result-2 : (t : ℕ) → write-decimal-lts.Need-add-result-2 (
-  write-decimal-below t,
-  write-decimal.Post,
-) (write-decimal-at t) write-decimal.Post
-write-decimal-add-result-2 t c = let e = c .before .before .before .before .before .before in let h = last-fits (e .args .x) (e .args .at) (e .args .bytes .now) (c .before .before .before .before .if1 .left) (e .pre .1) in let p = c .before .before .write-decimal .ensures .0 in search needs
-
-write-decimal-same-length-2 : (t : ℕ) → write-decimal-lts.Need-same-length-2 (
-  write-decimal-below t,
-  write-decimal.Post,
-) (write-decimal-at t) write-decimal.Post
-write-decimal-same-length-2 t c = search needs
-
-write-decimal-returns-2 : (t : ℕ) → write-decimal-lts.Need-returns-2 (
-  write-decimal-below t,
-  write-decimal.Post,
-) (write-decimal-at t) write-decimal.Post
-write-decimal-returns-2 t c = let e = c .before .before .before .before .before .before in last-written (e .args .x) (e .args .at) (e .args .bytes .now) (c .before .before .before .before .if1 .left) (c .before .before .write-decimal .ensures .0) (c .before .before .write-decimal .ensures .1)
+  closed : {M : Type 1} → lts.Closed calls here write-decimal.Post M
+  closed =
+      lts.spec calls here write-decimal.Post
+      (λ c. search needs)
+      (λ c. search needs)
+      slice-write-bytes
+      (λ c. search needs)
+      (λ c. search needs)
+      returns
+      write-decimal-requires
+      (λ c. search needs)
+      (λ c. search needs)
+      slice-write-bytes-2
+      add-result-2
+      (λ c. search needs)
+      returns-2
 
 pub +write-decimal-spec : {M : Type 1} → statement M
-+write-decimal-spec = close μ-write-decimal λ t. write-decimal-lts.spec (
-  write-decimal-below t,
-  write-decimal.Post,
-)
-    (write-decimal-at t)
-    write-decimal.Post
-    (write-decimal-add-bytes t)
-    (write-decimal-cast-bytes t)
-    (write-decimal-slice-write-bytes t)
-    (write-decimal-add-result t)
-    (write-decimal-same-length t)
-    (write-decimal-returns t)
-    (write-decimal-write-decimal-requires t)
-    (write-decimal-add-bytes-2 t)
-    (write-decimal-cast-bytes-2 t)
-    (write-decimal-slice-write-bytes-2 t)
-    (write-decimal-add-result-2 t)
-    (write-decimal-same-length-2 t)
-    (write-decimal-returns-2 t)
++write-decimal-spec = close μ-write-decimal (λ t. closed t)

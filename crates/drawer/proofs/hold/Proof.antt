@@ -11,37 +11,16 @@ Inv-loop tally₀ seed n grid sheet₀ mark₀ tally sheet mark = Unit {0}
 abbrev μ-loop : tie.MeasureT-loop
 μ-loop tally₀ seed n grid sheet₀ mark₀ tally sheet mark = 3 - mark
 
-draw-requires : tie.Need-draw-requires Inv-loop μ-loop
-draw-requires c κs = tt
-
-loop-holds : tie.Need-loop-holds Inv-loop μ-loop
-loop-holds c = tt
-
-hold-pattern-requires : tie.Need-hold-pattern-requires Inv-loop μ-loop
-hold-pattern-requires c κs = tt
-
-add-mark : tie.Need-add-mark Inv-loop μ-loop
-add-mark c = omega arith
-
-loop-less : tie.Need-loop-less Inv-loop μ-loop
-loop-less c = omega arith
-
-loop-again : tie.Need-loop-again Inv-loop μ-loop
-loop-again c = tt
-
-returns : tie.Need-returns Inv-loop μ-loop
-returns c = tt
-
 pub hold-spec : {M : Type 1} → statement M
 hold-spec =
     tie.close
     (tie.spec
     Inv-loop
     μ-loop
-    draw-requires
-    loop-holds
-    hold-pattern-requires
-    add-mark
-    loop-less
-    loop-again
-    returns)
+    (λ c κs. tt)
+    (λ c. tt)
+    (λ c κs. tt)
+    (λ c. omega arith)
+    (λ c. omega arith)
+    (λ c. tt)
+    (λ c. tt))

@@ -11,45 +11,18 @@ Inv-loop grid₀ seed state₀ place₀ grid state place = Unit {0}
 abbrev μ-loop : tie.MeasureT-loop
 μ-loop grid₀ seed state₀ place₀ grid state place = 625 - place
 
-loop-holds : tie.Need-loop-holds Inv-loop μ-loop
-loop-holds c = tt
-
-next-requires : tie.Need-next-requires Inv-loop μ-loop
-next-requires c κs = tt
-
-choice-requires : tie.Need-choice-requires Inv-loop μ-loop
-choice-requires c κs = tt
-
-mul-grid : tie.Need-mul-grid Inv-loop μ-loop
-mul-grid c = omega arith
-
-element-write-grid : tie.Need-element-write-grid Inv-loop μ-loop
-element-write-grid c = omega arith
-
-add-place : tie.Need-add-place Inv-loop μ-loop
-add-place c = omega arith
-
-loop-less : tie.Need-loop-less Inv-loop μ-loop
-loop-less c = omega arith
-
-loop-again : tie.Need-loop-again Inv-loop μ-loop
-loop-again c = tt
-
-returns : tie.Need-returns Inv-loop μ-loop
-returns c = tt
-
 pub thin-spec : {M : Type 1} → statement M
 thin-spec =
     tie.close
     (tie.spec
     Inv-loop
     μ-loop
-    loop-holds
-    next-requires
-    choice-requires
-    mul-grid
-    element-write-grid
-    add-place
-    loop-less
-    loop-again
-    returns)
+    (λ c. tt)
+    (λ c κs. tt)
+    (λ c κs. tt)
+    (λ c. omega arith)
+    (λ c. omega arith)
+    (λ c. omega arith)
+    (λ c. omega arith)
+    (λ c. tt)
+    (λ c. tt))

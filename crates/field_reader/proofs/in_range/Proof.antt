@@ -7,9 +7,6 @@ use Rattle.field_reader.proofs.Answers.{below-range, above-range, in-ra
 use Rattle.field_reader.proofs.in_range.Statement.{statement}
 use Rattle.field_reader.proofs.in_range.Tie as tie
 
-add-t9 : tie.Need-add-t9
-add-t9 c = search needs
-
 returns : tie.Need-returns
 returns c = ⊎-elim (λ x. below-range _ _ _ _ _ (x .taken)) (λ x. above-range _ _ _ _ _ (x .0 .left) (ltb-true _ _ (x .1 .taken))) (c .if1 .came)
 
@@ -17,4 +14,4 @@ returns-2 : tie.Need-returns-2
 returns-2 c = in-range _ _ _ _ _ (c .before .if1 .left) (ltb-false _ _ (c .if2 .left))
 
 pub in-range-spec : {M : Type 1} → statement M
-in-range-spec = tie.close (tie.spec add-t9 returns returns-2)
+in-range-spec = tie.close (tie.spec (λ c. search needs) returns returns-2)

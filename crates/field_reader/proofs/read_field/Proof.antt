@@ -1,4 +1,5 @@
--- A byte below 128 is a number by itself, two bytes may be one; any other number is what read_long reads. Either way the field is that number in its range.
+-- A byte below 128 is a number by itself, two bytes may be one; any other number is what read_long reads. Either way the field is that number in its
+-- range.
 -- Assumes nothing.
 use borrow.Author.Needs.{needs}
 use Rattle.field_reader.proofs.Answers.{field-by-number, one-group}
@@ -15,53 +16,26 @@ after-two-groups c = c
 abbrev after-wide8 : tie.After-wide8 → tie.After-wide8
 after-wide8 c = c
 
-shared-slice-read-wide8 : tie.Need-shared-slice-read-wide8
-shared-slice-read-wide8 c = search needs
-
-wide8-requires : tie.Need-wide8-requires
-wide8-requires c κs = search needs
-
-add-in-range : tie.Need-add-in-range
-add-in-range c = search needs
-
-in-range-requires : tie.Need-in-range-requires
-in-range-requires c κs = search needs
-
 returns : tie.Need-returns
 returns c =
     field-by-number _ _ _ _ (one-group _ _ (then1 (search) .if1 .taken) (after-wide8 (search) .wide8 .ensures .0) (c .before .if2 .taken))
     (c .in-range .ensures)
 
-two-groups-requires : tie.Need-two-groups-requires
-two-groups-requires c κs = search needs
-
-add-in-range-2 : tie.Need-add-in-range-2
-add-in-range-2 c = search needs
-
-in-range-requires-2 : tie.Need-in-range-requires-2
-in-range-requires-2 c κs = search needs
-
 returns-2 : tie.Need-returns-2
 returns-2 c = field-by-number _ _ _ _ (after-two-groups (search) .two-groups .ensures (c .before .if3 .taken)) (c .in-range2 .ensures)
-
-read-long-requires : tie.Need-read-long-requires
-read-long-requires c κs = search needs
-
-returns-3 : tie.Need-returns-3
-returns-3 c = search needs
 
 pub read-field-spec : {M : Type 1} → statement M
 read-field-spec =
     tie.close
     (tie.spec
-    shared-slice-read-wide8
-    wide8-requires
-    add-in-range
-    in-range-requires
+    (λ c. search needs)
+    (λ c κs. search needs)
+    (λ c. search needs)
+    (λ c κs. search needs)
     returns
-    two-groups-requires
-    add-in-range-2
-    in-range-requires-2
+    (λ c κs. search needs)
+    (λ c. search needs)
+    (λ c κs. search needs)
     returns-2
-    read-long-requires
-    returns-3)
+    (λ c κs. search needs)
+    (λ c. search needs))

@@ -13,18 +13,6 @@ read c = c
 abbrev after-value : tie.After-value → tie.After-value
 after-value c = c
 
-add-place : tie.Need-add-place
-add-place c = search needs
-
-read-number-requires : tie.Need-read-number-requires
-read-number-requires c κs = search needs
-
-enum-known-value : tie.Need-enum-known-value
-enum-known-value c = search needs
-
-in-range-requires : tie.Need-in-range-requires
-in-range-requires c κs = search needs
-
 returns : tie.Need-returns
 returns c = field-by-number _ _ _ _ (sym (after-value (search) .value .given .1) ∙ read (search) .read-number .ensures) (c .in-range .ensures)
 
@@ -34,14 +22,8 @@ enum-told c = search needs
 returns-2 : tie.Need-returns-2
 returns-2 c = field-by-number _ _ _ _ (sym (c .enum-told .given .1) ∙ read (search) .read-number .ensures) (ended-is-12 _ _ _)
 
-enum-told-2 : tie.Need-enum-told-2
-enum-told-2 c = search needs
-
 returns-3 : tie.Need-returns-3
 returns-3 c = field-by-number _ _ _ _ (sym (c .enum-told2 .given .1) ∙ read (search) .read-number .ensures) (too-long-is-13 _ _ _)
-
-enum-told-3 : tie.Need-enum-told-3
-enum-told-3 c = search needs
 
 returns-4 : tie.Need-returns-4
 returns-4 c = field-by-number _ _ _ _ (sym (c .enum-told3 .given .1) ∙ read (search) .read-number .ensures) (not-shortest-is-13 _ _ _)
@@ -50,14 +32,14 @@ pub read-long-spec : {M : Type 1} → statement M
 read-long-spec =
     tie.close
     (tie.spec
-    add-place
-    read-number-requires
-    enum-known-value
-    in-range-requires
+    (λ c. search needs)
+    (λ c κs. search needs)
+    (λ c. search needs)
+    (λ c κs. search needs)
     returns
     enum-told
     returns-2
-    enum-told-2
+    (λ c. search needs)
     returns-3
-    enum-told-3
+    (λ c. search needs)
     returns-4)

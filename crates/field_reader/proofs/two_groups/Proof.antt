@@ -25,35 +25,11 @@ after-wide82 c = c
 abbrev else2 : tie.Else2 → tie.Else2
 else2 c = c
 
-sub-if1 : tie.Need-sub-if1
-sub-if1 c = search needs
-
 returns : tie.Need-returns
 returns c = λ z. absurd (z refl)
 
-shared-slice-read-wide8 : tie.Need-shared-slice-read-wide8
-shared-slice-read-wide8 c = search needs
-
-wide8-requires : tie.Need-wide8-requires
-wide8-requires c κs = search needs
-
-add-wide8 : tie.Need-add-wide8
-add-wide8 c = search needs
-
-shared-slice-read-wide8-2 : tie.Need-shared-slice-read-wide8-2
-shared-slice-read-wide8-2 c = search needs
-
-wide8-requires-2 : tie.Need-wide8-requires-2
-wide8-requires-2 c κs = search needs
-
 returns-2 : tie.Need-returns-2
 returns-2 c = λ z. absurd (z refl)
-
-mul-result : tie.Need-mul-result
-mul-result c = search needs
-
-add-result : tie.Need-add-result
-add-result c = search needs
 
 returns-3 : tie.Need-returns-3
 returns-3 c =
@@ -68,14 +44,14 @@ pub two-groups-spec : {M : Type 1} → statement M
 two-groups-spec =
     tie.close
     (tie.spec
-    sub-if1
+    (λ c. search needs)
     returns
-    shared-slice-read-wide8
-    wide8-requires
-    add-wide8
-    shared-slice-read-wide8-2
-    wide8-requires-2
+    (λ c. search needs)
+    (λ c κs. search needs)
+    (λ c. search needs)
+    (λ c. search needs)
+    (λ c κs. search needs)
     returns-2
-    mul-result
-    add-result
+    (λ c. search needs)
+    (λ c. search needs)
     returns-3)

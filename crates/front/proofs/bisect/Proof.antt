@@ -24,29 +24,8 @@ at-loop c = c
 loop-holds : tie.Need-loop-holds Inv-loop μ-loop
 loop-holds c = c .pre .1
 
-sub-middle : tie.Need-sub-middle Inv-loop μ-loop
-sub-middle c = search needs
-
-add-middle : tie.Need-add-middle Inv-loop μ-loop
-add-middle c = search needs
-
-mul-if1 : tie.Need-mul-if1 Inv-loop μ-loop
-mul-if1 c = search needs
-
-shared-slice-read-if1 : tie.Need-shared-slice-read-if1 Inv-loop μ-loop
-shared-slice-read-if1 c = search needs
-
-add-low : tie.Need-add-low Inv-loop μ-loop
-add-low c = search needs
-
-loop-less : tie.Need-loop-less Inv-loop μ-loop
-loop-less c = search needs
-
 loop-again : tie.Need-loop-again Inv-loop μ-loop
 loop-again c = narrow-above (entry (search) .pre .0) (at-loop (search) .loop .inv) (omega arith) (c .if1 .taken)
-
-loop-less-2 : tie.Need-loop-less-2 Inv-loop μ-loop
-loop-less-2 c = search needs
 
 loop-again-2 : tie.Need-loop-again-2 Inv-loop μ-loop
 loop-again-2 c = narrow-below (entry (search) .pre .0) (at-loop (search) .loop .inv) (omega arith) (omega arith) (c .if1 .left)
@@ -61,13 +40,13 @@ bisect-spec =
     Inv-loop
     μ-loop
     loop-holds
-    sub-middle
-    add-middle
-    mul-if1
-    shared-slice-read-if1
-    add-low
-    loop-less
+    (λ c. search needs)
+    (λ c. search needs)
+    (λ c. search needs)
+    (λ c. search needs)
+    (λ c. search needs)
+    (λ c. search needs)
     loop-again
-    loop-less-2
+    (λ c. search needs)
     loop-again-2
     returns)

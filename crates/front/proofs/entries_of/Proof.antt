@@ -13,9 +13,6 @@ use Rattle.front.proofs.entries_of.Tie as tie
 abbrev entry : tie.Start → tie.Start
 entry c = c
 
-rows-of-requires : tie.Need-rows-of-requires
-rows-of-requires c κs = search needs
-
 entries-requires : tie.Need-entries-requires
 entries-requires c κs =
     let few = entry (search) .pre .0 .few in
@@ -25,4 +22,4 @@ returns : tie.Need-returns
 returns c = c .entries .ensures ∙ ap (λ l. t (length l)) (c .before .rows-of .ensures)
 
 pub entries-of-spec : {M : Type 1} → statement M
-entries-of-spec = tie.close (tie.spec rows-of-requires entries-requires returns)
+entries-of-spec = tie.close (tie.spec (λ c κs. search needs) entries-requires returns)

@@ -10,17 +10,8 @@ use Rattle.front.proofs.rows_of.Tie as tie
 abbrev entry : tie.Start → tie.Start
 entry c = c
 
-sub-from : tie.Need-sub-from
-sub-from c = search needs
-
-mul-from : tie.Need-mul-from
-mul-from c = search needs
-
 shared-slice-read-from : tie.Need-shared-slice-read-from
 shared-slice-read-from c = let l = lies (c .before .pre .0) (c .before .pre .1) in omega arith
-
-mul-end : tie.Need-mul-end
-mul-end c = search needs
 
 shared-slice-read-end : tie.Need-shared-slice-read-end
 shared-slice-read-end c = lies (entry (search) .pre .0) (entry (search) .pre .1) .listed
@@ -44,10 +35,10 @@ pub rows-of-spec : {M : Type 1} → statement M
 rows-of-spec =
     tie.close
     (tie.spec
-    sub-from
-    mul-from
+    (λ c. search needs)
+    (λ c. search needs)
     shared-slice-read-from
-    mul-end
+    (λ c. search needs)
     shared-slice-read-end
     mul-result
     sub-result

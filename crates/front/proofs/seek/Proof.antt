@@ -25,36 +25,12 @@ at-loop c = c
 abbrev in-loop : tie.In-loop Inv-loop μ-loop → tie.In-loop Inv-loop μ-loop
 in-loop c = c
 
-loop-holds : tie.Need-loop-holds Inv-loop μ-loop
-loop-holds c = search needs
-
-mul-if1 : tie.Need-mul-if1 Inv-loop μ-loop
-mul-if1 c = search needs
-
-shared-slice-read-if1 : tie.Need-shared-slice-read-if1 Inv-loop μ-loop
-shared-slice-read-if1 c = search needs
-
 bisect-requires : tie.Need-bisect-requires Inv-loop μ-loop
 bisect-requires c κs = (
   entry (search) .pre .0,
   narrow-below (entry (search) .pre .0) (at-loop (search) .loop .inv .0) (at-loop (search) .loop .inv .1)
       (in-loop (search) .loop-test .taken) (c .if1 .taken),
 )
-
-returns : tie.Need-returns Inv-loop μ-loop
-returns c = search needs
-
-add-low : tie.Need-add-low Inv-loop μ-loop
-add-low c = search needs
-
-sub-look : tie.Need-sub-look Inv-loop μ-loop
-sub-look c = search needs
-
-add-look : tie.Need-add-look Inv-loop μ-loop
-add-look c = search needs
-
-loop-less : tie.Need-loop-less Inv-loop μ-loop
-loop-less c = search needs
 
 loop-again : tie.Need-loop-again Inv-loop μ-loop
 loop-again c = (
@@ -63,27 +39,21 @@ loop-again c = (
   omega arith,
 )
 
-bisect-requires-2 : tie.Need-bisect-requires-2 Inv-loop μ-loop
-bisect-requires-2 c κs = search needs
-
-returns-2 : tie.Need-returns-2 Inv-loop μ-loop
-returns-2 c = search needs
-
 pub seek-spec : {M : Type 1} → statement M
 seek-spec =
     tie.close
     (tie.spec
     Inv-loop
     μ-loop
-    loop-holds
-    mul-if1
-    shared-slice-read-if1
+    (λ c. search needs)
+    (λ c. search needs)
+    (λ c. search needs)
     bisect-requires
-    returns
-    add-low
-    sub-look
-    add-look
-    loop-less
+    (λ c. search needs)
+    (λ c. search needs)
+    (λ c. search needs)
+    (λ c. search needs)
+    (λ c. search needs)
     loop-again
-    bisect-requires-2
-    returns-2)
+    (λ c κs. search needs)
+    (λ c. search needs))

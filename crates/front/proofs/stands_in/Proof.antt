@@ -34,20 +34,8 @@ after-seek c = c
 loop-holds : tie.Need-loop-holds Inv-loop μ-loop
 loop-holds c = swept-start _ _ _
 
-mul-row : tie.Need-mul-row Inv-loop μ-loop
-mul-row c = search needs
-
-shared-slice-read-row : tie.Need-shared-slice-read-row Inv-loop μ-loop
-shared-slice-read-row c = search needs
-
 cast-if1 : tie.Need-cast-if1 Inv-loop μ-loop
 cast-if1 c = omega (arith, c .shared-slice-known3 .given (at-loop (search) .loop .i))
-
-add-i : tie.Need-add-i Inv-loop μ-loop
-add-i c = search needs
-
-loop-less : tie.Need-loop-less Inv-loop μ-loop
-loop-less c = search needs
 
 loop-again : tie.Need-loop-again Inv-loop μ-loop
 loop-again c = swept-column (at-loop (search) .loop .inv) (in-loop (search) .loop-test .taken) (entry (search) .pre .1) (c .if1 .taken)
@@ -55,46 +43,10 @@ loop-again c = swept-column (at-loop (search) .loop .inv) (in-loop (search) .loo
 seek-requires : tie.Need-seek-requires Inv-loop μ-loop
 seek-requires c κs = (entry (search) .pre .0, to-seek (at-loop (search) .loop .inv) (in-loop (search) .loop-test .taken))
 
-mul-alike : tie.Need-mul-alike Inv-loop μ-loop
-mul-alike c = search needs
-
-sub-alike : tie.Need-sub-alike Inv-loop μ-loop
-sub-alike c = search needs
-
-part-alike-start : tie.Need-part-alike-start Inv-loop μ-loop
-part-alike-start c = search needs
-
-part-alike-end : tie.Need-part-alike-end Inv-loop μ-loop
-part-alike-end c = search needs
-
-mul-alike-2 : tie.Need-mul-alike-2 Inv-loop μ-loop
-mul-alike-2 c = search needs
-
-sub-alike-2 : tie.Need-sub-alike-2 Inv-loop μ-loop
-sub-alike-2 c = search needs
-
-part-alike-start-2 : tie.Need-part-alike-start-2 Inv-loop μ-loop
-part-alike-start-2 c = search needs
-
-part-alike-end-2 : tie.Need-part-alike-end-2 Inv-loop μ-loop
-part-alike-end-2 c = search needs
-
-alike-requires : tie.Need-alike-requires Inv-loop μ-loop
-alike-requires c κs = search needs
-
 returns : tie.Need-returns Inv-loop μ-loop
 returns c =
     swept-missing (at-loop (search) .loop .inv) (in-loop (search) .loop-test .taken) (entry (search) .pre .0) (else1 (search) .if1 .left)
     (after-seek (search) .seek .ensures) (rw (c .if2 .taken) at (c .before .alike .ensures))
-
-add-found : tie.Need-add-found Inv-loop μ-loop
-add-found c = search needs
-
-add-i-2 : tie.Need-add-i-2 Inv-loop μ-loop
-add-i-2 c = search needs
-
-loop-less-2 : tie.Need-loop-less-2 Inv-loop μ-loop
-loop-less-2 c = search needs
 
 loop-again-2 : tie.Need-loop-again-2 Inv-loop μ-loop
 loop-again-2 c =
@@ -111,25 +63,25 @@ stands-in-spec =
     Inv-loop
     μ-loop
     loop-holds
-    mul-row
-    shared-slice-read-row
+    (λ c. search needs)
+    (λ c. search needs)
     cast-if1
-    add-i
-    loop-less
+    (λ c. search needs)
+    (λ c. search needs)
     loop-again
     seek-requires
-    mul-alike
-    sub-alike
-    part-alike-start
-    part-alike-end
-    mul-alike-2
-    sub-alike-2
-    part-alike-start-2
-    part-alike-end-2
-    alike-requires
+    (λ c. search needs)
+    (λ c. search needs)
+    (λ c. search needs)
+    (λ c. search needs)
+    (λ c. search needs)
+    (λ c. search needs)
+    (λ c. search needs)
+    (λ c. search needs)
+    (λ c κs. search needs)
     returns
-    add-found
-    add-i-2
-    loop-less-2
+    (λ c. search needs)
+    (λ c. search needs)
+    (λ c. search needs)
     loop-again-2
     returns-2)

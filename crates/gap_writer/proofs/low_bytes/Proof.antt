@@ -28,38 +28,11 @@ in-loop c = c
 loop-holds : tie.Need-loop-holds Inv-loop μ-loop
 loop-holds c = lows-start (entry (search) .pre .0) (entry (search) .pre .1)
 
-mul-row : tie.Need-mul-row Inv-loop μ-loop
-mul-row c = search needs
-
-shared-slice-read-row : tie.Need-shared-slice-read-row Inv-loop μ-loop
-shared-slice-read-row c = search needs
-
 sub-gap : tie.Need-sub-gap Inv-loop μ-loop
 sub-gap c = omega (arith, row-above (at-loop (search) .loop .inv .rows-left) (c .before .loop-test .taken) refl)
 
-cast-bytes : tie.Need-cast-bytes Inv-loop μ-loop
-cast-bytes c = search needs
-
-slice-write-bytes : tie.Need-slice-write-bytes Inv-loop μ-loop
-slice-write-bytes c = search needs
-
-greater32-requires : tie.Need-greater32-requires Inv-loop μ-loop
-greater32-requires c κs = search needs
-
-add-next : tie.Need-add-next Inv-loop μ-loop
-add-next c = search needs
-
-add-i : tie.Need-add-i Inv-loop μ-loop
-add-i c = search needs
-
-loop-less : tie.Need-loop-less Inv-loop μ-loop
-loop-less c = search needs
-
 loop-again : tie.Need-loop-again Inv-loop μ-loop
 loop-again c = lows-turn (at-loop (search) .loop .inv) (in-loop (search) .loop-test .taken) refl (c .greater32 .ensures)
-
-same-length : tie.Need-same-length Inv-loop μ-loop
-same-length c = search needs
 
 returns : tie.Need-returns Inv-loop μ-loop
 returns c = lows-stop (c .before .loop .inv) (c .loop-test .left)
@@ -71,15 +44,15 @@ low-bytes-spec =
     Inv-loop
     μ-loop
     loop-holds
-    mul-row
-    shared-slice-read-row
+    (λ c. search needs)
+    (λ c. search needs)
     sub-gap
-    cast-bytes
-    slice-write-bytes
-    greater32-requires
-    add-next
-    add-i
-    loop-less
+    (λ c. search needs)
+    (λ c. search needs)
+    (λ c κs. search needs)
+    (λ c. search needs)
+    (λ c. search needs)
+    (λ c. search needs)
     loop-again
-    same-length
+    (λ c. search needs)
     returns)

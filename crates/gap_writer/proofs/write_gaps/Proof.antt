@@ -30,12 +30,6 @@ after-put c = c
 loop-holds : tie.Need-loop-holds Inv-loop μ-loop
 loop-holds c = gaps-start (start (search) .pre .0)
 
-mul-row : tie.Need-mul-row Inv-loop μ-loop
-mul-row c = search needs
-
-shared-slice-read-row : tie.Need-shared-slice-read-row Inv-loop μ-loop
-shared-slice-read-row c = search needs
-
 sub-put : tie.Need-sub-put Inv-loop μ-loop
 sub-put c = omega (arith, row-above (at-loop (search) .loop .inv .rows-left) (in-loop (search) .loop-test .taken) refl)
 
@@ -54,19 +48,10 @@ put-requires c κs =
       ),
     )
 
-add-i : tie.Need-add-i Inv-loop μ-loop
-add-i c = search needs
-
-loop-less : tie.Need-loop-less Inv-loop μ-loop
-loop-less c = search needs
-
 loop-again : tie.Need-loop-again Inv-loop μ-loop
 loop-again c =
     let put = after-put (search) .put in
     write-turn (at-loop (search) .loop .inv) (in-loop (search) .loop-test .taken) refl (put .ensures .0) (put .ensures .1)
-
-same-length : tie.Need-same-length Inv-loop μ-loop
-same-length c = search needs
 
 returns : tie.Need-returns Inv-loop μ-loop
 returns c = gaps-stop (c .before .loop .inv) (c .loop-test .left)
@@ -78,13 +63,13 @@ write-gaps-spec =
     Inv-loop
     μ-loop
     loop-holds
-    mul-row
-    shared-slice-read-row
+    (λ c. search needs)
+    (λ c. search needs)
     sub-put
     cast-put
     put-requires
-    add-i
-    loop-less
+    (λ c. search needs)
+    (λ c. search needs)
     loop-again
-    same-length
+    (λ c. search needs)
     returns)

@@ -19,17 +19,8 @@ after-write-gaps c = c
 abbrev after-write-gaps2 : tie.After-write-gaps2 → tie.After-write-gaps2
 after-write-gaps2 c = c
 
-sub-end : tie.Need-sub-end
-sub-end c = search needs
-
-add-end : tie.Need-add-end
-add-end c = search needs
-
 write-gaps-requires : tie.Need-write-gaps-requires
 write-gaps-requires c κs = start (search) .pre
-
-same-length : tie.Need-same-length
-same-length c = search needs
 
 returns : tie.Need-returns
 returns c = after-write-gaps (search) .write-gaps .ensures
@@ -37,18 +28,12 @@ returns c = after-write-gaps (search) .write-gaps .ensures
 low-bytes-requires : tie.Need-low-bytes-requires
 low-bytes-requires c κs = (start (search) .pre .0, omega (arith, c .before .if1 .left))
 
-same-length-2 : tie.Need-same-length-2
-same-length-2 c = search needs
-
 returns-2 : tie.Need-returns-2
 returns-2 c =
     run-short (start (search) .pre .0) _ (start (search) .args .at) (after-low-bytes (search) .low-bytes .ensures) (c .if2 .taken)
 
 write-gaps-requires-2 : tie.Need-write-gaps-requires-2
 write-gaps-requires-2 c κs = start (search) .pre
-
-same-length-3 : tie.Need-same-length-3
-same-length-3 c = search needs
 
 returns-3 : tie.Need-returns-3
 returns-3 c =
@@ -59,14 +44,14 @@ pub write-run-spec : {M : Type 1} → statement M
 write-run-spec =
     tie.close
     (tie.spec
-    sub-end
-    add-end
+    (λ c. search needs)
+    (λ c. search needs)
     write-gaps-requires
-    same-length
+    (λ c. search needs)
     returns
     low-bytes-requires
-    same-length-2
+    (λ c. search needs)
     returns-2
     write-gaps-requires-2
-    same-length-3
+    (λ c. search needs)
     returns-3)

@@ -14,12 +14,6 @@ returns c = rw (bytes-small (c .before .args .x) (c .if1 .taken)) refl
 sub-bits : tie.Need-sub-bits
 sub-bits c = omega (arith, count-of-zeros 64 (c .before .args .x) _ (omega (arith, c .before .pre)) (c .before .pre) refl)
 
-add-result : tie.Need-add-result
-add-result c = search needs
-
-cast-result : tie.Need-cast-result
-cast-result c = search needs
-
 returns-2 : tie.Need-returns-2
 returns-2 c =
     omega (
@@ -29,4 +23,4 @@ returns-2 c =
     )
 
 pub length-spec : {M : Type 1} → statement M
-length-spec = tie.close (tie.spec returns sub-bits add-result cast-result returns-2)
+length-spec = tie.close (tie.spec returns sub-bits (λ c. search needs) (λ c. search needs) returns-2)

@@ -20,26 +20,14 @@ entry c = c
 loop-holds : tie.Need-loop-holds Inv-loop μ-loop
 loop-holds c = start _ 0 _ (c .pre)
 
-add-bytes : tie.Need-add-bytes Inv-loop μ-loop
-add-bytes c = search needs
-
-cast-bytes : tie.Need-cast-bytes Inv-loop μ-loop
-cast-bytes c = search needs
-
 array-write-bytes : tie.Need-array-write-bytes Inv-loop μ-loop
 array-write-bytes c = omega (arith, inside (c .before .loop .inv), bytes-length (entry (search) .args .x))
 
 add-count : tie.Need-add-count Inv-loop μ-loop
 add-count c = omega (arith, inside (c .before .loop .inv), bytes-length (entry (search) .args .x))
 
-loop-less : tie.Need-loop-less Inv-loop μ-loop
-loop-less c = search needs
-
 loop-again : tie.Need-loop-again Inv-loop μ-loop
 loop-again c = turn (c .before .loop .inv) (c .loop-test .taken)
-
-cast-bytes-2 : tie.Need-cast-bytes-2 Inv-loop μ-loop
-cast-bytes-2 c = search needs
 
 array-write-bytes-2 : tie.Need-array-write-bytes-2 Inv-loop μ-loop
 array-write-bytes-2 c = omega (arith, inside (c .before .loop .inv), bytes-length (entry (search) .args .x))
@@ -57,13 +45,13 @@ number-spec =
     Inv-loop
     μ-loop
     loop-holds
-    add-bytes
-    cast-bytes
+    (λ c. search needs)
+    (λ c. search needs)
     array-write-bytes
     add-count
-    loop-less
+    (λ c. search needs)
     loop-again
-    cast-bytes-2
+    (λ c. search needs)
     array-write-bytes-2
     add-t15
     returns)

@@ -19,24 +19,6 @@ entry c = c
 abbrev after-put-on : tie.After-put-on → tie.After-put-on
 after-put-on c = c
 
-sub-t6 : tie.Need-sub-t6
-sub-t6 c = search needs
-
-put-on-requires : tie.Need-put-on-requires
-put-on-requires c κs = search needs
-
-add-t8 : tie.Need-add-t8
-add-t8 c = search needs
-
-sub-t9 : tie.Need-sub-t9
-sub-t9 c = search needs
-
-add-t10 : tie.Need-add-t10
-add-t10 c = search needs
-
-greater-requires : tie.Need-greater-requires
-greater-requires c κs = search needs
-
 returns : tie.Need-returns
 returns c =
     same (entry (search) .args .held) (entry (search) .args .pops) (entry (search) .args .popped) (entry (search) .args .update)
@@ -44,4 +26,5 @@ returns c =
 
 pub stepped-spec : {M : Type 1} → statement M
 stepped-spec =
-    tie.close (tie.spec sub-t6 put-on-requires add-t8 sub-t9 add-t10 greater-requires returns)
+    tie.close (tie.spec (λ c. search needs) (λ c κs. search needs) (λ c. search needs) (λ c. search needs) (λ c. search needs) (λ c κs. search needs)
+    returns)

@@ -7,15 +7,6 @@ use borrow.Author.Needs.{needs}
 use Rattle.held_updates.proofs.held_column.Statement.{statement}
 use Rattle.held_updates.proofs.held_column.Tie as tie
 
-sub-result : tie.Need-sub-result
-sub-result c = search needs
-
-mul-result : tie.Need-mul-result
-mul-result c = search needs
-
-shared-slice-read-result : tie.Need-shared-slice-read-result
-shared-slice-read-result c = search needs
-
 cast-result : tie.Need-cast-result
 cast-result c = omega (arith, c .shared-slice-known .given (c .before .args .place - 1))
 
@@ -24,4 +15,4 @@ returns c = (refl, c .before .pre .0 (c .before .args .place - 1) (omega arith))
 
 pub held-column-spec : {M : Type 1} → statement M
 held-column-spec =
-    tie.close (tie.spec sub-result mul-result shared-slice-read-result cast-result returns)
+    tie.close (tie.spec (λ c. search needs) (λ c. search needs) (λ c. search needs) cast-result returns)

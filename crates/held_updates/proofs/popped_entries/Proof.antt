@@ -26,9 +26,6 @@ at-loop c = c
 abbrev in-loop : tie.In-loop Inv-loop μ-loop → tie.In-loop Inv-loop μ-loop
 in-loop c = c
 
-sub-end : tie.Need-sub-end Inv-loop μ-loop
-sub-end c = search needs
-
 loop-holds : tie.Need-loop-holds Inv-loop μ-loop
 loop-holds c = added-start _ _ _ _ _ _ (entry (search) .pre .1 .1)
 
@@ -48,12 +45,6 @@ add-total c =
       popped-small _ _ _ (pre .0) (pre .1 .0) (entry (search) .args .pops),
     )
 
-sub-top : tie.Need-sub-top Inv-loop μ-loop
-sub-top c = search needs
-
-loop-less : tie.Need-loop-less Inv-loop μ-loop
-loop-less c = search needs
-
 loop-again : tie.Need-loop-again Inv-loop μ-loop
 loop-again c =
     added-next _ _ _ _ (at-loop (search) .loop .inv) (in-loop (search) .loop-test .taken) (c .before .held-column .ensures .0)
@@ -68,12 +59,12 @@ popped-entries-spec =
     (tie.spec
     Inv-loop
     μ-loop
-    sub-end
+    (λ c. search needs)
     loop-holds
     held-column-requires
     entries-of-requires
     add-total
-    sub-top
-    loop-less
+    (λ c. search needs)
+    (λ c. search needs)
     loop-again
     returns)

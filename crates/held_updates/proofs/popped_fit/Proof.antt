@@ -35,12 +35,6 @@ after-held-column c = c
 abbrev after-rows-of2 : tie.After-rows-of2 Inv-loop μ-loop → tie.After-rows-of2 Inv-loop μ-loop
 after-rows-of2 c = c
 
-rows-of-requires : tie.Need-rows-of-requires Inv-loop μ-loop
-rows-of-requires c κs = search needs
-
-sub-end : tie.Need-sub-end Inv-loop μ-loop
-sub-end c = search needs
-
 loop-holds : tie.Need-loop-holds Inv-loop μ-loop
 loop-holds c = looked-start _ _ _ _ _ _ _ (entry (search) .pre .1 .1 .0)
 
@@ -56,12 +50,6 @@ stands-in-requires c κs =
       rw (after-rows-of (search) .rows-of .ensures) (column-ascends (pre .0) (pre .1 .1 .1)),
       rw (c .rows-of2 .ensures) (column-ascends (pre .0) (c .before .held-column .ensures .1)),
     )
-
-sub-top : tie.Need-sub-top Inv-loop μ-loop
-sub-top c = search needs
-
-loop-less : tie.Need-loop-less Inv-loop μ-loop
-loop-less c = search needs
 
 loop-again : tie.Need-loop-again Inv-loop μ-loop
 loop-again c =
@@ -84,14 +72,14 @@ popped-fit-spec =
     (tie.spec
     Inv-loop
     μ-loop
-    rows-of-requires
-    sub-end
+    (λ c κs. search needs)
+    (λ c. search needs)
     loop-holds
     held-column-requires
     rows-of-requires-2
     stands-in-requires
-    sub-top
-    loop-less
+    (λ c. search needs)
+    (λ c. search needs)
     loop-again
     returns
     returns-2)

@@ -19,12 +19,6 @@ after-entries c = c
 abbrev after-held-column : tie.After-held-column → tie.After-held-column
 after-held-column c = c
 
-rows-of-requires : tie.Need-rows-of-requires
-rows-of-requires c κs = search needs
-
-add-entries : tie.Need-add-entries
-add-entries c = search needs
-
 entries-requires : tie.Need-entries-requires
 entries-requires c κs = front-fits (entry (search) .pre .0) (entry (search) .pre .1 .0) (entry (search) .pre .1 .1 .1) (c .rows-of .ensures)
 
@@ -38,12 +32,6 @@ returns c =
     let pre = entry (search) .pre in
     room-above (pre .0) (pre .1 .0) (pre .1 .1 .1) (after-rows-of (search) .rows-of .ensures) (after-entries (search) .entries .ensures)
     (c .before .if1 .taken)
-
-held-column-requires : tie.Need-held-column-requires
-held-column-requires c κs = search needs
-
-entries-of-requires : tie.Need-entries-of-requires
-entries-of-requires c κs = search needs
 
 sub-result : tie.Need-sub-result
 sub-result c =
@@ -65,13 +53,13 @@ pub room-in-use-spec : {M : Type 1} → statement M
 room-in-use-spec =
     tie.close
     (tie.spec
-    rows-of-requires
-    add-entries
+    (λ c κs. search needs)
+    (λ c. search needs)
     entries-requires
     add-result
     returns
-    held-column-requires
-    entries-of-requires
+    (λ c κs. search needs)
+    (λ c κs. search needs)
     sub-result
     add-result-2
     returns-2)

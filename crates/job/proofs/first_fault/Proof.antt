@@ -69,26 +69,14 @@ else3 c = c
 abbrev after-starts-fault : tie.After-starts-fault → tie.After-starts-fault
 after-starts-fault c = c
 
-answered-requires : tie.Need-answered-requires
-answered-requires c κs = search needs
-
 returns : tie.Need-returns
 returns c = answer-refused (columns-refuses _ (c .before .if1 .taken)) (c .answered .ensures)
-
-answered-requires-2 : tie.Need-answered-requires-2
-answered-requires-2 c κs = search needs
 
 returns-2 : tie.Need-returns-2
 returns-2 c = answer-refused (mark-refuses _ (else1 (search) .if1 .left) (c .before .if2 .taken)) (c .answered2 .ensures)
 
-answered-requires-3 : tie.Need-answered-requires-3
-answered-requires-3 c κs = search needs
-
 returns-3 : tie.Need-returns-3
 returns-3 c = answer-refused (limit-refuses _ (else1 (search) .if1 .left) (else2 (search) .if2 .left) (c .before .if3 .taken)) (c .answered3 .ensures)
-
-starts-fault-requires : tie.Need-starts-fault-requires
-starts-fault-requires c κs = search needs
 
 returns-4 : tie.Need-returns-4
 returns-4 c =
@@ -107,13 +95,13 @@ pub first-fault-spec : {M : Type 1} → statement M
 first-fault-spec =
     tie.close
     (tie.spec
-    answered-requires
+    (λ c κs. search needs)
     returns
-    answered-requires-2
+    (λ c κs. search needs)
     returns-2
-    answered-requires-3
+    (λ c κs. search needs)
     returns-3
-    starts-fault-requires
+    (λ c κs. search needs)
     returns-4
     rows-fault-requires
     returns-5)

@@ -38,47 +38,14 @@ in-rows c = c
 columns-holds : tie.Need-columns-holds Inv-rows μ-rows Inv-columns μ-columns
 columns-holds c = first-column (entry (search) .pre .1)
 
-add-j : tie.Need-add-j Inv-rows μ-rows Inv-columns μ-columns
-add-j c = search needs
-
-mul-i : tie.Need-mul-i Inv-rows μ-rows Inv-columns μ-columns
-mul-i c = search needs
-
-shared-slice-read-i : tie.Need-shared-slice-read-i Inv-rows μ-rows Inv-columns μ-columns
-shared-slice-read-i c = search needs
-
-mul-end : tie.Need-mul-end Inv-rows μ-rows Inv-columns μ-columns
-mul-end c = search needs
-
-shared-slice-read-end : tie.Need-shared-slice-read-end Inv-rows μ-rows Inv-columns μ-columns
-shared-slice-read-end c = search needs
-
 rows-holds : tie.Need-rows-holds Inv-rows μ-rows Inv-columns μ-columns
 rows-holds c = first-row (at-columns (search) .columns .inv) (in-columns (search) .columns-test .taken)
-
-mul-row : tie.Need-mul-row Inv-rows μ-rows Inv-columns μ-columns
-mul-row c = search needs
-
-shared-slice-read-row : tie.Need-shared-slice-read-row Inv-rows μ-rows Inv-columns μ-columns
-shared-slice-read-row c = search needs
 
 cast-row : tie.Need-cast-row Inv-rows μ-rows Inv-columns μ-columns
 cast-row c = omega (arith, c .shared-slice-known5 .given (at-rows (search) .rows .i))
 
-row-fault-requires : tie.Need-row-fault-requires Inv-rows μ-rows Inv-columns μ-columns
-row-fault-requires c κs = search needs
-
-add-i : tie.Need-add-i Inv-rows μ-rows Inv-columns μ-columns
-add-i c = search needs
-
-rows-less : tie.Need-rows-less Inv-rows μ-rows Inv-columns μ-columns
-rows-less c = search needs
-
 rows-again : tie.Need-rows-again Inv-rows μ-rows Inv-columns μ-columns
 rows-again c = next-row (at-rows (search) .rows .inv) _ (in-rows (search) .rows-test .taken) (c .before .row-fault .ensures) (c .if1 .left)
-
-columns-less : tie.Need-columns-less Inv-rows μ-rows Inv-columns μ-columns
-columns-less c = search needs
 
 columns-again : tie.Need-columns-again Inv-rows μ-rows Inv-columns μ-columns
 columns-again c =
@@ -101,20 +68,20 @@ rows-fault-spec =
     Inv-columns
     μ-columns
     columns-holds
-    add-j
-    mul-i
-    shared-slice-read-i
-    mul-end
-    shared-slice-read-end
+    (λ c. search needs)
+    (λ c. search needs)
+    (λ c. search needs)
+    (λ c. search needs)
+    (λ c. search needs)
     rows-holds
-    mul-row
-    shared-slice-read-row
+    (λ c. search needs)
+    (λ c. search needs)
     cast-row
-    row-fault-requires
-    add-i
-    rows-less
+    (λ c κs. search needs)
+    (λ c. search needs)
+    (λ c. search needs)
     rows-again
-    columns-less
+    (λ c. search needs)
     columns-again
     returns
     returns-2)

@@ -27,20 +27,8 @@ after-loop c = c
 abbrev in-loop : tie.In-loop Inv-loop μ-loop → tie.In-loop Inv-loop μ-loop
 in-loop c = c
 
-add-if1 : tie.Need-add-if1 Inv-loop μ-loop
-add-if1 c = search needs
-
-answered-requires : tie.Need-answered-requires Inv-loop μ-loop
-answered-requires c κs = search needs
-
 returns : tie.Need-returns Inv-loop μ-loop
 returns c = answer-refused (starts-few _ _ _ (c .before .if1 .taken)) (c .answered .ensures)
-
-shared-slice-read-if2 : tie.Need-shared-slice-read-if2 Inv-loop μ-loop
-shared-slice-read-if2 c = search needs
-
-answered-requires-2 : tie.Need-answered-requires-2 Inv-loop μ-loop
-answered-requires-2 c κs = search needs
 
 returns-2 : tie.Need-returns-2 Inv-loop μ-loop
 returns-2 c = answer-refused (starts-from _ _ _ (else1 (search) .if1 .left) (rw (start-at _ 0) (c .before .if2 .taken))) (c .answered2 .ensures)
@@ -48,55 +36,16 @@ returns-2 c = answer-refused (starts-from _ _ _ (else1 (search) .if1 .left) (rw 
 loop-holds : tie.Need-loop-holds Inv-loop μ-loop
 loop-holds c = begin _ (else1 (search) .if1 .left) (c .if2 .left)
 
-add-if3 : tie.Need-add-if3 Inv-loop μ-loop
-add-if3 c = search needs
-
-mul-if3 : tie.Need-mul-if3 Inv-loop μ-loop
-mul-if3 c = search needs
-
-shared-slice-read-if3 : tie.Need-shared-slice-read-if3 Inv-loop μ-loop
-shared-slice-read-if3 c = search needs
-
-mul-if3-2 : tie.Need-mul-if3-2 Inv-loop μ-loop
-mul-if3-2 c = search needs
-
-shared-slice-read-if3-2 : tie.Need-shared-slice-read-if3-2 Inv-loop μ-loop
-shared-slice-read-if3-2 c = search needs
-
-add-answered : tie.Need-add-answered Inv-loop μ-loop
-add-answered c = search needs
-
-answered-requires-3 : tie.Need-answered-requires-3 Inv-loop μ-loop
-answered-requires-3 c κs = search needs
-
 returns-3 : tie.Need-returns-3 Inv-loop μ-loop
 returns-3 c =
     answer-refused (fall (at-loop (search) .loop .inv) _ (in-loop (search) .loop-test .taken) (c .before .if3 .taken)) (c .answered3 .ensures)
 
-add-done : tie.Need-add-done Inv-loop μ-loop
-add-done c = search needs
-
-loop-less : tie.Need-loop-less Inv-loop μ-loop
-loop-less c = search needs
-
 loop-again : tie.Need-loop-again Inv-loop μ-loop
 loop-again c = next (at-loop (search) .loop .inv) (in-loop (search) .loop-test .taken) (c .if3 .left)
-
-mul-if4 : tie.Need-mul-if4 Inv-loop μ-loop
-mul-if4 c = search needs
-
-shared-slice-read-if4 : tie.Need-shared-slice-read-if4 Inv-loop μ-loop
-shared-slice-read-if4 c = search needs
-
-answered-requires-4 : tie.Need-answered-requires-4 Inv-loop μ-loop
-answered-requires-4 c κs = search needs
 
 returns-4 : tie.Need-returns-4 Inv-loop μ-loop
 returns-4 c =
     answer-refused (end (at-loop (search) .loop .inv) _ (after-loop (search) .loop-test .left) (c .before .if4 .taken)) (c .answered4 .ensures)
-
-answered-requires-5 : tie.Need-answered-requires-5 Inv-loop μ-loop
-answered-requires-5 c κs = search needs
 
 returns-5 : tie.Need-returns-5 Inv-loop μ-loop
 returns-5 c =
@@ -108,27 +57,27 @@ starts-fault-spec =
     (tie.spec
     Inv-loop
     μ-loop
-    add-if1
-    answered-requires
+    (λ c. search needs)
+    (λ c κs. search needs)
     returns
-    shared-slice-read-if2
-    answered-requires-2
+    (λ c. search needs)
+    (λ c κs. search needs)
     returns-2
     loop-holds
-    add-if3
-    mul-if3
-    shared-slice-read-if3
-    mul-if3-2
-    shared-slice-read-if3-2
-    add-answered
-    answered-requires-3
+    (λ c. search needs)
+    (λ c. search needs)
+    (λ c. search needs)
+    (λ c. search needs)
+    (λ c. search needs)
+    (λ c. search needs)
+    (λ c κs. search needs)
     returns-3
-    add-done
-    loop-less
+    (λ c. search needs)
+    (λ c. search needs)
     loop-again
-    mul-if4
-    shared-slice-read-if4
-    answered-requires-4
+    (λ c. search needs)
+    (λ c. search needs)
+    (λ c κs. search needs)
     returns-4
-    answered-requires-5
+    (λ c κs. search needs)
     returns-5)

@@ -13,18 +13,6 @@ use Rattle.kept_rows.proofs.keep_row.Tie as tie
 abbrev entry : tie.Start → tie.Start
 entry c = c
 
-narrow-requires : tie.Need-narrow-requires
-narrow-requires c κs = search needs
-
-mul-rows : tie.Need-mul-rows
-mul-rows c = search needs
-
-slice-write-rows : tie.Need-slice-write-rows
-slice-write-rows c = search needs
-
-same-length : tie.Need-same-length
-same-length c = search needs
-
 returns : tie.Need-returns
 returns c = ap (set (now (entry (search) .args .rows)) (entry (search) .args .i)) (c .narrow .ensures)
 
@@ -33,4 +21,4 @@ returns-2 c = sym (set-out (now (entry (search) .args .rows)) (entry (search) .a
 
 pub keep-row-spec : {M : Type 1} → statement M
 keep-row-spec =
-    tie.close (tie.spec narrow-requires mul-rows slice-write-rows same-length returns returns-2)
+    tie.close (tie.spec (λ c κs. search needs) (λ c. search needs) (λ c. search needs) (λ c. search needs) returns returns-2)

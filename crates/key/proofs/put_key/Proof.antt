@@ -87,9 +87,6 @@ write-lists-requires c κs =
       ),
     )
 
-same-length : tie.Need-same-length
-same-length c = search needs
-
 returns : tie.Need-returns
 returns c =
     let job = jobOf (start (search) .args .head) (start (search) .args .starts .now) (start (search) .args .rows .now) in
@@ -107,5 +104,5 @@ put-key-spec =
     put-requires-3
     put-requires-4
     write-lists-requires
-    same-length
+    (λ c. search needs)
     returns)

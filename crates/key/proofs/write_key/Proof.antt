@@ -25,20 +25,11 @@ after-put-key c = c
 abbrev after-finish : tie.After-finish → tie.After-finish
 after-finish c = c
 
-first-fault-requires : tie.Need-first-fault-requires
-first-fault-requires c κs = search needs
-
 returns : tie.Need-returns
 returns c = key-refused _ _ (after-first-fault (search) .first-fault .ensures) (c .if1 .taken) refl
 
 put-key-requires : tie.Need-put-key-requires
 put-key-requires c κs = job-answered _ (after-first-fault (search) .first-fault .ensures) (c .before .if1 .left)
-
-finish-requires : tie.Need-finish-requires
-finish-requires c κs = search needs
-
-same-length : tie.Need-same-length
-same-length c = search needs
 
 returns-2 : tie.Need-returns-2
 returns-2 c =
@@ -52,9 +43,9 @@ pub write-key-spec : {M : Type 1} → statement M
 write-key-spec =
     tie.close
     (tie.spec
-    first-fault-requires
+    (λ c κs. search needs)
     returns
     put-key-requires
-    finish-requires
-    same-length
+    (λ c κs. search needs)
+    (λ c. search needs)
     returns-2)

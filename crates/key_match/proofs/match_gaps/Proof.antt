@@ -36,14 +36,8 @@ matched c = c
 loop-holds : tie.Need-loop-holds Inv-loop μ-loop
 loop-holds c = (rows-all (entry (search) .pre .1), left-all (entry (search) .pre .0))
 
-mul-wide32 : tie.Need-mul-wide32 Inv-loop μ-loop
-mul-wide32 c = search needs
-
 shared-slice-read-wide32 : tie.Need-shared-slice-read-wide32 Inv-loop μ-loop
 shared-slice-read-wide32 c = let h = at-loop (search) .loop .inv .0 .inside in search needs
-
-wide32-requires : tie.Need-wide32-requires Inv-loop μ-loop
-wide32-requires c κs = search needs
 
 sub-match-number : tie.Need-sub-match-number Inv-loop μ-loop
 sub-match-number c = let h = row-above (at-loop (search) .loop .inv .0) (in-loop (search) .loop-test .taken) (c .wide32 .ensures .0) in omega arith
@@ -51,23 +45,11 @@ sub-match-number c = let h = row-above (at-loop (search) .loop .inv .0) (in-loop
 match-number-requires : tie.Need-match-number-requires Inv-loop μ-loop
 match-number-requires c κs = let h = c .wide32 .ensures .1 in (omega arith, at-loop (search) .loop .inv .1 .inside)
 
-enum-known-place : tie.Need-enum-known-place Inv-loop μ-loop
-enum-known-place c = search needs
-
 returns : tie.Need-returns Inv-loop μ-loop
 returns c =
     let (rows, found) = at-loop (search) .loop .inv in
     differs-number found (gaps-next rows (in-loop (search) .loop-test .taken) (after-wide32 (search) .wide32 .ensures .0))
     (matched (search) .match-number .ensures) (c .before .place .given .1)
-
-enum-known-next : tie.Need-enum-known-next Inv-loop μ-loop
-enum-known-next c = search needs
-
-add-i : tie.Need-add-i Inv-loop μ-loop
-add-i c = search needs
-
-loop-less : tie.Need-loop-less Inv-loop μ-loop
-loop-less c = search needs
 
 loop-again : tie.Need-loop-again Inv-loop μ-loop
 loop-again c =
@@ -88,15 +70,15 @@ match-gaps-spec =
     Inv-loop
     μ-loop
     loop-holds
-    mul-wide32
+    (λ c. search needs)
     shared-slice-read-wide32
-    wide32-requires
+    (λ c κs. search needs)
     sub-match-number
     match-number-requires
-    enum-known-place
+    (λ c. search needs)
     returns
-    enum-known-next
-    add-i
-    loop-less
+    (λ c. search needs)
+    (λ c. search needs)
+    (λ c. search needs)
     loop-again
     returns-2)

@@ -41,12 +41,6 @@ number-requires c κs = c .before .pre .0
 loop-holds : tie.Need-loop-holds Inv-loop μ-loop
 loop-holds c = bytes-start _ _ _ (entry (search) .pre .1)
 
-add-k : tie.Need-add-k Inv-loop μ-loop
-add-k c = search needs
-
-add-place : tie.Need-add-place Inv-loop μ-loop
-add-place c = search needs
-
 returns : tie.Need-returns Inv-loop μ-loop
 returns c =
     let n = after-number (search) .number .ensures .1 in
@@ -69,12 +63,6 @@ returns-2 c =
     bytes-other (at-loop (search) .loop .inv) h (else1 (search) .if1 .left)
     (λ e. c .if2 .taken (e ∙ sym (array-byte (bytesOf x) maxGroups _ stored (bytes-length x .1) h)))
 
-add-i : tie.Need-add-i Inv-loop μ-loop
-add-i c = search needs
-
-loop-less : tie.Need-loop-less Inv-loop μ-loop
-loop-less c = search needs
-
 loop-again : tie.Need-loop-again Inv-loop μ-loop
 loop-again c =
     let x = entry (search) .args .x in
@@ -83,9 +71,6 @@ loop-again c =
     let h : at-loop (search) .loop .i < length (bytesOf x) = omega arith in
     bytes-turn (at-loop (search) .loop .inv) h (else1 (search) .if1 .left) (c .if2 .left ∙ array-byte (bytesOf x) maxGroups _ stored
     (bytes-length x .1) h)
-
-add-t18 : tie.Need-add-t18 Inv-loop μ-loop
-add-t18 c = search needs
 
 returns-3 : tie.Need-returns-3 Inv-loop μ-loop
 returns-3 c = let n = after-number (search) .number .ensures .1 in let t = c .loop-test .left in bytes-stop (c .before .loop .inv) (omega arith)
@@ -98,14 +83,14 @@ match-groups-spec =
     μ-loop
     number-requires
     loop-holds
-    add-k
-    add-place
+    (λ c. search needs)
+    (λ c. search needs)
     returns
     shared-slice-read-if2
     array-read-if2
     returns-2
-    add-i
-    loop-less
+    (λ c. search needs)
+    (λ c. search needs)
     loop-again
-    add-t18
+    (λ c. search needs)
     returns-3)

@@ -32,17 +32,11 @@ match-two-requires c κs =
     let fit = numbers-fit job (passes-iff job .0 (entry (search) .pre)) in
     (omega arith, fit .0, omega arith)
 
-enum-known-place : tie.Need-enum-known-place
-enum-known-place c = search needs
-
 returns : tie.Need-returns
 returns c =
     let lent = entry (search) .args in
     let job = jobOf (lent .head) (lent .starts .now) (lent .rows .now) in
     size-differs job _ (after-match-two (search) .match-two .ensures) (c .before .place .given .1)
-
-enum-known-middle : tie.Need-enum-known-middle
-enum-known-middle c = search needs
 
 match-two-requires-2 : tie.Need-match-two-requires-2
 match-two-requires-2 c κs =
@@ -51,18 +45,12 @@ match-two-requires-2 c κs =
     let fit = numbers-fit job (passes-iff job .0 (entry (search) .pre)) in
     (fit .1, fit .2, behind-size job _ (after-match-two (search) .match-two .ensures) (c .before .middle .given .1) .inside)
 
-enum-known-place-2 : tie.Need-enum-known-place-2
-enum-known-place-2 c = search needs
-
 returns-2 : tie.Need-returns-2
 returns-2 c =
     let lent = entry (search) .args in
     let job = jobOf (lent .head) (lent .starts .now) (lent .rows .now) in
     mark-differs job _ (after-match-two (search) .match-two .ensures) (after-middle (search) .middle .given .1)
     (after-match-two2 (search) .match-two2 .ensures) (c .before .place2 .given .1)
-
-enum-known-next : tie.Need-enum-known-next
-enum-known-next c = search needs
 
 match-lists-requires : tie.Need-match-lists-requires
 match-lists-requires c κs =
@@ -87,12 +75,12 @@ match-key-spec =
     tie.close
     (tie.spec
     match-two-requires
-    enum-known-place
+    (λ c. search needs)
     returns
-    enum-known-middle
+    (λ c. search needs)
     match-two-requires-2
-    enum-known-place-2
+    (λ c. search needs)
     returns-2
-    enum-known-next
+    (λ c. search needs)
     match-lists-requires
     returns-3)

@@ -16,22 +16,10 @@ matched c = c
 abbrev after-next : tie.After-next → tie.After-next
 after-next c = c
 
-sub-match-number : tie.Need-sub-match-number
-sub-match-number c = search needs
-
-match-number-requires : tie.Need-match-number-requires
-match-number-requires c κs = search needs
-
-enum-known-place : tie.Need-enum-known-place
-enum-known-place c = search needs
-
 returns : tie.Need-returns
 returns c =
     let (inside, list) = entry (search) .pre in
     differs-number (left-all inside) (list-is list) (matched (search) .match-number .ensures) (c .before .place .given .1)
-
-enum-known-next : tie.Need-enum-known-next
-enum-known-next c = search needs
 
 match-gaps-requires : tie.Need-match-gaps-requires
 match-gaps-requires c κs =
@@ -48,10 +36,10 @@ pub match-list-spec : {M : Type 1} → statement M
 match-list-spec =
     tie.close
     (tie.spec
-    sub-match-number
-    match-number-requires
-    enum-known-place
+    (λ c. search needs)
+    (λ c κs. search needs)
+    (λ c. search needs)
     returns
-    enum-known-next
+    (λ c. search needs)
     match-gaps-requires
     returns-2)

@@ -1,4 +1,5 @@
--- The loop's invariant: the lists of the first `done` columns are there, so those left are held against what follows at k. The measure is the columns left.
+-- The loop's invariant: the lists of the first `done` columns are there, so those left are held against what follows at k. The measure is the columns
+-- left.
 -- Assumes nothing.
 use Prim.Native.Nat.{ℕ, _-_, _≤_}
 use mathlib.Core.List.{List}
@@ -42,46 +43,16 @@ loop-holds c =
     let p = entry (search) .pre in
     record { few = p .1 .0; lists = lists-iff _ _ _ .0 (p .1 .1 .0, p .1 .1 .1); matched = left-all (p .0) }
 
-mul-match-list : tie.Need-mul-match-list Inv-loop μ-loop
-mul-match-list c = search needs
-
-shared-slice-read-match-list : tie.Need-shared-slice-read-match-list Inv-loop μ-loop
-shared-slice-read-match-list c = search needs
-
-add-match-list : tie.Need-add-match-list Inv-loop μ-loop
-add-match-list c = search needs
-
-mul-match-list-2 : tie.Need-mul-match-list-2 Inv-loop μ-loop
-mul-match-list-2 c = search needs
-
-shared-slice-read-match-list-2 : tie.Need-shared-slice-read-match-list-2 Inv-loop μ-loop
-shared-slice-read-match-list-2 c = search needs
-
-add-match-list-2 : tie.Need-add-match-list-2 Inv-loop μ-loop
-add-match-list-2 c = search needs
-
 match-list-requires : tie.Need-match-list-requires Inv-loop μ-loop
 match-list-requires c κs =
     let l = at-loop (search) .loop .inv in
     (l .matched .inside, column-list (l .few) (l .lists) (in-loop (search) .loop-test .taken))
-
-enum-known-place : tie.Need-enum-known-place Inv-loop μ-loop
-enum-known-place c = search needs
 
 returns : tie.Need-returns Inv-loop μ-loop
 returns c =
     let l = at-loop (search) .loop .inv in
     differs-numbers (l .matched) _ _ (numbers-next (l .few) (l .lists) (in-loop (search) .loop-test .taken))
     (after-match-list (search) .match-list .ensures) (c .before .place .given .1)
-
-enum-known-next : tie.Need-enum-known-next Inv-loop μ-loop
-enum-known-next c = search needs
-
-add-done : tie.Need-add-done Inv-loop μ-loop
-add-done c = search needs
-
-loop-less : tie.Need-loop-less Inv-loop μ-loop
-loop-less c = search needs
 
 loop-again : tie.Need-loop-again Inv-loop μ-loop
 loop-again c =
@@ -105,17 +76,17 @@ match-lists-spec =
     Inv-loop
     μ-loop
     loop-holds
-    mul-match-list
-    shared-slice-read-match-list
-    add-match-list
-    mul-match-list-2
-    shared-slice-read-match-list-2
-    add-match-list-2
+    (λ c. search needs)
+    (λ c. search needs)
+    (λ c. search needs)
+    (λ c. search needs)
+    (λ c. search needs)
+    (λ c. search needs)
     match-list-requires
-    enum-known-place
+    (λ c. search needs)
     returns
-    enum-known-next
-    add-done
-    loop-less
+    (λ c. search needs)
+    (λ c. search needs)
+    (λ c. search needs)
     loop-again
     returns-2)

@@ -13,25 +13,10 @@ then1 c = c
 abbrev then2 : tie.Then2 → tie.Then2
 then2 c = c
 
-shared-slice-read-wide8 : tie.Need-shared-slice-read-wide8
-shared-slice-read-wide8 c = search needs
-
-wide8-requires : tie.Need-wide8-requires
-wide8-requires c κs = search needs
-
-add-t11 : tie.Need-add-t11
-add-t11 c = search needs
-
 returns : tie.Need-returns
 returns c = one-byte _ _ _ (then2 (search) .if2 .taken) (then1 (search) .if1 .taken) (sym (c .before .wide8 .ensures .0) ∙ c .if3 .taken)
-
-match-groups-requires : tie.Need-match-groups-requires
-match-groups-requires c κs = search needs
-
-returns-2 : tie.Need-returns-2
-returns-2 c = search needs
 
 pub match-number-spec : {M : Type 1} → statement M
 match-number-spec =
     tie.close
-    (tie.spec shared-slice-read-wide8 wide8-requires add-t11 returns match-groups-requires returns-2)
+    (tie.spec (λ c. search needs) (λ c κs. search needs) (λ c. search needs) returns (λ c κs. search needs) (λ c. search needs))

@@ -18,17 +18,8 @@ matched c = c
 abbrev after-next : tie.After-next → tie.After-next
 after-next c = c
 
-match-number-requires : tie.Need-match-number-requires
-match-number-requires c κs = search needs
-
-enum-known-place : tie.Need-enum-known-place
-enum-known-place c = search needs
-
 returns : tie.Need-returns
 returns c = differs-number (left-all (entry (search) .pre .2)) refl (matched (search) .match-number .ensures) (c .before .place .given .1)
-
-enum-known-next : tie.Need-enum-known-next
-enum-known-next c = search needs
 
 match-number-requires-2 : tie.Need-match-number-requires-2
 match-number-requires-2 c κs = (
@@ -46,9 +37,9 @@ pub match-two-spec : {M : Type 1} → statement M
 match-two-spec =
     tie.close
     (tie.spec
-    match-number-requires
-    enum-known-place
+    (λ c κs. search needs)
+    (λ c. search needs)
     returns
-    enum-known-next
+    (λ c. search needs)
     match-number-requires-2
     returns-2)

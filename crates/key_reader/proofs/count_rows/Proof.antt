@@ -39,22 +39,10 @@ read-list-requires : tie.Need-read-list-requires Inv-loop μ-loop
 read-list-requires c κs =
     (at-loop (search) .loop .inv .inside, entry (search) .pre .1, c .before .loop-test .taken, at-loop (search) .loop .inv .paced)
 
-enum-known-number : tie.Need-enum-known-number Inv-loop μ-loop
-enum-known-number c = search needs
-
 returns : tie.Need-returns Inv-loop μ-loop
 returns c =
     refuses _ _ (lists-fault (at-loop (search) .loop .inv) (in-loop (search) .loop-test .taken) (read (search) .read-list .ensures)
     (c .before .number .given .1)) refl
-
-enum-known-value : tie.Need-enum-known-value Inv-loop μ-loop
-enum-known-value c = search needs
-
-add-j : tie.Need-add-j Inv-loop μ-loop
-add-j c = search needs
-
-loop-less : tie.Need-loop-less Inv-loop μ-loop
-loop-less c = search needs
 
 loop-again : tie.Need-loop-again Inv-loop μ-loop
 loop-again c =
@@ -73,10 +61,10 @@ count-rows-spec =
     loop-holds
     slice-aggregate-read-list
     read-list-requires
-    enum-known-number
+    (λ c. search needs)
     returns
-    enum-known-value
-    add-j
-    loop-less
+    (λ c. search needs)
+    (λ c. search needs)
+    (λ c. search needs)
     loop-again
     returns-2)

@@ -19,31 +19,19 @@ after-read-field2 c = c
 abbrev after-n : tie.After-n → tie.After-n
 after-n c = c
 
-read-field-requires : tie.Need-read-field-requires
-read-field-requires c κs = search needs
-
 enum-told : tie.Need-enum-told
 enum-told c = search needs
 
 returns : tie.Need-returns
 returns c = no-edition _ (field-refused _ _ _ _ (after-read-field (search) .read-field .ensures) (c .enum-told .given .1))
 
-enum-known-middle : tie.Need-enum-known-middle
-enum-known-middle c = search needs
-
 read-field-requires-2 : tie.Need-read-field-requires-2
 read-field-requires-2 c κs = field-found _ _ _ _ (after-read-field (search) .read-field .ensures) (c .before .middle .given .1) .1 .inside
-
-enum-told-2 : tie.Need-enum-told-2
-enum-told-2 c = search needs
 
 returns-2 : tie.Need-returns-2
 returns-2 c =
     no-columns _ (field-found _ _ _ _ (after-read-field (search) .read-field .ensures) (after-middle (search) .middle .given .1) .0)
     (field-refused _ _ _ _ (after-read-field2 (search) .read-field2 .ensures) (c .enum-told2 .given .1))
-
-enum-known-n : tie.Need-enum-known-n
-enum-known-n c = search needs
 
 read-mark-requires : tie.Need-read-mark-requires
 read-mark-requires c κs = field-found _ _ _ _ (after-read-field2 (search) .read-field2 .ensures) (c .before .n .given .1) .1 .inside
@@ -57,13 +45,13 @@ pub read-head-spec : {M : Type 1} → statement M
 read-head-spec =
     tie.close
     (tie.spec
-    read-field-requires
+    (λ c κs. search needs)
     enum-told
     returns
-    enum-known-middle
+    (λ c. search needs)
     read-field-requires-2
-    enum-told-2
+    (λ c. search needs)
     returns-2
-    enum-known-n
+    (λ c. search needs)
     read-mark-requires
     returns-3)

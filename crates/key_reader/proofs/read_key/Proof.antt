@@ -20,32 +20,20 @@ counted c = c
 abbrev after-rows : tie.After-rows → tie.After-rows
 after-rows c = c
 
-read-head-requires : tie.Need-read-head-requires
-read-head-requires c κs = search needs
-
 enum-told : tie.Need-enum-told
 enum-told c = search needs
 
 returns : tie.Need-returns
 returns c = let (number, place, e) = head-faulty _ (read (search) .read-head .ensures) (c .enum-told .given .1) in no-head _ e
 
-enum-known-head : tie.Need-enum-known-head
-enum-known-head c = search needs
-
 count-rows-requires : tie.Need-count-rows-requires
 count-rows-requires c κs =
     let (few, inside) = head-fits _ _ _ (head-found _ (read (search) .read-head .ensures) (c .before .head .given .1)) in (inside, few)
-
-enum-told-2 : tie.Need-enum-told-2
-enum-told-2 c = search needs
 
 returns-2 : tie.Need-returns-2
 returns-2 c =
     no-lists _ (head-found _ (read (search) .read-head .ensures) (after-head (search) .head .given .1))
     (told-refused (counted (search) .count-rows .ensures) (c .enum-told2 .given .1))
-
-enum-known-rows : tie.Need-enum-known-rows
-enum-known-rows c = search needs
 
 returns-3 : tie.Need-returns-3
 returns-3 c =
@@ -61,13 +49,13 @@ pub read-key-spec : {M : Type 1} → statement M
 read-key-spec =
     tie.close
     (tie.spec
-    read-head-requires
+    (λ c κs. search needs)
     enum-told
     returns
-    enum-known-head
+    (λ c. search needs)
     count-rows-requires
-    enum-told-2
+    (λ c. search needs)
     returns-2
-    enum-known-rows
+    (λ c. search needs)
     returns-3
     returns-4)

@@ -16,31 +16,19 @@ after-mark c = c
 abbrev after-read-field2 : tie.After-read-field2 → tie.After-read-field2
 after-read-field2 c = c
 
-read-field-requires : tie.Need-read-field-requires
-read-field-requires c κs = search needs
-
 enum-told : tie.Need-enum-told
 enum-told c = search needs
 
 returns : tie.Need-returns
 returns c = no-mark _ _ _ (field-refused _ _ _ _ (after-read-field (search) .read-field .ensures) (c .enum-told .given .1))
 
-enum-known-mark : tie.Need-enum-known-mark
-enum-known-mark c = search needs
-
 read-field-requires-2 : tie.Need-read-field-requires-2
 read-field-requires-2 c κs = field-found _ _ _ _ (after-read-field (search) .read-field .ensures) (c .before .mark .given .1) .1 .inside
-
-enum-told-2 : tie.Need-enum-told-2
-enum-told-2 c = search needs
 
 returns-2 : tie.Need-returns-2
 returns-2 c =
     no-limit _ _ _ (field-found _ _ _ _ (after-read-field (search) .read-field .ensures) (after-mark (search) .mark .given .1) .0)
     (field-refused _ _ _ _ (after-read-field2 (search) .read-field2 .ensures) (c .enum-told2 .given .1))
-
-enum-known-limit : tie.Need-enum-known-limit
-enum-known-limit c = search needs
 
 returns-3 : tie.Need-returns-3
 returns-3 c =
@@ -51,12 +39,12 @@ pub read-mark-spec : {M : Type 1} → statement M
 read-mark-spec =
     tie.close
     (tie.spec
-    read-field-requires
+    (λ c κs. search needs)
     enum-told
     returns
-    enum-known-mark
+    (λ c. search needs)
     read-field-requires-2
-    enum-told-2
+    (λ c. search needs)
     returns-2
-    enum-known-limit
+    (λ c. search needs)
     returns-3)

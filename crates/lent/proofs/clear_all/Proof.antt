@@ -24,42 +24,6 @@ after-clear324 c = c
 abbrev after-clear642 : tie.After-clear642 → tie.After-clear642
 after-clear642 c = c
 
-clear32-requires : tie.Need-clear32-requires
-clear32-requires c κs = search needs
-
-clear32-requires-2 : tie.Need-clear32-requires-2
-clear32-requires-2 c κs = search needs
-
-clear32-requires-3 : tie.Need-clear32-requires-3
-clear32-requires-3 c κs = search needs
-
-clear64-requires : tie.Need-clear64-requires
-clear64-requires c κs = search needs
-
-clear32-requires-4 : tie.Need-clear32-requires-4
-clear32-requires-4 c κs = search needs
-
-clear64-requires-2 : tie.Need-clear64-requires-2
-clear64-requires-2 c κs = search needs
-
-same-length : tie.Need-same-length
-same-length c = search needs
-
-same-length-2 : tie.Need-same-length-2
-same-length-2 c = search needs
-
-same-length-3 : tie.Need-same-length-3
-same-length-3 c = search needs
-
-same-length-4 : tie.Need-same-length-4
-same-length-4 c = search needs
-
-same-length-5 : tie.Need-same-length-5
-same-length-5 c = search needs
-
-same-length-6 : tie.Need-same-length-6
-same-length-6 c = search needs
-
 returns : tie.Need-returns
 returns c =
     all-cleared _ _ _ _ _ _ (after-clear32 (search) .clear32 .ensures) (after-clear322 (search) .clear322 .ensures)
@@ -70,16 +34,16 @@ pub clear-all-spec : {M : Type 1} → statement M
 clear-all-spec =
     tie.close
     (tie.spec
-    clear32-requires
-    clear32-requires-2
-    clear32-requires-3
-    clear64-requires
-    clear32-requires-4
-    clear64-requires-2
-    same-length
-    same-length-2
-    same-length-3
-    same-length-4
-    same-length-5
-    same-length-6
+    (λ c κs. search needs)
+    (λ c κs. search needs)
+    (λ c κs. search needs)
+    (λ c κs. search needs)
+    (λ c κs. search needs)
+    (λ c κs. search needs)
+    (λ c. search needs)
+    (λ c. search needs)
+    (λ c. search needs)
+    (λ c. search needs)
+    (λ c. search needs)
+    (λ c. search needs)
     returns)

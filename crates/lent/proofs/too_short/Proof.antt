@@ -21,17 +21,8 @@ returns-2 c = short-order _ _ _ _ _ _ (c .before .if1 .left) (c .if2 .taken)
 returns-3 : tie.Need-returns-3
 returns-3 c = short-pops _ _ _ _ _ _ (else1 (search) .if1 .left) (c .before .if2 .left) (c .if3 .taken)
 
-add-if4 : tie.Need-add-if4
-add-if4 c = search needs
-
 returns-4 : tie.Need-returns-4
 returns-4 c = short-starts _ _ _ _ _ _ (else1 (search) .if1 .left) (else2 (search) .if2 .left) (c .before .if3 .left) (c .if4 .taken)
-
-mul-result : tie.Need-mul-result
-mul-result c = search needs
-
-add-result : tie.Need-add-result
-add-result c = search needs
 
 returns-5 : tie.Need-returns-5
 returns-5 c = short-work _ _ _ _ _ _ (else1 (search) .if1 .left) (else2 (search) .if2 .left) (c .before .if3 .left) (c .if4 .left)
@@ -39,4 +30,4 @@ returns-5 c = short-work _ _ _ _ _ _ (else1 (search) .if1 .left) (else2 (search)
 pub too-short-spec : {M : Type 1} → statement M
 too-short-spec =
     tie.close
-    (tie.spec returns returns-2 returns-3 add-if4 returns-4 mul-result add-result returns-5)
+    (tie.spec returns returns-2 returns-3 (λ c. search needs) returns-4 (λ c. search needs) (λ c. search needs) returns-5)

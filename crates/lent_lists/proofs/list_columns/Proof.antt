@@ -41,14 +41,8 @@ entry₂ c = search
 abbrev after-column-lists₂ : tie.Else1 → tie.After-column-lists
 after-column-lists₂ c = search
 
-slice-relend-prefix-column-lists : tie.Need-slice-relend-prefix-column-lists
-slice-relend-prefix-column-lists c = search needs
-
 slice-aggregate-column-lists : tie.Need-slice-aggregate-column-lists
 slice-aggregate-column-lists c = part-long _ _ (entry (search) .pre .1 .order)
-
-slice-relend-prefix-column-lists-2 : tie.Need-slice-relend-prefix-column-lists-2
-slice-relend-prefix-column-lists-2 c = search needs
 
 slice-aggregate-column-lists-2 : tie.Need-slice-aggregate-column-lists-2
 slice-aggregate-column-lists-2 c = part-long _ _ (entry (search) .pre .1 .pops)
@@ -56,44 +50,14 @@ slice-aggregate-column-lists-2 c = part-long _ _ (entry (search) .pre .1 .pops)
 column-lists-requires : tie.Need-column-lists-requires
 column-lists-requires c κs = (entry (search) .pre .0, listing-lengths (entry (search) .pre .1))
 
-same-length : tie.Need-same-length
-same-length c = search needs
-
-same-length-2 : tie.Need-same-length-2
-same-length-2 c = search needs
-
-same-length-3 : tie.Need-same-length-3
-same-length-3 c = search needs
-
-same-length-4 : tie.Need-same-length-4
-same-length-4 c = search needs
-
-same-length-5 : tie.Need-same-length-5
-same-length-5 c = search needs
-
-same-length-6 : tie.Need-same-length-6
-same-length-6 c = search needs
-
 returns : tie.Need-returns
 returns c = some-listed (entry (search) .pre .1) (after-column-lists (search) .column-lists .ensures) (c .if1 .taken)
-
-mul-last : tie.Need-mul-last
-mul-last c = search needs
-
-slice-read-last : tie.Need-slice-read-last
-slice-read-last c = search needs
-
-clear32-from-requires : tie.Need-clear32-from-requires
-clear32-from-requires c κs = search needs
-
-clear32-from-requires-2 : tie.Need-clear32-from-requires-2
-clear32-from-requires-2 c κs = search needs
 
 clear32-from-requires-3 : tie.Need-clear32-from-requires-3
 clear32-from-requires-3 c κs =
     let k = front-anew (entry₁ (search) .args .n) (entry₁ (search) .args .pops .now)
     (after-column-lists (search) .column-lists .last .1 .1 .1 .1 .1 .1 .1 .0)
-    (after-column-lists (search) .column-lists .kept .1 .1 .1 .1 .1 .1 .1 .0) in
+    (omega (arith, after-column-lists (search) .column-lists .kept)) in
     let l = entry₁ (search) .pre .1 .pops in omega arith
 
 add-clear64-from : tie.Need-add-clear64-from
@@ -101,28 +65,10 @@ add-clear64-from c = omega (arith, entry₁ (search) .pre .0 .few)
 
 clear64-from-requires : tie.Need-clear64-from-requires
 clear64-from-requires c κs =
-    let k = after-column-lists (search) .column-lists .kept .1 .1 .1 .1 .0 in let l = entry₁ (search) .pre .1 .starts in omega arith
+    let k = after-column-lists (search) .column-lists .kept in let l = entry₁ (search) .pre .1 .starts in omega arith
 
 clear32-from-requires-4 : tie.Need-clear32-from-requires-4
 clear32-from-requires-4 c κs = last-fits (entry₂ (search) .pre .1) (after-column-lists₂ (search) .column-lists .ensures) (else1 (search) .if1 .left)
-
-same-length-7 : tie.Need-same-length-7
-same-length-7 c = search needs
-
-same-length-8 : tie.Need-same-length-8
-same-length-8 c = search needs
-
-same-length-9 : tie.Need-same-length-9
-same-length-9 c = search needs
-
-same-length-10 : tie.Need-same-length-10
-same-length-10 c = search needs
-
-same-length-11 : tie.Need-same-length-11
-same-length-11 c = search needs
-
-same-length-12 : tie.Need-same-length-12
-same-length-12 c = search needs
 
 returns-2 : tie.Need-returns-2
 returns-2 c =
@@ -137,30 +83,30 @@ pub list-columns-spec : {M : Type 1} → statement M
 list-columns-spec =
     tie.close
     (tie.spec
-    slice-relend-prefix-column-lists
+    (λ c. search needs)
     slice-aggregate-column-lists
-    slice-relend-prefix-column-lists-2
+    (λ c. search needs)
     slice-aggregate-column-lists-2
     column-lists-requires
-    same-length
-    same-length-2
-    same-length-3
-    same-length-4
-    same-length-5
-    same-length-6
+    (λ c. search needs)
+    (λ c. search needs)
+    (λ c. search needs)
+    (λ c. search needs)
+    (λ c. search needs)
+    (λ c. search needs)
     returns
-    mul-last
-    slice-read-last
-    clear32-from-requires
-    clear32-from-requires-2
+    (λ c. search needs)
+    (λ c. search needs)
+    (λ c κs. search needs)
+    (λ c κs. search needs)
     clear32-from-requires-3
     add-clear64-from
     clear64-from-requires
     clear32-from-requires-4
-    same-length-7
-    same-length-8
-    same-length-9
-    same-length-10
-    same-length-11
-    same-length-12
+    (λ c. search needs)
+    (λ c. search needs)
+    (λ c. search needs)
+    (λ c. search needs)
+    (λ c. search needs)
+    (λ c. search needs)
     returns-2)

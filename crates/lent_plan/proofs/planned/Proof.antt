@@ -44,22 +44,22 @@ rows-needed-requires c κs =
     )
 
 same-length : tie.Need-same-length
-same-length c = after-rows-needed (search) .rows-needed .kept .1 .1 .1 .0 ∙ listed (search) .list-columns .kept .1 .1 .1 .0
+same-length c = omega (arith, after-rows-needed (search) .rows-needed .kept, listed (search) .list-columns .kept)
 
 same-length-2 : tie.Need-same-length-2
-same-length-2 c = listed (search) .list-columns .kept .1 .1 .1 .1 .0
+same-length-2 c = omega (arith, listed (search) .list-columns .kept)
 
 same-length-3 : tie.Need-same-length-3
-same-length-3 c = listed (search) .list-columns .kept .1 .1 .1 .1 .1 .0
+same-length-3 c = omega (arith, listed (search) .list-columns .kept)
 
 same-length-4 : tie.Need-same-length-4
-same-length-4 c = listed (search) .list-columns .kept .1 .1 .1 .1 .1 .1 .0
+same-length-4 c = omega (arith, listed (search) .list-columns .kept)
 
 same-length-5 : tie.Need-same-length-5
-same-length-5 c = listed (search) .list-columns .kept .1 .1 .1 .1 .1 .1 .1 .0
+same-length-5 c = omega (arith, listed (search) .list-columns .kept)
 
 same-length-6 : tie.Need-same-length-6
-same-length-6 c = after-rows-needed (search) .rows-needed .kept .1 .1 .1 .1 .0 ∙ listed (search) .list-columns .kept .1 .1 .1 .1 .1 .1 .1 .1 .0
+same-length-6 c = omega (arith, after-rows-needed (search) .rows-needed .kept, listed (search) .list-columns .kept)
 
 returns : tie.Need-returns
 returns c =
@@ -86,22 +86,22 @@ order-columns-requires c κs =
     }) (else1 (search) .if1 .left)
 
 same-length-7 : tie.Need-same-length-7
-same-length-7 c = listed (search) .list-columns .kept .1 .1 .1 .0
+same-length-7 c = omega (arith, listed (search) .list-columns .kept)
 
 same-length-8 : tie.Need-same-length-8
-same-length-8 c = ordered (search) .order-columns .kept .1 .1 .1 .0 ∙ listed (search) .list-columns .kept .1 .1 .1 .1 .0
+same-length-8 c = omega (arith, ordered (search) .order-columns .kept, listed (search) .list-columns .kept)
 
 same-length-9 : tie.Need-same-length-9
-same-length-9 c = ordered (search) .order-columns .kept .1 .1 .1 .1 .0 ∙ listed (search) .list-columns .kept .1 .1 .1 .1 .1 .0
+same-length-9 c = omega (arith, ordered (search) .order-columns .kept, listed (search) .list-columns .kept)
 
 same-length-10 : tie.Need-same-length-10
-same-length-10 c = listed (search) .list-columns .kept .1 .1 .1 .1 .1 .1 .0
+same-length-10 c = omega (arith, listed (search) .list-columns .kept)
 
 same-length-11 : tie.Need-same-length-11
-same-length-11 c = listed (search) .list-columns .kept .1 .1 .1 .1 .1 .1 .1 .0
+same-length-11 c = omega (arith, listed (search) .list-columns .kept)
 
 same-length-12 : tie.Need-same-length-12
-same-length-12 c = ordered (search) .order-columns .kept .1 .1 .1 .1 .1 .1 .0 ∙ listed (search) .list-columns .kept .1 .1 .1 .1 .1 .1 .1 .1 .0
+same-length-12 c = omega (arith, ordered (search) .order-columns .kept, listed (search) .list-columns .kept)
 
 returns-2 : tie.Need-returns-2
 returns-2 c =
@@ -116,22 +116,22 @@ returns-2 c =
     }) (else1 (search) .if1 .left) (ordered (search) .order-columns .ensures) (c .if2 .taken)
 
 same-length-13 : tie.Need-same-length-13
-same-length-13 c = listed (search) .list-columns .kept .1 .1 .1 .0
+same-length-13 c = omega (arith, listed (search) .list-columns .kept)
 
 same-length-14 : tie.Need-same-length-14
-same-length-14 c = ordered (search) .order-columns .kept .1 .1 .1 .0 ∙ listed (search) .list-columns .kept .1 .1 .1 .1 .0
+same-length-14 c = omega (arith, ordered (search) .order-columns .kept, listed (search) .list-columns .kept)
 
 same-length-15 : tie.Need-same-length-15
-same-length-15 c = ordered (search) .order-columns .kept .1 .1 .1 .1 .0 ∙ listed (search) .list-columns .kept .1 .1 .1 .1 .1 .0
+same-length-15 c = omega (arith, ordered (search) .order-columns .kept, listed (search) .list-columns .kept)
 
 same-length-16 : tie.Need-same-length-16
-same-length-16 c = listed (search) .list-columns .kept .1 .1 .1 .1 .1 .1 .0
+same-length-16 c = omega (arith, listed (search) .list-columns .kept)
 
 same-length-17 : tie.Need-same-length-17
-same-length-17 c = listed (search) .list-columns .kept .1 .1 .1 .1 .1 .1 .1 .0
+same-length-17 c = omega (arith, listed (search) .list-columns .kept)
 
 same-length-18 : tie.Need-same-length-18
-same-length-18 c = ordered (search) .order-columns .kept .1 .1 .1 .1 .1 .1 .0 ∙ listed (search) .list-columns .kept .1 .1 .1 .1 .1 .1 .1 .1 .0
+same-length-18 c = omega (arith, ordered (search) .order-columns .kept, listed (search) .list-columns .kept)
 
 returns-3 : tie.Need-returns-3
 returns-3 c =

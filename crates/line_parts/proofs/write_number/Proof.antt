@@ -15,17 +15,11 @@ entry c = c
 abbrev written : tie.After-write-decimal → tie.After-write-decimal
 written c = c
 
-slice-write-bytes : tie.Need-slice-write-bytes
-slice-write-bytes c = search needs
-
-add-write-decimal : tie.Need-add-write-decimal
-add-write-decimal c = search needs
-
 write-decimal-requires : tie.Need-write-decimal-requires
 write-decimal-requires c κs = omega (arith, entry (search) .pre, length-set (entry (search) .args .bytes .now) (entry (search) .args .at) 32)
 
 same-length : tie.Need-same-length
-same-length c = written (search) .write-decimal .kept .1 .0 ∙ length-set (entry (search) .args .bytes .now) (entry (search) .args .at) 32
+same-length c = omega (arith, written (search) .write-decimal .kept, length-set (entry (search) .args .bytes .now) (entry (search) .args .at) 32)
 
 returns : tie.Need-returns
 returns c =
@@ -34,4 +28,4 @@ returns c =
 pub write-number-spec : {M : Type 1} → statement M
 write-number-spec =
     tie.close
-    (tie.spec slice-write-bytes add-write-decimal write-decimal-requires same-length returns)
+    (tie.spec (λ c. search needs) (λ c. search needs) write-decimal-requires same-length returns)

@@ -33,23 +33,8 @@ after-write-number c = c
 loop-holds : tie.Need-loop-holds Inv-loop μ-loop
 loop-holds c = record { written = writes-all _ _ _; room = entry (search) .pre }
 
-mul-wide32 : tie.Need-mul-wide32 Inv-loop μ-loop
-mul-wide32 c = search needs
-
-shared-slice-read-wide32 : tie.Need-shared-slice-read-wide32 Inv-loop μ-loop
-shared-slice-read-wide32 c = search needs
-
-wide32-requires : tie.Need-wide32-requires Inv-loop μ-loop
-wide32-requires c κs = search needs
-
 write-number-requires : tie.Need-write-number-requires Inv-loop μ-loop
 write-number-requires c κs = listed-room (at-loop (search) .loop .inv) (in-loop (search) .loop-test .taken) (c .before .wide32 .ensures .0)
-
-add-i : tie.Need-add-i Inv-loop μ-loop
-add-i c = search needs
-
-loop-less : tie.Need-loop-less Inv-loop μ-loop
-loop-less c = search needs
 
 loop-again : tie.Need-loop-again Inv-loop μ-loop
 loop-again c =
@@ -69,12 +54,12 @@ write-rows-spec =
     Inv-loop
     μ-loop
     loop-holds
-    mul-wide32
-    shared-slice-read-wide32
-    wide32-requires
+    (λ c. search needs)
+    (λ c. search needs)
+    (λ c κs. search needs)
     write-number-requires
-    add-i
-    loop-less
+    (λ c. search needs)
+    (λ c. search needs)
     loop-again
     same-length
     returns)

@@ -43,10 +43,10 @@ sub-rows-2 : tie.Need-sub-rows-2 Inv-loop μ-loop
 sub-rows-2 c = let k = child-at (at-loop (search) .loop .inv) (in-loop (search) .loop-test .taken) in let b = k .begins in omega arith
 
 add-d : tie.Need-add-d Inv-loop μ-loop
-add-d c = let l = link (at-loop (search) .loop .inv) (in-loop (search) .loop-test .taken) in let g = entry (search) .good .1 .1 .1 .0 in omega arith
+add-d c = let l = link (at-loop (search) .loop .inv) (in-loop (search) .loop-test .taken) in let g = entry (search) .good in omega arith
 
 mul-d : tie.Need-mul-d Inv-loop μ-loop
-mul-d c = let l = link (at-loop (search) .loop .inv) (in-loop (search) .loop-test .taken) in let g = entry (search) .good .1 .1 .1 .0 in omega arith
+mul-d c = let l = link (at-loop (search) .loop .inv) (in-loop (search) .loop-test .taken) in let g = entry (search) .good in omega arith
 
 shared-slice-read-d : tie.Need-shared-slice-read-d Inv-loop μ-loop
 shared-slice-read-d c = link (at-loop (search) .loop .inv) (in-loop (search) .loop-test .taken)
@@ -58,10 +58,10 @@ loop-again : tie.Need-loop-again Inv-loop μ-loop
 loop-again c = takes (at-loop (search) .loop .inv) (in-loop (search) .loop-test .taken) (c .before .if1 .taken)
 
 add-d-2 : tie.Need-add-d-2 Inv-loop μ-loop
-add-d-2 c = let l = link (at-loop (search) .loop .inv) (in-loop (search) .loop-test .taken) in let g = entry (search) .good .1 .1 .1 .0 in omega arith
+add-d-2 c = let l = link (at-loop (search) .loop .inv) (in-loop (search) .loop-test .taken) in let g = entry (search) .good in omega arith
 
 mul-d-2 : tie.Need-mul-d-2 Inv-loop μ-loop
-mul-d-2 c = let l = link (at-loop (search) .loop .inv) (in-loop (search) .loop-test .taken) in let g = entry (search) .good .1 .1 .1 .0 in omega arith
+mul-d-2 c = let l = link (at-loop (search) .loop .inv) (in-loop (search) .loop-test .taken) in let g = entry (search) .good in omega arith
 
 shared-slice-read-d-2 : tie.Need-shared-slice-read-d-2 Inv-loop μ-loop
 shared-slice-read-d-2 c = link (at-loop (search) .loop .inv) (in-loop (search) .loop-test .taken)

@@ -12,18 +12,6 @@ use Rattle.list_reader.proofs.keep_row.Tie as tie
 abbrev entry : tie.Start → tie.Start
 entry c = c
 
-narrow32-requires : tie.Need-narrow32-requires
-narrow32-requires c κs = search needs
-
-mul-rows : tie.Need-mul-rows
-mul-rows c = search needs
-
-slice-write-rows : tie.Need-slice-write-rows
-slice-write-rows c = search needs
-
-same-length : tie.Need-same-length
-same-length c = search needs
-
 returns : tie.Need-returns
 returns c = ap (set (now (entry (search) .args .rows)) (entry (search) .args .i)) (c .narrow32 .ensures)
 
@@ -32,4 +20,4 @@ returns-2 c = sym (set-out (now (entry (search) .args .rows)) (entry (search) .a
 
 pub keep-row-spec : {M : Type 1} → statement M
 keep-row-spec =
-    tie.close (tie.spec narrow32-requires mul-rows slice-write-rows same-length returns returns-2)
+    tie.close (tie.spec (λ c κs. search needs) (λ c. search needs) (λ c. search needs) (λ c. search needs) returns returns-2)

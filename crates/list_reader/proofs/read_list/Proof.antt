@@ -2,6 +2,7 @@
 -- Assumes nothing.
 use mathlib.Core.Path.{refl, _∙_}
 use borrow.Author.Needs.{needs}
+use native.Mathlib.Omega.{arith}
 use Rattle.field_reader.specs.Reading.{refuses}
 use Rattle.field_reader.proofs.Answers.{field-refused, field-found, told-of}
 use Rattle.list_reader.proofs.Lists.{list-bad, list-got, place-behind, count-few, total-fits, quick-told, quick-again}
@@ -27,17 +28,8 @@ after-read-rows c = c
 sub-read-field : tie.Need-sub-read-field
 sub-read-field c = entry (search) .pre .2
 
-read-field-requires : tie.Need-read-field-requires
-read-field-requires c κs = search needs
-
-enum-known-number : tie.Need-enum-known-number
-enum-known-number c = search needs
-
 returns : tie.Need-returns
 returns c = refuses _ _ (list-bad _ _ _ _ (field-refused _ _ _ _ (after-read-field (search) .read-field .ensures) (c .before .number .given .1))) refl
-
-enum-known-count : tie.Need-enum-known-count
-enum-known-count c = search needs
 
 quick-rows-requires : tie.Need-quick-rows-requires
 quick-rows-requires c κs =
@@ -49,10 +41,10 @@ add-t18 : tie.Need-add-t18
 add-t18 c =
     let (inside, few, low, before) = entry (search) .pre in
     total-fits _ _ few before (field-found _ _ _ _ (after-read-field (search) .read-field .ensures) (after-count (search) .count .given .1) .1) inside
-    (entry (search) .good .0 .1)
+    (omega (arith, entry (search) .good))
 
 same-length : tie.Need-same-length
-same-length c = after-quick-rows (search) .quick-rows .kept .1 .1 .1 .1 .1 .1 .0
+same-length c = omega (arith, after-quick-rows (search) .quick-rows .kept)
 
 returns-2 : tie.Need-returns-2
 returns-2 c =
@@ -66,7 +58,7 @@ read-rows-requires c κs =
     (found .inside, few, low, place-behind _ _ few before found)
 
 same-length-2 : tie.Need-same-length-2
-same-length-2 c = after-read-rows (search) .read-rows .kept .1 .1 .1 .1 .1 .1 .0 ∙ after-quick-rows (search) .quick-rows .kept .1 .1 .1 .1 .1 .1 .0
+same-length-2 c = omega (arith, after-read-rows (search) .read-rows .kept, after-quick-rows (search) .quick-rows .kept)
 
 returns-3 : tie.Need-returns-3
 returns-3 c =
@@ -78,10 +70,10 @@ read-list-spec =
     tie.close
     (tie.spec
     sub-read-field
-    read-field-requires
-    enum-known-number
+    (λ c κs. search needs)
+    (λ c. search needs)
     returns
-    enum-known-count
+    (λ c. search needs)
     quick-rows-requires
     add-t18
     same-length

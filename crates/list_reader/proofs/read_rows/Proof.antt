@@ -4,6 +4,7 @@ use mathlib.Core.Path.{refl}
 use native.Mathlib.Nat.{lt-of-le-of-lt, lt-of-lt-of-le}
 use borrow.Author.Needs.{needs}
 use mir.Facts.{fits-bits}
+use native.Mathlib.Omega.{arith}
 use Rattle.field_reader.specs.Reading.{refuses}
 use Rattle.row_reader.specs.Rows.{RowsRead}
 use Rattle.field_reader.proofs.Answers.{field-refused, field-found}
@@ -47,9 +48,6 @@ sub-read-field c = c .before .loop .inv .high
 read-field-requires : tie.Need-read-field-requires Inv-loop μ-loop
 read-field-requires c κs = c .before .loop .inv .inside
 
-enum-known-number : tie.Need-enum-known-number Inv-loop μ-loop
-enum-known-number c = search needs
-
 same-length : tie.Need-same-length Inv-loop μ-loop
 same-length c = rows-long (at-loop (search) .loop .inv)
 
@@ -57,9 +55,6 @@ returns : tie.Need-returns Inv-loop μ-loop
 returns c =
     refuses _ _ (rows-fault (at-loop (search) .loop .inv) (in-loop (search) .loop-test .taken)
     (field-refused _ _ _ _ (read (search) .read-field .ensures) (c .before .number .given .1))) refl
-
-enum-known-gap : tie.Need-enum-known-gap Inv-loop μ-loop
-enum-known-gap c = search needs
 
 add-row : tie.Need-add-row Inv-loop μ-loop
 add-row c =
@@ -74,7 +69,7 @@ keep-row-requires c κs =
 add-total : tie.Need-add-total Inv-loop μ-loop
 add-total c =
     let found = field-found _ _ _ _ (read (search) .read-field .ensures) (after-gap (search) .gap .given .1) .1 in
-    next-fits (entry (search) .good .0 .0) (lt-of-le-of-lt (rows-paced (at-loop (search) .loop .inv) (entry (search) .pre .3))
+    next-fits (omega (arith, entry (search) .good)) (lt-of-le-of-lt (rows-paced (at-loop (search) .loop .inv) (entry (search) .pre .3))
     (lt-of-lt-of-le (found .on) (found .inside)))
 
 sub-left : tie.Need-sub-left Inv-loop μ-loop
@@ -104,10 +99,10 @@ read-rows-spec =
     loop-holds
     sub-read-field
     read-field-requires
-    enum-known-number
+    (λ c. search needs)
     same-length
     returns
-    enum-known-gap
+    (λ c. search needs)
     add-row
     keep-row-requires
     add-total

@@ -46,9 +46,6 @@ after-least c = c
 abbrev after-hang : tie.After-hang Inv-loop μ-loop → tie.After-hang Inv-loop μ-loop
 after-hang c = c
 
-clear64-requires : tie.Need-clear64-requires Inv-loop μ-loop
-clear64-requires c κs = omega arith
-
 loop-holds : tie.Need-loop-holds Inv-loop μ-loop
 loop-holds c =
     pass-begin _ _ (now (entry (search) .args .work)) _ (entry (search) .pre .1 .0 .are) (entry (search) .pre .1 .1 .1)
@@ -69,14 +66,8 @@ is-right-requires c κs = (
   ),
 )
 
-add-result : tie.Need-add-result Inv-loop μ-loop
-add-result c = omega arith
-
 same-length : tie.Need-same-length Inv-loop μ-loop
 same-length c = long-p (at-loop (search) .loop .inv)
-
-same-length-2 : tie.Need-same-length-2 Inv-loop μ-loop
-same-length-2 c = omega arith
 
 returns : tie.Need-returns Inv-loop μ-loop
 returns c = (
@@ -85,48 +76,27 @@ returns c = (
   λ e. absurd (omega arith),
 )
 
-least-requires : tie.Need-least-requires Inv-loop μ-loop
-least-requires c κs = omega arith
-
-mul-parents : tie.Need-mul-parents Inv-loop μ-loop
-mul-parents c = omega arith
-
 slice-write-parents : tie.Need-slice-write-parents Inv-loop μ-loop
 slice-write-parents c = let l = long-p (at-loop (search) .loop .inv) in let r = entry (search) .pre .1 .1 .0 in omega arith
-
-cast-hang : tie.Need-cast-hang Inv-loop μ-loop
-cast-hang c = omega arith
-
-add-hang : tie.Need-add-hang Inv-loop μ-loop
-add-hang c = omega arith
 
 hang-requires : tie.Need-hang-requires Inv-loop μ-loop
 hang-requires c κs =
     pass-hangable (at-loop (search) .loop .inv) (in-loop (search) .loop-test .taken) _ (after-pattern-rows (search) .pattern-rows .ensures)
     (tested-below (entry (search) .pre .0)) (entry (search) .pre .1 .0 .are) _
     (sym (not-false _ (else1 (search) .if1 .left)) ∙ after-is-right (search) .is-right .ensures .0)
-    (after-is-right (search) .is-right .ensures .1) (after-is-right (search) .is-right .kept .1 .1 .1 .1 .1 .1 .1 .0) _
+    (after-is-right (search) .is-right .ensures .1) (omega (arith, after-is-right (search) .is-right .kept)) _
     (c .before .least .ensures)
-
-add-m : tie.Need-add-m Inv-loop μ-loop
-add-m c = omega arith
-
-loop-less : tie.Need-loop-less Inv-loop μ-loop
-loop-less c = omega arith
 
 loop-again : tie.Need-loop-again Inv-loop μ-loop
 loop-again c =
     pass-on (at-loop (search) .loop .inv) (in-loop (search) .loop-test .taken) _ (after-pattern-rows (search) .pattern-rows .ensures)
     (tested-below (entry (search) .pre .0)) (entry (search) .pre .1 .0 .are) _
     (sym (not-false _ (else1 (search) .if1 .left)) ∙ after-is-right (search) .is-right .ensures .0)
-    (after-is-right (search) .is-right .ensures .1) (after-is-right (search) .is-right .kept .1 .1 .1 .1 .1 .1 .1 .0) _
-    (after-least (search) .least .ensures) _ (after-hang (search) .hang .ensures) (after-hang (search) .hang .kept .1 .1 .1 .0)
+    (after-is-right (search) .is-right .ensures .1) (omega (arith, after-is-right (search) .is-right .kept)) _
+    (after-least (search) .least .ensures) _ (after-hang (search) .hang .ensures) (omega (arith, after-hang (search) .hang .kept))
 
 same-length-3 : tie.Need-same-length-3 Inv-loop μ-loop
 same-length-3 c = long-p (c .before .loop .inv)
-
-same-length-4 : tie.Need-same-length-4 Inv-loop μ-loop
-same-length-4 c = omega arith
 
 returns-2 : tie.Need-returns-2 Inv-loop μ-loop
 returns-2 c = pass-all (c .before .loop .inv) (c .loop-test .left)
@@ -137,23 +107,23 @@ first-wrong-list-spec =
     (tie.spec
     Inv-loop
     μ-loop
-    clear64-requires
+    (λ c κs. omega arith)
     loop-holds
     pattern-rows-requires
     is-right-requires
-    add-result
+    (λ c. omega arith)
     same-length
-    same-length-2
+    (λ c. omega arith)
     returns
-    least-requires
-    mul-parents
+    (λ c κs. omega arith)
+    (λ c. omega arith)
     slice-write-parents
-    cast-hang
-    add-hang
+    (λ c. omega arith)
+    (λ c. omega arith)
     hang-requires
-    add-m
-    loop-less
+    (λ c. omega arith)
+    (λ c. omega arith)
     loop-again
     same-length-3
-    same-length-4
+    (λ c. omega arith)
     returns-2)

@@ -37,18 +37,6 @@ after-adds-own c = c
 pattern-rows-requires : tie.Need-pattern-rows-requires
 pattern-rows-requires c κs = part-of (entry (search) .pre .0) (entry (search) .pre .1 .0)
 
-add-c : tie.Need-add-c
-add-c c = search needs
-
-mul-c : tie.Need-mul-c
-mul-c c = search needs
-
-slice-read-c : tie.Need-slice-read-c
-slice-read-c c = search needs
-
-same-rows-requires : tie.Need-same-rows-requires
-same-rows-requires c κs = search needs
-
 returns : tie.Need-returns
 returns c = (
   no-child (tested-below (entry (search) .pre .0)) (entry (search) .pre .1 .0) (entry (search) .pre .1 .1 .0) _
@@ -60,13 +48,13 @@ add-if2 : tie.Need-add-if2
 add-if2 c =
     let l = child-link (tested-below (entry (search) .pre .0)) (entry (search) .pre .1 .0) (entry (search) .pre .1 .1 .0) _
     (after-pattern-rows (search) .pattern-rows .ensures) (c .if1 .left) in
-    let g = entry (search) .good .1 .1 .1 .1 .1 .1 .1 .0 in omega arith
+    let g = entry (search) .good in omega arith
 
 mul-if2 : tie.Need-mul-if2
 mul-if2 c =
     let l = child-link (tested-below (entry (search) .pre .0)) (entry (search) .pre .1 .0) (entry (search) .pre .1 .1 .0) _
     (after-pattern-rows (search) .pattern-rows .ensures) (c .if1 .left) in
-    let g = entry (search) .good .1 .1 .1 .1 .1 .1 .1 .0 in omega arith
+    let g = entry (search) .good in omega arith
 
 slice-read-if2 : tie.Need-slice-read-if2
 slice-read-if2 c =
@@ -78,12 +66,6 @@ handed-on-requires c κs =
     child-found (tested-below (entry (search) .pre .0)) (entry (search) .pre .1 .0) (entry (search) .pre .1 .1 .0) _
     (after-pattern-rows (search) .pattern-rows .ensures) (else1 (search) .if1 .left)
 
-begins-with-requires : tie.Need-begins-with-requires
-begins-with-requires c κs = search needs
-
-add-adds-own : tie.Need-add-adds-own
-add-adds-own c = search needs
-
 adds-own-requires : tie.Need-adds-own-requires
 adds-own-requires c κs = (
   own-markable (tested-below (entry (search) .pre .0)) (entry (search) .pre .1 .0) (entry (search) .pre .1 .1 .0) _
@@ -93,9 +75,6 @@ adds-own-requires c κs = (
     after-begins-with (search) .begins-with .ensures (c .before .if3 .taken) .0,
   ),
 )
-
-same-length : tie.Need-same-length
-same-length c = search needs
 
 returns-2 : tie.Need-returns-2
 returns-2 c = (
@@ -107,34 +86,25 @@ returns-2 c = (
       (after-pattern-rows (search) .pattern-rows .ensures) _ (after-adds-own (search) .adds-own .ensures .1),
 )
 
-is-all-marked-requires : tie.Need-is-all-marked-requires
-is-all-marked-requires c κs = search needs
-
-same-length-2 : tie.Need-same-length-2
-same-length-2 c = search needs
-
-returns-3 : tie.Need-returns-3
-returns-3 c = search needs
-
 pub is-right-spec : {M : Type 1} → statement M
 is-right-spec =
     tie.close
     (tie.spec
     pattern-rows-requires
-    add-c
-    mul-c
-    slice-read-c
-    same-rows-requires
+    (λ c. search needs)
+    (λ c. search needs)
+    (λ c. search needs)
+    (λ c κs. search needs)
     returns
     add-if2
     mul-if2
     slice-read-if2
     handed-on-requires
-    begins-with-requires
-    add-adds-own
+    (λ c κs. search needs)
+    (λ c. search needs)
     adds-own-requires
-    same-length
+    (λ c. search needs)
     returns-2
-    is-all-marked-requires
-    same-length-2
-    returns-3)
+    (λ c κs. search needs)
+    (λ c. search needs)
+    (λ c. search needs))

@@ -34,9 +34,6 @@ after-run-end c = c
 abbrev written : tie.After-write-run Inv-loop μ-loop → tie.After-write-run Inv-loop μ-loop
 written c = c
 
-sub-put : tie.Need-sub-put Inv-loop μ-loop
-sub-put c = search needs
-
 put-requires : tie.Need-put-requires Inv-loop μ-loop
 put-requires c κs =
     let entry = start (search) .pre in
@@ -44,9 +41,6 @@ put-requires c κs =
 
 loop-holds : tie.Need-loop-holds Inv-loop μ-loop
 loop-holds c = gaps-start (start (search) .pre .0)
-
-run-end-requires : tie.Need-run-end-requires Inv-loop μ-loop
-run-end-requires c κs = search needs
 
 write-run-requires : tie.Need-write-run-requires Inv-loop μ-loop
 write-run-requires c κs =
@@ -63,26 +57,11 @@ write-run-requires c κs =
       ),
     )
 
-sub-before : tie.Need-sub-before Inv-loop μ-loop
-sub-before c = search needs
-
-mul-before : tie.Need-mul-before Inv-loop μ-loop
-mul-before c = search needs
-
-shared-slice-read-before : tie.Need-shared-slice-read-before Inv-loop μ-loop
-shared-slice-read-before c = search needs
-
-loop-less : tie.Need-loop-less Inv-loop μ-loop
-loop-less c = search needs
-
 loop-again : tie.Need-loop-again Inv-loop μ-loop
 loop-again c =
     let end = after-run-end (search) .run-end in
     let run = written (search) .write-run in
     run-turn (at-loop (search) .loop .inv) (end .ensures .0) (end .ensures .1) refl (run .ensures .0) (run .ensures .1)
-
-same-length : tie.Need-same-length Inv-loop μ-loop
-same-length c = search needs
 
 returns : tie.Need-returns Inv-loop μ-loop
 returns c =
@@ -95,15 +74,15 @@ write-list-spec =
     (tie.spec
     Inv-loop
     μ-loop
-    sub-put
+    (λ c. search needs)
     put-requires
     loop-holds
-    run-end-requires
+    (λ c κs. search needs)
     write-run-requires
-    sub-before
-    mul-before
-    shared-slice-read-before
-    loop-less
+    (λ c. search needs)
+    (λ c. search needs)
+    (λ c. search needs)
+    (λ c. search needs)
     loop-again
-    same-length
+    (λ c. search needs)
     returns)

@@ -1,4 +1,5 @@
--- The invariant: storing the lists of the columns behind the first `done` at next leaves what storing all of them leaves. The measure is the columns left.
+-- The invariant: storing the lists of the columns behind the first `done` at next leaves what storing all of them leaves. The measure is the columns
+-- left.
 -- Assumes nothing.
 use Prim.Native.Nat.{_-_}
 use native.Mathlib.Omega.{arith}
@@ -39,46 +40,16 @@ loop-holds c =
       near = entry .1 .1 .1;
     }
 
-add-j : tie.Need-add-j Inv-loop μ-loop
-add-j c = search needs
-
-cast-j : tie.Need-cast-j Inv-loop μ-loop
-cast-j c = search needs
-
-mul-write-list : tie.Need-mul-write-list Inv-loop μ-loop
-mul-write-list c = search needs
-
-shared-slice-read-write-list : tie.Need-shared-slice-read-write-list Inv-loop μ-loop
-shared-slice-read-write-list c = search needs
-
-add-write-list : tie.Need-add-write-list Inv-loop μ-loop
-add-write-list c = search needs
-
-mul-write-list-2 : tie.Need-mul-write-list-2 Inv-loop μ-loop
-mul-write-list-2 c = search needs
-
-shared-slice-read-write-list-2 : tie.Need-shared-slice-read-write-list-2 Inv-loop μ-loop
-shared-slice-read-write-list-2 c = search needs
-
 write-list-requires : tie.Need-write-list-requires Inv-loop μ-loop
 write-list-requires c κs =
     let loop = at-loop (search) .loop in
     let there = in-loop (search) .loop-test .taken in
     (column-list (loop .inv .few) (loop .inv .lists) there, list-near (loop .inv))
 
-add-done : tie.Need-add-done Inv-loop μ-loop
-add-done c = search needs
-
-loop-less : tie.Need-loop-less Inv-loop μ-loop
-loop-less c = search needs
-
 loop-again : tie.Need-loop-again Inv-loop μ-loop
 loop-again c =
     let list = after-write-list (search) .write-list in
     lists-turn (at-loop (search) .loop .inv) (in-loop (search) .loop-test .taken) (list .ensures .0) (list .ensures .1)
-
-same-length : tie.Need-same-length Inv-loop μ-loop
-same-length c = search needs
 
 returns : tie.Need-returns Inv-loop μ-loop
 returns c = lists-stop (c .before .loop .inv) (c .loop-test .left)
@@ -90,16 +61,16 @@ write-lists-spec =
     Inv-loop
     μ-loop
     loop-holds
-    add-j
-    cast-j
-    mul-write-list
-    shared-slice-read-write-list
-    add-write-list
-    mul-write-list-2
-    shared-slice-read-write-list-2
+    (λ c. search needs)
+    (λ c. search needs)
+    (λ c. search needs)
+    (λ c. search needs)
+    (λ c. search needs)
+    (λ c. search needs)
+    (λ c. search needs)
     write-list-requires
-    add-done
-    loop-less
+    (λ c. search needs)
+    (λ c. search needs)
     loop-again
-    same-length
+    (λ c. search needs)
     returns)

@@ -23,16 +23,10 @@ returns c =
     way-short (record { text = entry (search) .args .text .now; more = entry (search) .args .more }) (entry (search) .args .bytes .now)
     (c .if1 .taken)
 
-clear8-requires : tie.Need-clear8-requires
-clear8-requires c κs = search needs
-
 print-text-requires : tie.Need-print-text-requires
 print-text-requires c κs =
     prints-fit (record { text = entry (search) .args .text .now; more = entry (search) .args .more }) (entry (search) .args .bytes .now)
     (else1 (search) .if1 .left) (cleared (search) .clear8 .ensures)
-
-same-length : tie.Need-same-length
-same-length c = search needs
 
 returns-2 : tie.Need-returns-2
 returns-2 c =
@@ -41,4 +35,4 @@ returns-2 c =
 
 pub listing-spec : {M : Type 1} → statement M
 listing-spec =
-    tie.close (tie.spec returns clear8-requires print-text-requires same-length returns-2)
+    tie.close (tie.spec returns (λ c κs. search needs) print-text-requires (λ c. search needs) returns-2)

@@ -14,33 +14,12 @@ entry c = c
 abbrev printed : tie.After-print-analysis → tie.After-print-analysis
 printed c = c
 
-slice-aggregate-print-analysis : tie.Need-slice-aggregate-print-analysis
-slice-aggregate-print-analysis c = search needs
-
-slice-aggregate-print-analysis-2 : tie.Need-slice-aggregate-print-analysis-2
-slice-aggregate-print-analysis-2 c = search needs
-
-slice-aggregate-print-analysis-3 : tie.Need-slice-aggregate-print-analysis-3
-slice-aggregate-print-analysis-3 c = search needs
-
-slice-aggregate-print-analysis-4 : tie.Need-slice-aggregate-print-analysis-4
-slice-aggregate-print-analysis-4 c = search needs
-
-slice-aggregate-print-analysis-5 : tie.Need-slice-aggregate-print-analysis-5
-slice-aggregate-print-analysis-5 c = search needs
-
-slice-aggregate-print-analysis-6 : tie.Need-slice-aggregate-print-analysis-6
-slice-aggregate-print-analysis-6 c = search needs
-
 print-analysis-requires : tie.Need-print-analysis-requires
 print-analysis-requires c κs = (
   omega (arith, entry (search) .pre .0),
   fits-in (jobOf (entry (search) .args .head) (entry (search) .args .starts .now) (entry (search) .args .rows .now))
       (entry (search) .args .bytes .now) (entry (search) .pre .1),
 )
-
-same-length : tie.Need-same-length
-same-length c = search needs
 
 returns : tie.Need-returns
 returns c =
@@ -51,12 +30,12 @@ pub print-job-spec : {M : Type 1} → statement M
 print-job-spec =
     tie.close
     (tie.spec
-    slice-aggregate-print-analysis
-    slice-aggregate-print-analysis-2
-    slice-aggregate-print-analysis-3
-    slice-aggregate-print-analysis-4
-    slice-aggregate-print-analysis-5
-    slice-aggregate-print-analysis-6
+    (λ c. search needs)
+    (λ c. search needs)
+    (λ c. search needs)
+    (λ c. search needs)
+    (λ c. search needs)
+    (λ c. search needs)
     print-analysis-requires
-    same-length
+    (λ c. search needs)
     returns)

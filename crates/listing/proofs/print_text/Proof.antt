@@ -1,4 +1,5 @@
--- A text that is refused prints its line; the job of any other lies in the fronts of the buffers, and what is printed of it is what is printed of the text.
+-- A text that is refused prints its line; the job of any other lies in the fronts of the buffers, and what is printed of it is what is printed of the
+-- text.
 -- Assumes nothing.
 use mathlib.Core.Path.{sym, ap}
 use native.Mathlib.Omega.{arith}
@@ -29,32 +30,14 @@ written c = c
 abbrev printed : tie.After-print-job → tie.After-print-job
 printed c = c
 
-slice-aggregate-read-job : tie.Need-slice-aggregate-read-job
-slice-aggregate-read-job c = search needs
-
-slice-aggregate-read-job-2 : tie.Need-slice-aggregate-read-job-2
-slice-aggregate-read-job-2 c = search needs
-
-read-job-requires : tie.Need-read-job-requires
-read-job-requires c κs = search needs
-
-enum-known-number : tie.Need-enum-known-number
-enum-known-number c = search needs
-
 write-refusal-requires : tie.Need-write-refusal-requires
 write-refusal-requires c κs =
     omega (arith, ap length (told-refusal _ (read (search) .read-job .ensures) (after-number (search) .number .given .1)), entry (search) .pre)
-
-same-length : tie.Need-same-length
-same-length c = search needs
 
 returns : tie.Need-returns
 returns c =
     written-as (told-refusal _ (read (search) .read-job .ensures) (after-number (search) .number .given .1)) (entry (search) .args .bytes .now)
     (written (search) .write-refusal .ensures)
-
-enum-known-head : tie.Need-enum-known-head
-enum-known-head c = search needs
 
 add-starts : tie.Need-add-starts
 add-starts c = omega (arith, found-columns (told-job (read (search) .read-job .ensures) (c .before .head .given .1)))
@@ -83,9 +66,6 @@ print-job-requires c κs = (
   ),
 )
 
-same-length-2 : tie.Need-same-length-2
-same-length-2 c = search needs
-
 returns-2 : tie.Need-returns-2
 returns-2 c =
     written-as (found-printed (told-job (read (search) .read-job .ensures) (after-head (search) .head .given .1))) (entry (search) .args .bytes .now)
@@ -95,19 +75,19 @@ pub print-text-spec : {M : Type 1} → statement M
 print-text-spec =
     tie.close
     (tie.spec
-    slice-aggregate-read-job
-    slice-aggregate-read-job-2
-    read-job-requires
-    enum-known-number
+    (λ c. search needs)
+    (λ c. search needs)
+    (λ c κs. search needs)
+    (λ c. search needs)
     write-refusal-requires
-    same-length
+    (λ c. search needs)
     returns
-    enum-known-head
+    (λ c. search needs)
     add-starts
     array-share-prefix-starts
     slice-aggregate-print-job
     array-share-prefix-rows
     slice-aggregate-print-job-2
     print-job-requires
-    same-length-2
+    (λ c. search needs)
     returns-2)

@@ -30,33 +30,30 @@ printed c = c
 abbrev entry₁ : tie.After-analyse → tie.Start
 entry₁ c = search
 
-analyse-requires : tie.Need-analyse-requires
-analyse-requires c κs = search needs
-
 write-refusal-requires : tie.Need-write-refusal-requires
 write-refusal-requires c κs =
     omega (arith, ap length (refused-printed _ _ (analysed (search) .analyse .ensures) (c .before .if1 .taken)), entry₁ (search) .pre .1)
 
 same-length : tie.Need-same-length
-same-length c = analysed (search) .analyse .kept .1 .1 .1 .0
+same-length c = omega (arith, analysed (search) .analyse .kept)
 
 same-length-2 : tie.Need-same-length-2
-same-length-2 c = analysed (search) .analyse .kept .1 .1 .1 .1 .0
+same-length-2 c = omega (arith, analysed (search) .analyse .kept)
 
 same-length-3 : tie.Need-same-length-3
-same-length-3 c = analysed (search) .analyse .kept .1 .1 .1 .1 .1 .0
+same-length-3 c = omega (arith, analysed (search) .analyse .kept)
 
 same-length-4 : tie.Need-same-length-4
-same-length-4 c = analysed (search) .analyse .kept .1 .1 .1 .1 .1 .1 .0
+same-length-4 c = omega (arith, analysed (search) .analyse .kept)
 
 same-length-5 : tie.Need-same-length-5
-same-length-5 c = analysed (search) .analyse .kept .1 .1 .1 .1 .1 .1 .1 .0
+same-length-5 c = omega (arith, analysed (search) .analyse .kept)
 
 same-length-6 : tie.Need-same-length-6
-same-length-6 c = analysed (search) .analyse .kept .1 .1 .1 .1 .1 .1 .1 .1 .0
+same-length-6 c = omega (arith, analysed (search) .analyse .kept)
 
 same-length-7 : tie.Need-same-length-7
-same-length-7 c = written (search) .write-refusal .kept .1 .0
+same-length-7 c = omega (arith, written (search) .write-refusal .kept)
 
 returns : tie.Need-returns
 returns c =
@@ -103,35 +100,31 @@ print-plan-requires : tie.Need-print-plan-requires
 print-plan-requires c κs = (
   done-printable _ _ (analysed (search) .analyse .ensures) (else1 (search) .if1 .left),
   (
-    let k = done-steps _ _ (analysed (search) .analyse .ensures) (else1 (search) .if1 .left) in omega (
-      arith,
-      entry₁ (search) .pre .0,
-      analysed (search) .analyse .kept .1 .1 .1 .1 .1 .1 .1 .1 .0,
-    ),
+    let k = done-steps _ _ (analysed (search) .analyse .ensures) (else1 (search) .if1 .left) in omega (arith, entry₁ (search) .pre .0, analysed (search) .analyse .kept),
     omega (arith, ap length (done-printed _ _ (analysed (search) .analyse .ensures) (else1 (search) .if1 .left)), entry₁ (search) .pre .1),
   ),
 )
 
 same-length-8 : tie.Need-same-length-8
-same-length-8 c = analysed (search) .analyse .kept .1 .1 .1 .0
+same-length-8 c = omega (arith, analysed (search) .analyse .kept)
 
 same-length-9 : tie.Need-same-length-9
-same-length-9 c = analysed (search) .analyse .kept .1 .1 .1 .1 .0
+same-length-9 c = omega (arith, analysed (search) .analyse .kept)
 
 same-length-10 : tie.Need-same-length-10
-same-length-10 c = analysed (search) .analyse .kept .1 .1 .1 .1 .1 .0
+same-length-10 c = omega (arith, analysed (search) .analyse .kept)
 
 same-length-11 : tie.Need-same-length-11
-same-length-11 c = analysed (search) .analyse .kept .1 .1 .1 .1 .1 .1 .0
+same-length-11 c = omega (arith, analysed (search) .analyse .kept)
 
 same-length-12 : tie.Need-same-length-12
-same-length-12 c = analysed (search) .analyse .kept .1 .1 .1 .1 .1 .1 .1 .0
+same-length-12 c = omega (arith, analysed (search) .analyse .kept)
 
 same-length-13 : tie.Need-same-length-13
-same-length-13 c = printed (search) .print-plan .kept .1 .1 .1 .1 .1 .1 .0 ∙ analysed (search) .analyse .kept .1 .1 .1 .1 .1 .1 .1 .1 .0
+same-length-13 c = omega (arith, printed (search) .print-plan .kept, analysed (search) .analyse .kept)
 
 same-length-14 : tie.Need-same-length-14
-same-length-14 c = printed (search) .print-plan .kept .1 .1 .1 .1 .1 .1 .1 .0
+same-length-14 c = omega (arith, printed (search) .print-plan .kept)
 
 returns-2 : tie.Need-returns-2
 returns-2 c =
@@ -142,7 +135,7 @@ pub print-analysis-spec : {M : Type 1} → statement M
 print-analysis-spec =
     tie.close
     (tie.spec
-    analyse-requires
+    (λ c κs. search needs)
     write-refusal-requires
     same-length
     same-length-2

@@ -37,12 +37,6 @@ write-steps-requires c κs = (
   ),
 )
 
-same-length : tie.Need-same-length
-same-length c = search needs
-
-same-length-2 : tie.Need-same-length-2
-same-length-2 c = search needs
-
 returns : tie.Need-returns
 returns c =
     both-written (printed wordPlan (entry (search) .args .head .n ∷ entry (search) .args .head .mark ∷ entry (search) .args .peak ∷ []))
@@ -53,4 +47,4 @@ returns c =
 pub print-plan-spec : {M : Type 1} → statement M
 print-plan-spec =
     tie.close
-    (tie.spec write-header-requires write-steps-requires same-length same-length-2 returns)
+    (tie.spec write-header-requires write-steps-requires (λ c. search needs) (λ c. search needs) returns)

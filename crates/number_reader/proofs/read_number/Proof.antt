@@ -31,12 +31,6 @@ loop-holds c = start _ _
 returns : tie.Need-returns Inv-loop μ-loop
 returns c = stop-long (at-loop (search) .loop .inv) (c .before .loop-test .taken) (c .if1 .taken)
 
-shared-slice-read-wide8 : tie.Need-shared-slice-read-wide8 Inv-loop μ-loop
-shared-slice-read-wide8 c = search needs
-
-wide8-requires : tie.Need-wide8-requires Inv-loop μ-loop
-wide8-requires c κs = search needs
-
 returns-2 : tie.Need-returns-2 Inv-loop μ-loop
 returns-2 c =
     let inv = at-loop (search) .loop .inv in
@@ -48,9 +42,6 @@ mul-t14 c = omega (arith, carried-below (after-wide8 (search) .wide8 .result) (a
 
 add-t15 : tie.Need-add-t15 Inv-loop μ-loop
 add-t15 c = omega (arith, carried-below (after-wide8 (search) .wide8 .result) (at-loop (search) .loop .inv) (c .before .if2 .taken))
-
-add-t16 : tie.Need-add-t16 Inv-loop μ-loop
-add-t16 c = search needs
 
 returns-3 : tie.Need-returns-3 Inv-loop μ-loop
 returns-3 c =
@@ -67,15 +58,6 @@ add-low c = omega (arith, carried-below (c .before .wide8 .result - 128) (at-loo
 
 mul-w : tie.Need-mul-w Inv-loop μ-loop
 mul-w c = omega (arith, carried-below 0 (at-loop (search) .loop .inv) (omega arith))
-
-sub-k : tie.Need-sub-k Inv-loop μ-loop
-sub-k c = search needs
-
-add-i : tie.Need-add-i Inv-loop μ-loop
-add-i c = search needs
-
-loop-less : tie.Need-loop-less Inv-loop μ-loop
-loop-less c = search needs
 
 loop-again : tie.Need-loop-again Inv-loop μ-loop
 loop-again c =
@@ -94,18 +76,18 @@ read-number-spec =
     μ-loop
     loop-holds
     returns
-    shared-slice-read-wide8
-    wide8-requires
+    (λ c. search needs)
+    (λ c κs. search needs)
     returns-2
     mul-t14
     add-t15
-    add-t16
+    (λ c. search needs)
     returns-3
     mul-low
     add-low
     mul-w
-    sub-k
-    add-i
-    loop-less
+    (λ c. search needs)
+    (λ c. search needs)
+    (λ c. search needs)
     loop-again
     returns-4)

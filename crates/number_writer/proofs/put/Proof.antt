@@ -1,4 +1,5 @@
--- Below 128 times 128 one byte or two are stored. From there on the loop's invariant: the first i bytes of the little array, which are those of x, are
+-- Below 128 times 128 one byte or two are stored. From there on the loop's invariant: the first i bytes of the little array, which are those of x,
+-- are
 -- stored. The measure is how many are left.
 -- Assumes nothing.
 use Prim.Native.Nat.{_+_, _-_, _/_, _%_, _<_}
@@ -62,42 +63,12 @@ length-requires c κs = c .before .pre .0
 add-next : tie.Need-add-next Inv-loop μ-loop
 add-next c = omega (arith, bytes-length (start (search) .args .x), c .length .ensures)
 
-cast-put-byte : tie.Need-cast-put-byte Inv-loop μ-loop
-cast-put-byte c = search needs
-
-put-byte-requires : tie.Need-put-byte-requires Inv-loop μ-loop
-put-byte-requires c κs = search needs
-
-same-length : tie.Need-same-length Inv-loop μ-loop
-same-length c = search needs
-
 returns : tie.Need-returns Inv-loop μ-loop
 returns c = (
   omega (arith, after-length (search) .length .ensures),
   rw (bytes-small (start (search) .args .x) (then1 (search) .if1 .taken))
       (after-put-byte (search) .put-byte .ensures),
 )
-
-add-put-byte : tie.Need-add-put-byte Inv-loop μ-loop
-add-put-byte c = search needs
-
-cast-put-byte-2 : tie.Need-cast-put-byte-2 Inv-loop μ-loop
-cast-put-byte-2 c = search needs
-
-put-byte-requires-2 : tie.Need-put-byte-requires-2 Inv-loop μ-loop
-put-byte-requires-2 c κs = search needs
-
-add-put-byte-2 : tie.Need-add-put-byte-2 Inv-loop μ-loop
-add-put-byte-2 c = search needs
-
-cast-put-byte-3 : tie.Need-cast-put-byte-3 Inv-loop μ-loop
-cast-put-byte-3 c = search needs
-
-put-byte-requires-3 : tie.Need-put-byte-requires-3 Inv-loop μ-loop
-put-byte-requires-3 c κs = search needs
-
-same-length-2 : tie.Need-same-length-2 Inv-loop μ-loop
-same-length-2 c = search needs
 
 returns-2 : tie.Need-returns-2 Inv-loop μ-loop
 returns-2 c =
@@ -121,15 +92,6 @@ add-put-byte-3 c = omega (arith, bytes-length (start (search) .args .x))
 array-read-put-byte : tie.Need-array-read-put-byte Inv-loop μ-loop
 array-read-put-byte c = omega (arith, bytes-length (start (search) .args .x))
 
-put-byte-requires-4 : tie.Need-put-byte-requires-4 Inv-loop μ-loop
-put-byte-requires-4 c κs = search needs
-
-add-i : tie.Need-add-i Inv-loop μ-loop
-add-i c = search needs
-
-loop-less : tie.Need-loop-less Inv-loop μ-loop
-loop-less c = search needs
-
 loop-again : tie.Need-loop-again Inv-loop μ-loop
 loop-again c =
     let x = start (search) .args .x in
@@ -152,25 +114,25 @@ put-spec =
     μ-loop
     length-requires
     add-next
-    cast-put-byte
-    put-byte-requires
-    same-length
+    (λ c. search needs)
+    (λ c κs. search needs)
+    (λ c. search needs)
     returns
-    add-put-byte
-    cast-put-byte-2
-    put-byte-requires-2
-    add-put-byte-2
-    cast-put-byte-3
-    put-byte-requires-3
-    same-length-2
+    (λ c. search needs)
+    (λ c. search needs)
+    (λ c κs. search needs)
+    (λ c. search needs)
+    (λ c. search needs)
+    (λ c κs. search needs)
+    (λ c. search needs)
     returns-2
     number-requires
     loop-holds
     add-put-byte-3
     array-read-put-byte
-    put-byte-requires-4
-    add-i
-    loop-less
+    (λ c κs. search needs)
+    (λ c. search needs)
+    (λ c. search needs)
     loop-again
     same-length-3
     returns-3)

@@ -7,17 +7,8 @@ use denote.Ref.{now}
 use Rattle.number_writer.proofs.put_byte.Statement.{statement}
 use Rattle.number_writer.proofs.put_byte.Tie as tie
 
-slice-write-dst : tie.Need-slice-write-dst
-slice-write-dst c = search needs
-
-same-length : tie.Need-same-length
-same-length c = search needs
-
-returns : tie.Need-returns
-returns c = search needs
-
 returns-2 : tie.Need-returns-2
 returns-2 c = let entry = c .before .args in sym (set-out (now (entry .dst)) (entry .at) (entry .b) (c .if1 .left))
 
 pub put-byte-spec : {M : Type 1} → statement M
-put-byte-spec = tie.close (tie.spec slice-write-dst same-length returns returns-2)
+put-byte-spec = tie.close (tie.spec (λ c. search needs) (λ c. search needs) (λ c. search needs) returns-2)

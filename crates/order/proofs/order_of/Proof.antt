@@ -21,62 +21,34 @@ counted c = c
 abbrev after-peak : tie.After-peak → tie.After-peak
 after-peak c = c
 
-write-steps-requires : tie.Need-write-steps-requires
-write-steps-requires c κs = search needs
-
-add-m : tie.Need-add-m
-add-m c = search needs
-
-slice-reshare-prefix-count-pops : tie.Need-slice-reshare-prefix-count-pops
-slice-reshare-prefix-count-pops c = search needs
-
 slice-aggregate-count-pops : tie.Need-slice-aggregate-count-pops
 slice-aggregate-count-pops c =
     let write-steps = written (search) .write-steps in
-    sym (length-take-le _ (write-steps .last .1 .1 .1 .1 .1 .0) (omega (
-      arith,
-      write-steps .kept .1 .1 .1 .1 .1 .0,
-      entry (search) .pre .work-length,
-    )))
+    sym (length-take-le _ (write-steps .last .1 .1 .1 .1 .1 .0) (omega (arith, write-steps .kept, entry (search) .pre .work-length)))
 
 count-pops-requires : tie.Need-count-pops-requires
 count-pops-requires c κs =
     let pre = entry (search) .pre in
     let write-steps = written (search) .write-steps in (
-      pops-asked pre (write-steps .last .1 .1 .1 .1 .1 .0) (write-steps .kept .1 .1 .1 .1 .1 .0) (write-steps .ensures .1) (write-steps .ensures .0),
-      omega (arith, write-steps .kept .1 .1 .1 .0, write-steps .kept .1 .1 .1 .1 .0, pre .order-length, pre .pops-length),
+      pops-asked pre (write-steps .last .1 .1 .1 .1 .1 .0) (omega (arith, write-steps .kept)) (write-steps .ensures .1) (write-steps .ensures .0),
+      omega (arith, write-steps .kept, pre .order-length, pre .pops-length),
     )
 
 peak-requires : tie.Need-peak-requires
 peak-requires c κs =
     let e = written (search) .write-steps .ensures .0 in
     let q = pops-wrote (entry (search) .pre) (written (search) .write-steps .last .1 .1 .1 .1 .1 .0)
-    (written (search) .write-steps .kept .1 .1 .1 .1 .1 .0) (written (search) .write-steps .ensures .1) e (counted (search) .count-pops .ensures)
+    (omega (arith, written (search) .write-steps .kept)) (written (search) .write-steps .ensures .1) e (counted (search) .count-pops .ensures)
     in (
       peak-asked (entry (search) .pre) e q,
-      omega (
-        arith,
-        written (search) .write-steps .kept .1 .1 .1 .0,
-        written (search) .write-steps .kept .1 .1 .1 .1 .1 .0,
-        entry (search) .pre .order-length,
-        entry (search) .pre .work-length,
-      ),
+      omega (arith, written (search) .write-steps .kept, entry (search) .pre .order-length, entry (search) .pre .work-length),
     )
-
-same-length : tie.Need-same-length
-same-length c = search needs
-
-same-length-2 : tie.Need-same-length-2
-same-length-2 c = search needs
-
-same-length-3 : tie.Need-same-length-3
-same-length-3 c = search needs
 
 returns : tie.Need-returns
 returns c =
     let e = written (search) .write-steps .ensures .0 in
     let q = pops-wrote (entry (search) .pre) (written (search) .write-steps .last .1 .1 .1 .1 .1 .0)
-    (written (search) .write-steps .kept .1 .1 .1 .1 .1 .0) (written (search) .write-steps .ensures .1) e (counted (search) .count-pops .ensures)
+    (omega (arith, written (search) .write-steps .kept)) (written (search) .write-steps .ensures .1) e (counted (search) .count-pops .ensures)
     in
     (e, (q, peak-found (entry (search) .pre) e q (after-peak (search) .peak .ensures)))
 
@@ -84,13 +56,13 @@ pub order-of-spec : {M : Type 1} → statement M
 order-of-spec =
     tie.close
     (tie.spec
-    write-steps-requires
-    add-m
-    slice-reshare-prefix-count-pops
+    (λ c κs. search needs)
+    (λ c. search needs)
+    (λ c. search needs)
     slice-aggregate-count-pops
     count-pops-requires
     peak-requires
-    same-length
-    same-length-2
-    same-length-3
+    (λ c. search needs)
+    (λ c. search needs)
+    (λ c. search needs)
     returns)

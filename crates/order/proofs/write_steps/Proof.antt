@@ -53,55 +53,49 @@ lay-out-requires c κs = (
 arrange-requires : tie.Need-arrange-requires
 arrange-requires c κs =
     let lay-out = laid (search) .lay-out in
-    arrange-asked (entry (search) .pre) (lay-out .ensures) (lay-out .kept .1 .0) (lay-out .kept .1 .1 .0)
+    arrange-asked (entry (search) .pre) (lay-out .ensures) (omega (arith, lay-out .kept)) (omega (arith, lay-out .kept))
 
 slice-aggregate-steps : tie.Need-slice-aggregate-steps
 slice-aggregate-steps c =
     let arrange = arranged (search) .arrange in
     sym (length-take-le _ (arrange .last .1 .1 .1 .1 .0) (omega (
       arith,
-      arrange .kept .1 .1 .1 .1 .0,
-      laid (search) .lay-out .kept .1 .1 .0,
+      arrange .kept,
+      laid (search) .lay-out .kept,
       entry (search) .pre .work-length,
     )))
 
 mul-steps : tie.Need-mul-steps
 mul-steps c = omega (arith, entry (search) .pre .columns)
 
-sub-steps : tie.Need-sub-steps
-sub-steps c = omega arith
-
-part-steps-start : tie.Need-part-steps-start
-part-steps-start c = search needs
-
-part-steps-end : tie.Need-part-steps-end
-part-steps-end c = search needs
-
 steps-requires : tie.Need-steps-requires
 steps-requires c κs =
     let pre = entry (search) .pre in
     let lay-out = laid (search) .lay-out in
     let arrange = arranged (search) .arrange in
-    walk-asked (lists-lie pre (lay-out .ensures) (lay-out .kept .1 .0) (lay-out .kept .1 .1 .0) (arrange .ensures) (arrange .kept .1 .1 .0)) _
-    (arrange .kept .1 .1 .1 .0 ∙ pre .order-length)
+    walk-asked (lists-lie pre (lay-out .ensures) (omega (arith, lay-out .kept)) (omega (arith, lay-out .kept)) (arrange .ensures)
+    (omega (arith, arrange .kept))) _
+    (omega (arith, arrange .kept, pre .order-length))
 
 same-length : tie.Need-same-length
-same-length c = after-steps (search) .steps .kept .1 .1 .1 .1 .0 ∙ arranged (search) .arrange .kept .1 .1 .1 .0
+same-length c = omega (arith, after-steps (search) .steps .kept, arranged (search) .arrange .kept)
 
 same-length-2 : tie.Need-same-length-2
-same-length-2 c = arranged (search) .arrange .kept .1 .1 .0 ∙ laid (search) .lay-out .kept .1 .0
+same-length-2 c = omega (arith, arranged (search) .arrange .kept, laid (search) .lay-out .kept)
 
 same-length-3 : tie.Need-same-length-3
-same-length-3 c = arranged (search) .arrange .kept .1 .1 .1 .1 .0 ∙ laid (search) .lay-out .kept .1 .1 .0
+same-length-3 c = omega (arith, arranged (search) .arrange .kept, laid (search) .lay-out .kept)
 
 returns : tie.Need-returns
 returns c =
     let pre = entry₁ (search) .pre in
     let lay-out = laid (search) .lay-out in
     let arrange = arranged (search) .arrange in (
-      walk-wrote (lists-lie pre (lay-out .ensures) (lay-out .kept .1 .0) (lay-out .kept .1 .1 .0) (arrange .ensures) (arrange .kept .1 .1 .0))
-          (arrange .last .1 .1 .1 .0) (arrange .kept .1 .1 .1 .0 ∙ pre .order-length) (after-steps (search) .steps .ensures),
-      starts-lie pre (lay-out .ensures) (lay-out .kept .1 .0) (lay-out .kept .1 .1 .0) (arrange .ensures) (arrange .kept .1 .1 .0),
+      walk-wrote (lists-lie pre (lay-out .ensures) (omega (arith, lay-out .kept)) (omega (arith, lay-out .kept)) (arrange .ensures)
+          (omega (arith, arrange .kept)))
+          (arrange .last .1 .1 .1 .0) (omega (arith, arrange .kept, pre .order-length)) (after-steps (search) .steps .ensures),
+      starts-lie pre (lay-out .ensures) (omega (arith, lay-out .kept)) (omega (arith, lay-out .kept)) (arrange .ensures)
+          (omega (arith, arrange .kept)),
     )
 
 pub write-steps-spec : {M : Type 1} → statement M
@@ -117,9 +111,9 @@ write-steps-spec =
     arrange-requires
     slice-aggregate-steps
     mul-steps
-    sub-steps
-    part-steps-start
-    part-steps-end
+    (λ c. omega arith)
+    (λ c. search needs)
+    (λ c. search needs)
     steps-requires
     same-length
     same-length-2

@@ -1,6 +1,7 @@
 -- Where the analysis refuses, its answer is the answer; where it is done, what is stored beside it is the outcome.
 -- Assumes nothing.
 use mathlib.Core.Path.{_∙_}
+use native.Mathlib.Omega.{arith}
 use Rattle.plan_bytes.proofs.Ways.{way-refused}
 use Rattle.plan_bytes.proofs.Handed.{done-in-front, done-stored}
 use Rattle.plan_bytes.proofs.write_plan.Statement.{statement}
@@ -25,32 +26,26 @@ stored c = c
 abbrev analysed₁ : tie.Else1 → tie.After-analyse
 analysed₁ c = search
 
-analyse-requires : tie.Need-analyse-requires
-analyse-requires c κs = tt
-
-clear-late-requires : tie.Need-clear-late-requires
-clear-late-requires c κs = tt
-
 same-length : tie.Need-same-length
-same-length c = analysed (search) .analyse .kept .1 .1 .1 .0
+same-length c = omega (arith, analysed (search) .analyse .kept)
 
 same-length-2 : tie.Need-same-length-2
-same-length-2 c = analysed (search) .analyse .kept .1 .1 .1 .1 .0
+same-length-2 c = omega (arith, analysed (search) .analyse .kept)
 
 same-length-3 : tie.Need-same-length-3
-same-length-3 c = analysed (search) .analyse .kept .1 .1 .1 .1 .1 .0
+same-length-3 c = omega (arith, analysed (search) .analyse .kept)
 
 same-length-4 : tie.Need-same-length-4
-same-length-4 c = analysed (search) .analyse .kept .1 .1 .1 .1 .1 .1 .0
+same-length-4 c = omega (arith, analysed (search) .analyse .kept)
 
 same-length-5 : tie.Need-same-length-5
-same-length-5 c = analysed (search) .analyse .kept .1 .1 .1 .1 .1 .1 .1 .0
+same-length-5 c = omega (arith, analysed (search) .analyse .kept)
 
 same-length-6 : tie.Need-same-length-6
-same-length-6 c = analysed (search) .analyse .kept .1 .1 .1 .1 .1 .1 .1 .1 .0
+same-length-6 c = omega (arith, analysed (search) .analyse .kept)
 
 same-length-7 : tie.Need-same-length-7
-same-length-7 c = cleared (search) .clear-late .kept .1 .0
+same-length-7 c = omega (arith, cleared (search) .clear-late .kept)
 
 returns : tie.Need-returns
 returns c =
@@ -61,36 +56,36 @@ store-beside-requires : tie.Need-store-beside-requires
 store-beside-requires c κs = done-in-front _ _ (analysed (search) .analyse .ensures) (else1 (search) .if1 .left)
 
 same-length-8 : tie.Need-same-length-8
-same-length-8 c = stored (search) .store-beside .kept .1 .1 .1 .0 ∙ analysed₁ (search) .analyse .kept .1 .1 .1 .0
+same-length-8 c = omega (arith, stored (search) .store-beside .kept, analysed₁ (search) .analyse .kept)
 
 same-length-9 : tie.Need-same-length-9
-same-length-9 c = stored (search) .store-beside .kept .1 .1 .1 .1 .0 ∙ analysed₁ (search) .analyse .kept .1 .1 .1 .1 .0
+same-length-9 c = omega (arith, stored (search) .store-beside .kept, analysed₁ (search) .analyse .kept)
 
 same-length-10 : tie.Need-same-length-10
-same-length-10 c = stored (search) .store-beside .kept .1 .1 .1 .1 .1 .0 ∙ analysed₁ (search) .analyse .kept .1 .1 .1 .1 .1 .0
+same-length-10 c = omega (arith, stored (search) .store-beside .kept, analysed₁ (search) .analyse .kept)
 
 same-length-11 : tie.Need-same-length-11
-same-length-11 c = stored (search) .store-beside .kept .1 .1 .1 .1 .1 .1 .0 ∙ analysed₁ (search) .analyse .kept .1 .1 .1 .1 .1 .1 .0
+same-length-11 c = omega (arith, stored (search) .store-beside .kept, analysed₁ (search) .analyse .kept)
 
 same-length-12 : tie.Need-same-length-12
-same-length-12 c = stored (search) .store-beside .kept .1 .1 .1 .1 .1 .1 .1 .0 ∙ analysed₁ (search) .analyse .kept .1 .1 .1 .1 .1 .1 .1 .0
+same-length-12 c = omega (arith, stored (search) .store-beside .kept, analysed₁ (search) .analyse .kept)
 
 same-length-13 : tie.Need-same-length-13
-same-length-13 c = stored (search) .store-beside .kept .1 .1 .1 .1 .1 .1 .1 .1 .0 ∙ analysed₁ (search) .analyse .kept .1 .1 .1 .1 .1 .1 .1 .1 .0
+same-length-13 c = omega (arith, stored (search) .store-beside .kept, analysed₁ (search) .analyse .kept)
 
 same-length-14 : tie.Need-same-length-14
-same-length-14 c = stored (search) .store-beside .kept .1 .1 .1 .1 .1 .1 .1 .1 .1 .1 .0
+same-length-14 c = omega (arith, stored (search) .store-beside .kept)
 
 returns-2 : tie.Need-returns-2
 returns-2 c =
     done-stored _ _ (analysed₁ (search) .analyse .ensures) (else1 (search) .if1 .left)
     (record {
-      parents = analysed₁ (search) .analyse .kept .1 .1 .1 .0;
-      order = analysed₁ (search) .analyse .kept .1 .1 .1 .1 .0;
-      pops = analysed₁ (search) .analyse .kept .1 .1 .1 .1 .1 .0;
-      starts = analysed₁ (search) .analyse .kept .1 .1 .1 .1 .1 .1 .0;
-      rows = analysed₁ (search) .analyse .kept .1 .1 .1 .1 .1 .1 .1 .0;
-      work = analysed₁ (search) .analyse .kept .1 .1 .1 .1 .1 .1 .1 .1 .0;
+      parents = omega (arith, analysed₁ (search) .analyse .kept);
+      order = omega (arith, analysed₁ (search) .analyse .kept);
+      pops = omega (arith, analysed₁ (search) .analyse .kept);
+      starts = omega (arith, analysed₁ (search) .analyse .kept);
+      rows = omega (arith, analysed₁ (search) .analyse .kept);
+      work = omega (arith, analysed₁ (search) .analyse .kept);
     })
     (stored (search) .store-beside .ensures)
 
@@ -98,8 +93,8 @@ pub write-plan-spec : {M : Type 1} → statement M
 write-plan-spec =
     tie.close
     (tie.spec
-    analyse-requires
-    clear-late-requires
+    (λ c κs. tt)
+    (λ c κs. tt)
     same-length
     same-length-2
     same-length-3

@@ -43,12 +43,6 @@ first-repeat-requires c κs =
     let count = order-length held in
     (within held, (omega (arith, tested _ (entry (search) .pre .0) .few), omega (arith, entry (search) .pre .1 .1 .work)))
 
-answered-requires : tie.Need-answered-requires
-answered-requires c κs = search needs
-
-same-length : tie.Need-same-length
-same-length c = search needs
-
 returns : tie.Need-returns
 returns c = (
   λ plan front. refuses-16 _ plan (front .held) (after-first-repeat (search) .first-repeat .ensures) (c .before .if1 .taken)
@@ -61,18 +55,9 @@ first-wrong-list-requires c κs = (
   tested _ (entry (search) .pre .0),
   (
     lists-held _ (entry (search) .pre .0) _ (entry (search) .pre .1 .0 .front),
-    (entry (search) .pre .1 .1 .parents, omega (arith, entry (search) .pre .1 .1 .work, after-first-repeat (search) .first-repeat .kept .1 .0)),
+    (entry (search) .pre .1 .1 .parents, omega (arith, entry (search) .pre .1 .1 .work, after-first-repeat (search) .first-repeat .kept)),
   ),
 )
-
-answered-requires-2 : tie.Need-answered-requires-2
-answered-requires-2 c κs = search needs
-
-same-length-2 : tie.Need-same-length-2
-same-length-2 c = search needs
-
-same-length-3 : tie.Need-same-length-3
-same-length-3 c = search needs
 
 returns-2 : tie.Need-returns-2
 returns-2 c = (
@@ -81,18 +66,12 @@ returns-2 c = (
   λ z. absurd (omega (arith, number-of (c .answered2 .ensures), z)),
 )
 
-slice-reshare-prefix-judge-tree : tie.Need-slice-reshare-prefix-judge-tree
-slice-reshare-prefix-judge-tree c = search needs
-
 slice-aggregate-judge-tree : tie.Need-slice-aggregate-judge-tree
 slice-aggregate-judge-tree c =
-    part-long _ _ (omega (arith, entry (search) .pre .1 .1 .parents, after-first-wrong-list (search) .first-wrong-list .kept .1 .1 .1 .1 .1 .0))
+    part-long _ _ (omega (arith, entry (search) .pre .1 .1 .parents, after-first-wrong-list (search) .first-wrong-list .kept))
 
 slice-aggregate-judge-tree-2 : tie.Need-slice-aggregate-judge-tree-2
 slice-aggregate-judge-tree-2 c = part-long _ (now (entry (search) .args .pops)) (entry (search) .pre .1 .1 .pops)
-
-add-judge-tree : tie.Need-add-judge-tree
-add-judge-tree c = search needs
 
 slice-aggregate-judge-tree-3 : tie.Need-slice-aggregate-judge-tree-3
 slice-aggregate-judge-tree-3 c = part-long _ (now (entry (search) .args .fstarts)) (entry (search) .pre .1 .1 .starts)
@@ -109,17 +88,11 @@ judge-tree-requires c κs =
       omega (
         arith,
         entry (search) .pre .1 .1 .work,
-        after-first-repeat (search) .first-repeat .kept .1 .0,
-        after-first-wrong-list (search) .first-wrong-list .kept .1 .1 .1 .1 .1 .1 .0,
+        after-first-repeat (search) .first-repeat .kept,
+        after-first-wrong-list (search) .first-wrong-list .kept,
         parents-count _ _ parents,
       ),
     )
-
-same-length-4 : tie.Need-same-length-4
-same-length-4 c = search needs
-
-same-length-5 : tie.Need-same-length-5
-same-length-5 c = search needs
 
 returns-3 : tie.Need-returns-3
 returns-3 c = (
@@ -140,20 +113,20 @@ judge-spec =
     (tie.spec
     slice-aggregate-steps
     first-repeat-requires
-    answered-requires
-    same-length
+    (λ c κs. search needs)
+    (λ c. search needs)
     returns
     first-wrong-list-requires
-    answered-requires-2
-    same-length-2
-    same-length-3
+    (λ c κs. search needs)
+    (λ c. search needs)
+    (λ c. search needs)
     returns-2
-    slice-reshare-prefix-judge-tree
+    (λ c. search needs)
     slice-aggregate-judge-tree
     slice-aggregate-judge-tree-2
-    add-judge-tree
+    (λ c. search needs)
     slice-aggregate-judge-tree-3
     judge-tree-requires
-    same-length-4
-    same-length-5
+    (λ c. search needs)
+    (λ c. search needs)
     returns-3)

@@ -33,24 +33,12 @@ else3 c = c
 first-scattered-requires : tie.Need-first-scattered-requires
 first-scattered-requires c κs = let on = entry (search) .pre .0 .on in ((tree-in on, few on), ((each-once on, as-long on), entry (search) .pre .1))
 
-answered-requires : tie.Need-answered-requires
-answered-requires c κs = search needs
-
-same-length : tie.Need-same-length
-same-length c = search needs
-
 returns : tie.Need-returns
 returns c = λ job plan on. refuses-18 on (after-first-scattered (search) .first-scattered .ensures) (c .before .if1 .taken) (c .answered .ensures)
 
 first-wrong-pops-requires : tie.Need-first-wrong-pops-requires
 first-wrong-pops-requires c κs =
     let on = entry (search) .pre .0 .on in (tree-in on, (within-order on, ((as-long on, pops-as-long on), (few on, omega arith))))
-
-answered-requires-2 : tie.Need-answered-requires-2
-answered-requires-2 c κs = search needs
-
-same-length-2 : tie.Need-same-length-2
-same-length-2 c = search needs
 
 returns-2 : tie.Need-returns-2
 returns-2 c =
@@ -65,35 +53,17 @@ peak-requires c κs =
       omega (arith, as-long on),
     )
 
-answered-requires-3 : tie.Need-answered-requires-3
-answered-requires-3 c κs = search needs
-
-same-length-3 : tie.Need-same-length-3
-same-length-3 c = search needs
-
 returns-3 : tie.Need-returns-3
 returns-3 c = λ job plan on.
     let whole = passes-18 on (after-first-scattered (search) .first-scattered .ensures) (else1 (search) .if1 .left) in
     refuses-20 on whole (passes-19 on whole (after-first-wrong-pops (search) .first-wrong-pops .ensures) (else2 (search) .if2 .left))
     (after-peak (search) .peak .ensures) (c .before .if3 .taken) (c .answered3 .ensures)
 
-answered-requires-4 : tie.Need-answered-requires-4
-answered-requires-4 c κs = search needs
-
-same-length-4 : tie.Need-same-length-4
-same-length-4 c = search needs
-
 returns-4 : tie.Need-returns-4
 returns-4 c = λ job plan on.
     let whole = passes-18 on (after-first-scattered (search) .first-scattered .ensures) (else1 (search) .if1 .left) in
     refuses-9 on whole (passes-19 on whole (after-first-wrong-pops (search) .first-wrong-pops .ensures) (else2 (search) .if2 .left))
     (after-peak (search) .peak .ensures) (else3 (search) .if3 .left) (c .before .if4 .taken) (c .answered4 .ensures)
-
-answered-requires-5 : tie.Need-answered-requires-5
-answered-requires-5 c κs = search needs
-
-same-length-5 : tie.Need-same-length-5
-same-length-5 c = search needs
 
 returns-5 : tie.Need-returns-5
 returns-5 c = λ job plan on.
@@ -106,20 +76,20 @@ judge-tree-spec =
     tie.close
     (tie.spec
     first-scattered-requires
-    answered-requires
-    same-length
+    (λ c κs. search needs)
+    (λ c. search needs)
     returns
     first-wrong-pops-requires
-    answered-requires-2
-    same-length-2
+    (λ c κs. search needs)
+    (λ c. search needs)
     returns-2
     peak-requires
-    answered-requires-3
-    same-length-3
+    (λ c κs. search needs)
+    (λ c. search needs)
     returns-3
-    answered-requires-4
-    same-length-4
+    (λ c κs. search needs)
+    (λ c. search needs)
     returns-4
-    answered-requires-5
-    same-length-5
+    (λ c κs. search needs)
+    (λ c. search needs)
     returns-5)

@@ -30,9 +30,6 @@ in-loop c = c
 abbrev read : tie.After-read-list Inv-loop μ-loop → tie.After-read-list Inv-loop μ-loop
 read c = c
 
-slice-write-starts : tie.Need-slice-write-starts Inv-loop μ-loop
-slice-write-starts c = search needs
-
 loop-holds : tie.Need-loop-holds Inv-loop μ-loop
 loop-holds c = lists-start _ _ _ (now (entry (search) .args .starts)) _ (entry (search) .pre .0)
 
@@ -41,27 +38,18 @@ read-list-requires c κs =
     let l = at-loop (search) .loop .inv in
     (l .inside, entry (search) .pre .1, c .before .loop-test .taken, l .paced)
 
-enum-known-number : tie.Need-enum-known-number Inv-loop μ-loop
-enum-known-number c = search needs
-
 same-length : tie.Need-same-length Inv-loop μ-loop
 same-length c =
     let starts = now (entry (search) .args .starts) in
     lists-long (at-loop (search) .loop .inv) .0 ∙ length-set starts 0 0
 
 same-length-2 : tie.Need-same-length-2 Inv-loop μ-loop
-same-length-2 c = read (search) .read-list .kept .1 .1 .1 .1 .1 .0 ∙ lists-long (at-loop (search) .loop .inv) .1
+same-length-2 c = omega (arith, read (search) .read-list .kept, lists-long (at-loop (search) .loop .inv) .1)
 
 returns : tie.Need-returns Inv-loop μ-loop
 returns c =
     let l = at-loop (search) .loop .inv in
     refuses _ _ (lists-fault l (in-loop (search) .loop-test .taken) (read (search) .read-list .ensures) (c .before .number .given .1)) refl
-
-enum-known-value : tie.Need-enum-known-value Inv-loop μ-loop
-enum-known-value c = search needs
-
-mul-starts : tie.Need-mul-starts Inv-loop μ-loop
-mul-starts c = search needs
 
 slice-write-starts-2 : tie.Need-slice-write-starts-2 Inv-loop μ-loop
 slice-write-starts-2 c =
@@ -69,12 +57,6 @@ slice-write-starts-2 c =
     let long = lists-long (at-loop (search) .loop .inv) .0 ∙ length-set starts 0 0 in
     let next = in-loop (search) .loop-test .taken in
     omega arith
-
-add-j : tie.Need-add-j Inv-loop μ-loop
-add-j c = search needs
-
-loop-less : tie.Need-loop-less Inv-loop μ-loop
-loop-less c = search needs
 
 loop-again : tie.Need-loop-again Inv-loop μ-loop
 loop-again c =
@@ -96,18 +78,18 @@ read-lists-spec =
     (tie.spec
     Inv-loop
     μ-loop
-    slice-write-starts
+    (λ c. search needs)
     loop-holds
     read-list-requires
-    enum-known-number
+    (λ c. search needs)
     same-length
     same-length-2
     returns
-    enum-known-value
-    mul-starts
+    (λ c. search needs)
+    (λ c. search needs)
     slice-write-starts-2
-    add-j
-    loop-less
+    (λ c. search needs)
+    (λ c. search needs)
     loop-again
     same-length-3
     same-length-4

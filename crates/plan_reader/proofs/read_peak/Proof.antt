@@ -13,20 +13,8 @@ read c = c
 abbrev after-peak : tie.After-peak → tie.After-peak
 after-peak c = c
 
-read-long-requires : tie.Need-read-long-requires
-read-long-requires c κs = search needs
-
-enum-known-number : tie.Need-enum-known-number
-enum-known-number c = search needs
-
 returns : tie.Need-returns
 returns c = no-peak _ _ _ (field-refused _ _ _ _ (read (search) .read-long .ensures) (c .before .number .given .1))
-
-enum-known-peak : tie.Need-enum-known-peak
-enum-known-peak c = search needs
-
-add-t12 : tie.Need-add-t12
-add-t12 c = search needs
 
 returns-2 : tie.Need-returns-2
 returns-2 c = bytes-after _ _ _ (field-found _ _ _ _ (read (search) .read-long .ensures) (after-peak (search) .peak .given .1) .0) (c .if1 .taken)
@@ -38,10 +26,10 @@ pub read-peak-spec : {M : Type 1} → statement M
 read-peak-spec =
     tie.close
     (tie.spec
-    read-long-requires
-    enum-known-number
+    (λ c κs. search needs)
+    (λ c. search needs)
     returns
-    enum-known-peak
-    add-t12
+    (λ c. search needs)
+    (λ c. search needs)
     returns-2
     returns-3)

@@ -1,6 +1,7 @@
 -- A plan is its steps, its lists, its peak and the end: the first part at fault is the plan's fault, and what is read is kept part by part.
 -- Assumes nothing.
 use borrow.Author.Needs.{needs}
+use native.Mathlib.Omega.{arith}
 use Rattle.bytes_laws.proofs.Reaches.{steps-reach, lists-reach}
 use Rattle.field_reader.proofs.Answers.{told-found, told-refused}
 use Rattle.plan_reader.proofs.Wholes.{no-steps, no-lists, plan-faulty, plan-whole}
@@ -23,23 +24,14 @@ after-read-lists c = c
 abbrev after-total : tie.After-total → tie.After-total
 after-total c = c
 
-read-steps-requires : tie.Need-read-steps-requires
-read-steps-requires c κs = search needs
-
-enum-known-number : tie.Need-enum-known-number
-enum-known-number c = search needs
-
 same-length : tie.Need-same-length
-same-length c = after-read-steps (search) .read-steps .kept .1 .1 .1 .0
+same-length c = omega (arith, after-read-steps (search) .read-steps .kept)
 
 same-length-2 : tie.Need-same-length-2
-same-length-2 c = after-read-steps (search) .read-steps .kept .1 .1 .1 .1 .0
+same-length-2 c = omega (arith, after-read-steps (search) .read-steps .kept)
 
 returns : tie.Need-returns
 returns c = plan-faulty (no-steps _ _ _ (told-refused (after-read-steps (search) .read-steps .ensures) (c .before .number .given .1)))
-
-enum-known-behind : tie.Need-enum-known-behind
-enum-known-behind c = search needs
 
 read-lists-requires : tie.Need-read-lists-requires
 read-lists-requires c κs =
@@ -47,28 +39,22 @@ read-lists-requires c κs =
     let (few, inside, order, pops, starts) = entry (search) .pre in
     (steps-reach _ _ _ _ _ _ (steps .1) .1 .inside inside, few, starts)
 
-enum-known-number-2 : tie.Need-enum-known-number-2
-enum-known-number-2 c = search needs
-
 same-length-3 : tie.Need-same-length-3
-same-length-3 c = after-read-steps (search) .read-steps .kept .1 .1 .1 .0
+same-length-3 c = omega (arith, after-read-steps (search) .read-steps .kept)
 
 same-length-4 : tie.Need-same-length-4
-same-length-4 c = after-read-steps (search) .read-steps .kept .1 .1 .1 .1 .0
+same-length-4 c = omega (arith, after-read-steps (search) .read-steps .kept)
 
 same-length-5 : tie.Need-same-length-5
-same-length-5 c = after-read-lists (search) .read-lists .kept .1 .1 .1 .0
+same-length-5 c = omega (arith, after-read-lists (search) .read-lists .kept)
 
 same-length-6 : tie.Need-same-length-6
-same-length-6 c = after-read-lists (search) .read-lists .kept .1 .1 .1 .1 .0
+same-length-6 c = omega (arith, after-read-lists (search) .read-lists .kept)
 
 returns-2 : tie.Need-returns-2
 returns-2 c =
     let steps = told-found (after-read-steps (search) .read-steps .ensures) (after-behind (search) .behind .given .1) in
     plan-faulty (no-lists _ _ _ (steps .1) (told-refused (after-read-lists (search) .read-lists .ensures) (c .before .number2 .given .1)))
-
-enum-known-total : tie.Need-enum-known-total
-enum-known-total c = search needs
 
 read-peak-requires : tie.Need-read-peak-requires
 read-peak-requires c κs =
@@ -77,16 +63,16 @@ read-peak-requires c κs =
     lists-reach _ _ _ _ _ _ _ (lists .1) .1 .inside (steps-reach _ _ _ _ _ _ (steps .1) .1 .inside (entry (search) .pre .1))
 
 same-length-7 : tie.Need-same-length-7
-same-length-7 c = after-read-steps (search) .read-steps .kept .1 .1 .1 .0
+same-length-7 c = omega (arith, after-read-steps (search) .read-steps .kept)
 
 same-length-8 : tie.Need-same-length-8
-same-length-8 c = after-read-steps (search) .read-steps .kept .1 .1 .1 .1 .0
+same-length-8 c = omega (arith, after-read-steps (search) .read-steps .kept)
 
 same-length-9 : tie.Need-same-length-9
-same-length-9 c = after-read-lists (search) .read-lists .kept .1 .1 .1 .0
+same-length-9 c = omega (arith, after-read-lists (search) .read-lists .kept)
 
 same-length-10 : tie.Need-same-length-10
-same-length-10 c = after-read-lists (search) .read-lists .kept .1 .1 .1 .1 .0
+same-length-10 c = omega (arith, after-read-lists (search) .read-lists .kept)
 
 returns-3 : tie.Need-returns-3
 returns-3 c =
@@ -98,20 +84,20 @@ pub read-plan-spec : {M : Type 1} → statement M
 read-plan-spec =
     tie.close
     (tie.spec
-    read-steps-requires
-    enum-known-number
+    (λ c κs. search needs)
+    (λ c. search needs)
     same-length
     same-length-2
     returns
-    enum-known-behind
+    (λ c. search needs)
     read-lists-requires
-    enum-known-number-2
+    (λ c. search needs)
     same-length-3
     same-length-4
     same-length-5
     same-length-6
     returns-2
-    enum-known-total
+    (λ c. search needs)
     read-peak-requires
     same-length-7
     same-length-8

@@ -26,27 +26,12 @@ after-read-field2 c = c
 abbrev after-popped : tie.After-popped → tie.After-popped
 after-popped c = c
 
-read-field-requires : tie.Need-read-field-requires
-read-field-requires c κs = search needs
-
-enum-known-number : tie.Need-enum-known-number
-enum-known-number c = search needs
-
 returns : tie.Need-returns
 returns c =
     refuses _ _ (step-no-column _ _ _ (field-refused _ _ _ _ (after-read-field (search) .read-field .ensures) (c .before .number .given .1))) refl
 
-enum-known-column : tie.Need-enum-known-column
-enum-known-column c = search needs
-
-sub-read-field : tie.Need-sub-read-field
-sub-read-field c = search needs
-
 read-field-requires-2 : tie.Need-read-field-requires-2
 read-field-requires-2 c κs = field-found _ _ _ _ (after-read-field (search) .read-field .ensures) (c .before .column .given .1) .1 .inside
-
-enum-known-number-2 : tie.Need-enum-known-number-2
-enum-known-number-2 c = search needs
 
 returns-2 : tie.Need-returns-2
 returns-2 c =
@@ -54,30 +39,15 @@ returns-2 c =
     refuses _ _ (step-no-pops _ _ _ column (field-refused _ _ _ _ (after-read-field2 (search) .read-field2 .ensures) (c .before .number2 .given .1)))
     refl
 
-enum-known-popped : tie.Need-enum-known-popped
-enum-known-popped c = search needs
-
 narrow32-requires : tie.Need-narrow32-requires
 narrow32-requires c κs =
     let column = field-found _ _ _ _ (after-read-field (search) .read-field .ensures) (after-column (search) .column .given .1) .1 in
     column-narrow (entry (search) .pre .1) (column .high)
 
-mul-order : tie.Need-mul-order
-mul-order c = search needs
-
-slice-write-order : tie.Need-slice-write-order
-slice-write-order c = search needs
-
 narrow32-requires-2 : tie.Need-narrow32-requires-2
 narrow32-requires-2 c κs =
     let popped = field-found _ _ _ _ (after-read-field2 (search) .read-field2 .ensures) (after-popped (search) .popped .given .1) .1 in
     pops-narrow (entry (search) .pre .1) (popped .high)
-
-mul-pops : tie.Need-mul-pops
-mul-pops c = search needs
-
-slice-write-pops : tie.Need-slice-write-pops
-slice-write-pops c = search needs
 
 same-length : tie.Need-same-length
 same-length c = let lent = entry (search) .args in length-set (now (lent .order)) (lent .i) _
@@ -99,21 +69,21 @@ pub read-step-spec : {M : Type 1} → statement M
 read-step-spec =
     tie.close
     (tie.spec
-    read-field-requires
-    enum-known-number
+    (λ c κs. search needs)
+    (λ c. search needs)
     returns
-    enum-known-column
-    sub-read-field
+    (λ c. search needs)
+    (λ c. search needs)
     read-field-requires-2
-    enum-known-number-2
+    (λ c. search needs)
     returns-2
-    enum-known-popped
+    (λ c. search needs)
     narrow32-requires
-    mul-order
-    slice-write-order
+    (λ c. search needs)
+    (λ c. search needs)
     narrow32-requires-2
-    mul-pops
-    slice-write-pops
+    (λ c. search needs)
+    (λ c. search needs)
     same-length
     same-length-2
     returns-3)

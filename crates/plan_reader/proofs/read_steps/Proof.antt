@@ -38,28 +38,16 @@ read-step-requires c κs =
     let p = entry (search) .pre in
     (l .inside, p .1, in-loop (search) .loop-test .taken, omega arith, omega arith)
 
-enum-known-number : tie.Need-enum-known-number Inv-loop μ-loop
-enum-known-number c = search needs
-
 same-length : tie.Need-same-length Inv-loop μ-loop
-same-length c = read (search) .read-step .kept .1 .1 .1 .1 .0 ∙ steps-long (at-loop (search) .loop .inv) .0
+same-length c = omega (arith, read (search) .read-step .kept, steps-long (at-loop (search) .loop .inv) .0)
 
 same-length-2 : tie.Need-same-length-2 Inv-loop μ-loop
-same-length-2 c = read (search) .read-step .kept .1 .1 .1 .1 .1 .0 ∙ steps-long (at-loop (search) .loop .inv) .1
+same-length-2 c = omega (arith, read (search) .read-step .kept, steps-long (at-loop (search) .loop .inv) .1)
 
 returns : tie.Need-returns Inv-loop μ-loop
 returns c =
     let l = at-loop (search) .loop .inv in
     refuses _ _ (steps-fault l (in-loop (search) .loop-test .taken) (read (search) .read-step .ensures) (c .before .number .given .1)) refl
-
-enum-known-next : tie.Need-enum-known-next Inv-loop μ-loop
-enum-known-next c = search needs
-
-add-i : tie.Need-add-i Inv-loop μ-loop
-add-i c = search needs
-
-loop-less : tie.Need-loop-less Inv-loop μ-loop
-loop-less c = search needs
 
 loop-again : tie.Need-loop-again Inv-loop μ-loop
 loop-again c =
@@ -83,13 +71,13 @@ read-steps-spec =
     μ-loop
     loop-holds
     read-step-requires
-    enum-known-number
+    (λ c. search needs)
     same-length
     same-length-2
     returns
-    enum-known-next
-    add-i
-    loop-less
+    (λ c. search needs)
+    (λ c. search needs)
+    (λ c. search needs)
     loop-again
     same-length-3
     same-length-4

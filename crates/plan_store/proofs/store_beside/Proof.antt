@@ -60,29 +60,26 @@ slice-aggregate-store-plan-4 c = sym (length-take-le _ _ (entry (search) .pre .r
 store-plan-requires : tie.Need-store-plan-requires
 store-plan-requires c κs = entry (search) .pre .writable
 
-clear-all-requires : tie.Need-clear-all-requires
-clear-all-requires c κs = tt
-
 same-length : tie.Need-same-length
 same-length c = cleared (search) .clear-all .kept .0
 
 same-length-2 : tie.Need-same-length-2
-same-length-2 c = cleared (search) .clear-all .kept .1 .0
+same-length-2 c = omega (arith, cleared (search) .clear-all .kept)
 
 same-length-3 : tie.Need-same-length-3
-same-length-3 c = cleared (search) .clear-all .kept .1 .1 .0
+same-length-3 c = omega (arith, cleared (search) .clear-all .kept)
 
 same-length-4 : tie.Need-same-length-4
-same-length-4 c = cleared (search) .clear-all .kept .1 .1 .1 .0
+same-length-4 c = omega (arith, cleared (search) .clear-all .kept)
 
 same-length-5 : tie.Need-same-length-5
-same-length-5 c = cleared (search) .clear-all .kept .1 .1 .1 .1 .0
+same-length-5 c = omega (arith, cleared (search) .clear-all .kept)
 
 same-length-6 : tie.Need-same-length-6
-same-length-6 c = cleared (search) .clear-all .kept .1 .1 .1 .1 .1 .0
+same-length-6 c = omega (arith, cleared (search) .clear-all .kept)
 
 same-length-7 : tie.Need-same-length-7
-same-length-7 c = stored (search) .store-plan .kept .1 .1 .1 .1 .1 .1 .1 .1 .0
+same-length-7 c = omega (arith, stored (search) .store-plan .kept)
 
 returns : tie.Need-returns
 returns c =
@@ -102,7 +99,7 @@ same-length-11 : tie.Need-same-length-11
 same-length-11 c = refl
 
 same-length-12 : tie.Need-same-length-12
-same-length-12 c = stored (search) .store-plan .kept .1 .1 .1 .1 .1 .1 .1 .1 .0
+same-length-12 c = omega (arith, stored (search) .store-plan .kept)
 
 returns-2 : tie.Need-returns-2
 returns-2 c = done-beside _ _ (rw (entry (search) .pre .planned) at (stored (search) .store-plan .ensures)) (c .if1 .left)
@@ -123,7 +120,7 @@ store-beside-spec =
     slice-reshare-prefix-store-plan-4
     slice-aggregate-store-plan-4
     store-plan-requires
-    clear-all-requires
+    (λ c κs. tt)
     same-length
     same-length-2
     same-length-3

@@ -58,9 +58,6 @@ put-requires c κs = (
   ),
 )
 
-same-length : tie.Need-same-length
-same-length c = search needs
-
 returns : tie.Need-returns
 returns c =
     plan-put _ _ _ _ _ _ _ (after-put-key (search) .put-key .ensures) (after-write-steps (search) .write-steps .ensures)
@@ -74,5 +71,5 @@ put-plan-spec =
     write-steps-requires
     write-lists-requires
     put-requires
-    same-length
+    (λ c. search needs)
     returns)

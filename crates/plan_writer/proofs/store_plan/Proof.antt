@@ -14,19 +14,10 @@ after-put-plan c = c
 abbrev after-finish : tie.After-finish → tie.After-finish
 after-finish c = c
 
-put-plan-requires : tie.Need-put-plan-requires
-put-plan-requires c κs = search needs
-
-finish-requires : tie.Need-finish-requires
-finish-requires c κs = search needs
-
-same-length : tie.Need-same-length
-same-length c = search needs
-
 returns : tie.Need-returns
 returns c =
     let put = after-put-plan (search) .put-plan .ensures in
     after-finish (search) .finish .ensures _ (entry (search) .args .bytes .now) (put .0) (put .1)
 
 pub store-plan-spec : {M : Type 1} → statement M
-store-plan-spec = tie.close (tie.spec put-plan-requires finish-requires same-length returns)
+store-plan-spec = tie.close (tie.spec (λ c κs. search needs) (λ c κs. search needs) (λ c. search needs) returns)

@@ -34,12 +34,6 @@ after-put2 c = c
 loop-holds : tie.Need-loop-holds Inv-loop μ-loop
 loop-holds c = record { paired = entry (search) .pre .0; written = writes-all; few = entry (search) .pre .1 .0 }
 
-mul-put : tie.Need-mul-put Inv-loop μ-loop
-mul-put c = search needs
-
-shared-slice-read-put : tie.Need-shared-slice-read-put Inv-loop μ-loop
-shared-slice-read-put c = search needs
-
 cast-put : tie.Need-cast-put Inv-loop μ-loop
 cast-put c = omega (arith, c .shared-slice-known3 .given (at-loop (search) .loop .done))
 
@@ -47,12 +41,6 @@ put-requires : tie.Need-put-requires Inv-loop μ-loop
 put-requires c κs =
     let loop = at-loop (search) .loop in
     (omega (arith, c .shared-slice-known3 .given (loop .done)), omega (arith, column-near (loop .inv), entry (search) .pre .1 .1))
-
-mul-put-2 : tie.Need-mul-put-2 Inv-loop μ-loop
-mul-put-2 c = search needs
-
-shared-slice-read-put-2 : tie.Need-shared-slice-read-put-2 Inv-loop μ-loop
-shared-slice-read-put-2 c = search needs
 
 cast-put-2 : tie.Need-cast-put-2 Inv-loop μ-loop
 cast-put-2 c = omega (arith, c .shared-slice-known4 .given (at-loop (search) .loop .done))
@@ -65,12 +53,6 @@ put-requires-2 c κs =
       omega (arith, pops-near (loop .inv) (in-loop (search) .loop-test .taken) (column .ensures .0) (column .ensures .1), entry (search) .pre .1 .1),
     )
 
-add-done : tie.Need-add-done Inv-loop μ-loop
-add-done c = search needs
-
-loop-less : tie.Need-loop-less Inv-loop μ-loop
-loop-less c = search needs
-
 loop-again : tie.Need-loop-again Inv-loop μ-loop
 loop-again c =
     let column = after-put (search) .put in
@@ -78,9 +60,6 @@ loop-again c =
     let there = in-loop (search) .loop-test .taken in
     let inv = at-loop (search) .loop .inv in
     write-turn inv there (column .ensures .0) (column .ensures .1) (taken .ensures .0) (taken .ensures .1)
-
-same-length : tie.Need-same-length Inv-loop μ-loop
-same-length c = search needs
 
 returns : tie.Need-returns Inv-loop μ-loop
 returns c = write-stop (c .before .loop .inv) (c .loop-test .left)
@@ -92,16 +71,16 @@ write-steps-spec =
     Inv-loop
     μ-loop
     loop-holds
-    mul-put
-    shared-slice-read-put
+    (λ c. search needs)
+    (λ c. search needs)
     cast-put
     put-requires
-    mul-put-2
-    shared-slice-read-put-2
+    (λ c. search needs)
+    (λ c. search needs)
     cast-put-2
     put-requires-2
-    add-done
-    loop-less
+    (λ c. search needs)
+    (λ c. search needs)
     loop-again
-    same-length
+    (λ c. search needs)
     returns)

@@ -29,18 +29,12 @@ entry c = c
 abbrev written : tie.After-write-line → tie.After-write-line
 written c = c
 
-slice-aggregate-write-line : tie.Need-slice-aggregate-write-line
-slice-aggregate-write-line c = search needs
-
 write-line-requires : tie.Need-write-line-requires
 write-line-requires c κs = line-fits (entry (search) .args .answer) (entry (search) .pre)
-
-same-length : tie.Need-same-length
-same-length c = search needs
 
 returns : tie.Need-returns
 returns c = line-written (entry (search) .args .answer) (entry (search) .args .bytes .now) (written (search) .write-line .ensures)
 
 pub write-refusal-spec : {M : Type 1} → statement M
 write-refusal-spec =
-    tie.close (tie.spec slice-aggregate-write-line write-line-requires same-length returns)
+    tie.close (tie.spec (λ c. search needs) write-line-requires (λ c. search needs) returns)

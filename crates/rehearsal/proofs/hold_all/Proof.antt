@@ -11,37 +11,16 @@ Inv-loop tally₀ count case₀ seed₀ counter₀ tally case seed counter = Uni
 abbrev μ-loop : tie.MeasureT-loop
 μ-loop tally₀ count case₀ seed₀ counter₀ tally case seed counter = count - counter
 
-loop-holds : tie.Need-loop-holds Inv-loop μ-loop
-loop-holds c = tt
-
-draw-case-requires : tie.Need-draw-case-requires Inv-loop μ-loop
-draw-case-requires c κs = tt
-
-hold-requires : tie.Need-hold-requires Inv-loop μ-loop
-hold-requires c κs = tt
-
-add-counter : tie.Need-add-counter Inv-loop μ-loop
-add-counter c = omega arith
-
-loop-less : tie.Need-loop-less Inv-loop μ-loop
-loop-less c = omega arith
-
-loop-again : tie.Need-loop-again Inv-loop μ-loop
-loop-again c = tt
-
-returns : tie.Need-returns Inv-loop μ-loop
-returns c = tt
-
 pub hold-all-spec : {M : Type 1} → statement M
 hold-all-spec =
     tie.close
     (tie.spec
     Inv-loop
     μ-loop
-    loop-holds
-    draw-case-requires
-    hold-requires
-    add-counter
-    loop-less
-    loop-again
-    returns)
+    (λ c. tt)
+    (λ c κs. tt)
+    (λ c κs. tt)
+    (λ c. omega arith)
+    (λ c. omega arith)
+    (λ c. tt)
+    (λ c. tt))

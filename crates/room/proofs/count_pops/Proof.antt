@@ -63,12 +63,6 @@ in-loop c = c
 loop-holds : tie.Need-loop-holds Inv-loop μ-loop
 loop-holds c = writing-start _ _ _ (entry (search) .pre .1)
 
-mul-count-at : tie.Need-mul-count-at Inv-loop μ-loop
-mul-count-at c = search needs
-
-shared-slice-read-count-at : tie.Need-shared-slice-read-count-at Inv-loop μ-loop
-shared-slice-read-count-at c = search needs
-
 cast-count-at : tie.Need-cast-count-at Inv-loop μ-loop
 cast-count-at c = omega (arith, c .shared-slice-known3 .given (at-loop (search) .loop .k))
 
@@ -80,23 +74,8 @@ cast-pops c =
     let h = entry (search) .pre .0 (at-loop (search) .loop .k) (omega (arith, in-loop (search) .loop-test .taken)) in
     omega (arith, c .count-at .ensures)
 
-mul-pops : tie.Need-mul-pops Inv-loop μ-loop
-mul-pops c = search needs
-
-slice-write-pops : tie.Need-slice-write-pops Inv-loop μ-loop
-slice-write-pops c = search needs
-
-add-k : tie.Need-add-k Inv-loop μ-loop
-add-k c = search needs
-
-loop-less : tie.Need-loop-less Inv-loop μ-loop
-loop-less c = search needs
-
 loop-again : tie.Need-loop-again Inv-loop μ-loop
 loop-again c = writing-turn (at-loop (search) .loop .inv) (omega (arith, in-loop (search) .loop-test .taken)) (c .count-at .ensures)
-
-same-length : tie.Need-same-length Inv-loop μ-loop
-same-length c = search needs
 
 returns : tie.Need-returns Inv-loop μ-loop
 returns c = writing-stop (c .before .loop .inv) (omega (arith, c .loop-test .left))
@@ -108,15 +87,15 @@ count-pops-spec =
     Inv-loop
     μ-loop
     loop-holds
-    mul-count-at
-    shared-slice-read-count-at
+    (λ c. search needs)
+    (λ c. search needs)
     cast-count-at
     count-at-requires
     cast-pops
-    mul-pops
-    slice-write-pops
-    add-k
-    loop-less
+    (λ c. search needs)
+    (λ c. search needs)
+    (λ c. search needs)
+    (λ c. search needs)
     loop-again
-    same-length
+    (λ c. search needs)
     returns)

@@ -13,18 +13,6 @@ use Rattle.room.proofs.hold.Tie as tie
 abbrev entry : tie.Start → tie.Start
 entry c = c
 
-sub-left : tie.Need-sub-left
-sub-left c = search needs
-
-mul-below : tie.Need-mul-below
-mul-below c = search needs
-
-slice-read-below : tie.Need-slice-read-below
-slice-read-below c = search needs
-
-entries-requires : tie.Need-entries-requires
-entries-requires c κs = search needs
-
 add-below : tie.Need-add-below
 add-below c =
     omega (
@@ -33,24 +21,6 @@ add-below c =
       c .entries .ensures,
       entries-fit (entry (search) .args .rows) (omega (arith, entry (search) .pre .few)),
     )
-
-add-below-2 : tie.Need-add-below-2
-add-below-2 c = search needs
-
-mul-below-2 : tie.Need-mul-below-2
-mul-below-2 c = search needs
-
-slice-write-below : tie.Need-slice-write-below
-slice-write-below c = search needs
-
-at-most-one-requires : tie.Need-at-most-one-requires
-at-most-one-requires c κs = search needs
-
-add-result : tie.Need-add-result
-add-result c = search needs
-
-same-length : tie.Need-same-length
-same-length c = search needs
 
 returns : tie.Need-returns
 returns c = let e = entry (search) .args in
@@ -64,15 +34,15 @@ pub hold-spec : {M : Type 1} → statement M
 hold-spec =
     tie.close
     (tie.spec
-    sub-left
-    mul-below
-    slice-read-below
-    entries-requires
+    (λ c. search needs)
+    (λ c. search needs)
+    (λ c. search needs)
+    (λ c κs. search needs)
     add-below
-    add-below-2
-    mul-below-2
-    slice-write-below
-    at-most-one-requires
-    add-result
-    same-length
+    (λ c. search needs)
+    (λ c. search needs)
+    (λ c. search needs)
+    (λ c κs. search needs)
+    (λ c. search needs)
+    (λ c. search needs)
     returns)

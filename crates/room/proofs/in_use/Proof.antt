@@ -22,24 +22,6 @@ entry c = c
 abbrev after-at-most-one : tie.After-at-most-one → tie.After-at-most-one
 after-at-most-one c = c
 
-at-most-one-requires : tie.Need-at-most-one-requires
-at-most-one-requires c κs = search needs
-
-sub-result : tie.Need-sub-result
-sub-result c = search needs
-
-mul-result : tie.Need-mul-result
-mul-result c = search needs
-
-shared-slice-read-result : tie.Need-shared-slice-read-result
-shared-slice-read-result c = search needs
-
-add-entries : tie.Need-add-entries
-add-entries c = search needs
-
-entries-requires : tie.Need-entries-requires
-entries-requires c κs = search needs
-
 add-result : tie.Need-add-result
 add-result c =
     omega (
@@ -58,11 +40,11 @@ pub in-use-spec : {M : Type 1} → statement M
 in-use-spec =
     tie.close
     (tie.spec
-    at-most-one-requires
-    sub-result
-    mul-result
-    shared-slice-read-result
-    add-entries
-    entries-requires
+    (λ c κs. search needs)
+    (λ c. search needs)
+    (λ c. search needs)
+    (λ c. search needs)
+    (λ c. search needs)
+    (λ c κs. search needs)
     add-result
     returns)

@@ -38,26 +38,11 @@ after-greater c = c
 abbrev held : tie.After-hold Inv-loop μ-loop → tie.After-hold Inv-loop μ-loop
 held c = c
 
-slice-write-below : tie.Need-slice-write-below Inv-loop μ-loop
-slice-write-below c = search needs
-
 loop-holds : tie.Need-loop-holds Inv-loop μ-loop
 loop-holds c = peaked-start _ _ _ (entry (search) .args .below .now) (entry (search) .pre .1)
 
-mul-p : tie.Need-mul-p Inv-loop μ-loop
-mul-p c = search needs
-
-shared-slice-read-p : tie.Need-shared-slice-read-p Inv-loop μ-loop
-shared-slice-read-p c = search needs
-
 cast-p : tie.Need-cast-p Inv-loop μ-loop
 cast-p c = omega (arith, c .shared-slice-known4 .given (at-loop (search) .loop .k))
-
-mul-rows-of : tie.Need-mul-rows-of Inv-loop μ-loop
-mul-rows-of c = search needs
-
-shared-slice-read-rows-of : tie.Need-shared-slice-read-rows-of Inv-loop μ-loop
-shared-slice-read-rows-of c = search needs
 
 cast-rows-of : tie.Need-cast-rows-of Inv-loop μ-loop
 cast-rows-of c = omega (arith, c .shared-slice-known5 .given (at-loop (search) .loop .k))
@@ -70,19 +55,10 @@ in-use-requires c κs =
     stacked-over _ _ _ (at-loop (search) .loop .inv .stacked) (entry (search) .pre .0) (in-loop (search) .loop-test .taken)
     (c .before .rows-of .ensures)
 
-greater-requires : tie.Need-greater-requires Inv-loop μ-loop
-greater-requires c κs = search needs
-
 hold-requires : tie.Need-hold-requires Inv-loop μ-loop
 hold-requires c κs =
     stacked-over _ _ _ (at-loop (search) .loop .inv .stacked) (entry (search) .pre .0) (in-loop (search) .loop-test .taken)
     (after-rows-of (search) .rows-of .ensures)
-
-add-k : tie.Need-add-k Inv-loop μ-loop
-add-k c = search needs
-
-loop-less : tie.Need-loop-less Inv-loop μ-loop
-loop-less c = search needs
 
 loop-again : tie.Need-loop-again Inv-loop μ-loop
 loop-again c =
@@ -102,20 +78,20 @@ peak-spec =
     (tie.spec
     Inv-loop
     μ-loop
-    slice-write-below
+    (λ c. search needs)
     loop-holds
-    mul-p
-    shared-slice-read-p
+    (λ c. search needs)
+    (λ c. search needs)
     cast-p
-    mul-rows-of
-    shared-slice-read-rows-of
+    (λ c. search needs)
+    (λ c. search needs)
     cast-rows-of
     rows-of-requires
     in-use-requires
-    greater-requires
+    (λ c κs. search needs)
     hold-requires
-    add-k
-    loop-less
+    (λ c. search needs)
+    (λ c. search needs)
     loop-again
     same-length
     returns)

@@ -20,25 +20,15 @@ else1 c = c
 mark-column-requires : tie.Need-mark-column-requires
 mark-column-requires c κs = (entry (search) .pre .0, (entry (search) .pre .1 .0, entry (search) .pre .1 .1 .0))
 
-same-length : tie.Need-same-length
-same-length c = omega arith
-
 returns : tie.Need-returns
 returns c = (not-as-many (marked (search) .mark-column .ensures) _ (c .if1 .taken), marked (search) .mark-column .ensures .changed)
-
-add-covered : tie.Need-add-covered
-add-covered c = omega arith
 
 covered-requires : tie.Need-covered-requires
 covered-requires c κs =
     record {
       most = entry (search) .pre .1 .1 .1 .1;
-      long = rw (marked (search) .mark-column .kept .1 .1 .1 .1 .1 .1 .0)
-          (entry (search) .pre .1 .1 .0 .work-long);
+      long = omega (arith, marked (search) .mark-column .kept, entry (search) .pre .1 .1 .0 .work-long);
     }
-
-same-length-2 : tie.Need-same-length-2
-same-length-2 c = omega arith
 
 returns-2 : tie.Need-returns-2
 returns-2 c = (
@@ -52,9 +42,9 @@ is-all-marked-spec =
     tie.close
     (tie.spec
     mark-column-requires
-    same-length
+    (λ c. omega arith)
     returns
-    add-covered
+    (λ c. omega arith)
     covered-requires
-    same-length-2
+    (λ c. omega arith)
     returns-2)

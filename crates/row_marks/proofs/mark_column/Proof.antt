@@ -38,9 +38,6 @@ after-handed-on c = c
 abbrev after-mark-new2 : tie.After-mark-new2 Inv-loop μ-loop → tie.After-mark-new2 Inv-loop μ-loop
 after-mark-new2 c = c
 
-add-mark-new : tie.Need-add-mark-new Inv-loop μ-loop
-add-mark-new c = omega arith
-
 pattern-rows-requires : tie.Need-pattern-rows-requires Inv-loop μ-loop
 pattern-rows-requires c κs = part-of (entry (search) .pre .0) (entry (search) .pre .1 .0)
 
@@ -51,23 +48,11 @@ mark-new-requires c κs = (
       (c .before .pattern-rows .ensures),
 )
 
-add-c : tie.Need-add-c Inv-loop μ-loop
-add-c c = omega arith
-
-mul-c : tie.Need-mul-c Inv-loop μ-loop
-mul-c c = omega arith
-
-slice-read-c : tie.Need-slice-read-c Inv-loop μ-loop
-slice-read-c c = omega arith
-
 loop-holds : tie.Need-loop-holds Inv-loop μ-loop
 loop-holds c =
     count-begin (tested-below (entry (search) .pre .0)) (entry (search) .pre .1 .0) (entry (search) .pre .1 .1) _
     (after-pattern-rows (search) .pattern-rows .ensures) _ _ (after-mark-new (search) .mark-new .ensures)
-    (after-mark-new (search) .mark-new .kept .1 .1 .1 .0)
-
-add-mark-new-2 : tie.Need-add-mark-new-2 Inv-loop μ-loop
-add-mark-new-2 c = omega arith
+    (omega (arith, after-mark-new (search) .mark-new .kept))
 
 handed-on-requires : tie.Need-handed-on-requires Inv-loop μ-loop
 handed-on-requires c κs = child-at (tested-below (entry (search) .pre .0)) (c .before .loop .inv) (c .loop-test .taken)
@@ -84,40 +69,37 @@ add-count : tie.Need-add-count Inv-loop μ-loop
 add-count c =
     let l = count-few (tested-below (entry (search) .pre .0)) (count-turn (tested-below (entry (search) .pre .0)) (at-loop (search) .loop .inv)
     (in-loop (search) .loop-test .taken) _ (after-handed-on (search) .handed-on .ensures) _ _ (after-mark-new2 (search) .mark-new2 .ensures)
-    (after-mark-new2 (search) .mark-new2 .kept .1 .1 .1 .0)) in
+    (omega (arith, after-mark-new2 (search) .mark-new2 .kept))) in
     let f = entry (search) .pre .0 .few in omega arith
 
 add-c-2 : tie.Need-add-c-2 Inv-loop μ-loop
 add-c-2 c =
     let l = link (tested-below (entry (search) .pre .0)) (at-loop (search) .loop .inv) (in-loop (search) .loop-test .taken) in
     let e = at-loop (search) .loop .inv .long in
-    let k = after-mark-new (search) .mark-new .kept .1 .1 .1 .0 in let g = entry (search) .good .1 .1 .1 .1 .1 .1 .0 in omega arith
+    let k = after-mark-new (search) .mark-new .kept in let g = entry (search) .good in omega arith
 
 mul-c-2 : tie.Need-mul-c-2 Inv-loop μ-loop
 mul-c-2 c =
     let l = link (tested-below (entry (search) .pre .0)) (at-loop (search) .loop .inv) (in-loop (search) .loop-test .taken) in
     let e = at-loop (search) .loop .inv .long in
-    let k = after-mark-new (search) .mark-new .kept .1 .1 .1 .0 in let g = entry (search) .good .1 .1 .1 .1 .1 .1 .0 in omega arith
+    let k = after-mark-new (search) .mark-new .kept in let g = entry (search) .good in omega arith
 
 slice-read-c-2 : tie.Need-slice-read-c-2 Inv-loop μ-loop
 slice-read-c-2 c =
-    rw (after-mark-new2 (search) .mark-new2 .kept .1 .1 .1 .0) (link (tested-below (entry (search) .pre .0)) (at-loop (search) .loop .inv)
-    (in-loop (search) .loop-test .taken))
+    let l = link (tested-below (entry (search) .pre .0)) (at-loop (search) .loop .inv) (in-loop (search) .loop-test .taken) in
+    omega (arith, after-mark-new2 (search) .mark-new2 .kept)
 
 loop-less : tie.Need-loop-less Inv-loop μ-loop
 loop-less c =
     falls (tested-below (entry (search) .pre .0)) (at-loop (search) .loop .inv) (in-loop (search) .loop-test .taken) _
     (after-handed-on (search) .handed-on .ensures) _ _ (after-mark-new2 (search) .mark-new2 .ensures)
-    (after-mark-new2 (search) .mark-new2 .kept .1 .1 .1 .0)
+    (omega (arith, after-mark-new2 (search) .mark-new2 .kept))
 
 loop-again : tie.Need-loop-again Inv-loop μ-loop
 loop-again c =
     count-turn (tested-below (entry (search) .pre .0)) (at-loop (search) .loop .inv) (in-loop (search) .loop-test .taken) _
     (after-handed-on (search) .handed-on .ensures) _ _ (after-mark-new2 (search) .mark-new2 .ensures)
-    (after-mark-new2 (search) .mark-new2 .kept .1 .1 .1 .0)
-
-same-length : tie.Need-same-length Inv-loop μ-loop
-same-length c = omega arith
+    (omega (arith, after-mark-new2 (search) .mark-new2 .kept))
 
 returns : tie.Need-returns Inv-loop μ-loop
 returns c =
@@ -131,14 +113,14 @@ mark-column-spec =
     (tie.spec
     Inv-loop
     μ-loop
-    add-mark-new
+    (λ c. omega arith)
     pattern-rows-requires
     mark-new-requires
-    add-c
-    mul-c
-    slice-read-c
+    (λ c. omega arith)
+    (λ c. omega arith)
+    (λ c. omega arith)
     loop-holds
-    add-mark-new-2
+    (λ c. omega arith)
     handed-on-requires
     mark-new-requires-2
     add-count
@@ -147,5 +129,5 @@ mark-column-spec =
     slice-read-c-2
     loop-less
     loop-again
-    same-length
+    (λ c. omega arith)
     returns)

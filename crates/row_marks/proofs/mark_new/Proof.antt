@@ -27,23 +27,14 @@ in-loop c = c
 loop-holds : tie.Need-loop-holds Inv-loop μ-loop
 loop-holds c = new-begin _ _ _ _ (c .pre .0)
 
-add-p : tie.Need-add-p Inv-loop μ-loop
-add-p c = omega arith
-
-mul-p : tie.Need-mul-p Inv-loop μ-loop
-mul-p c = omega arith
-
-shared-slice-read-p : tie.Need-shared-slice-read-p Inv-loop μ-loop
-shared-slice-read-p c = omega arith
-
 cast-p : tie.Need-cast-p Inv-loop μ-loop
 cast-p c = omega (arith, c .shared-slice-known .given (at-loop (search) .loop .k))
 
 add-p-2 : tie.Need-add-p-2 Inv-loop μ-loop
-add-p-2 c = let h = mark-place (entry (search) .pre .1) _ (c .before .loop-test .taken) in let g = entry (search) .good .1 .1 .1 .0 in omega arith
+add-p-2 c = let h = mark-place (entry (search) .pre .1) _ (c .before .loop-test .taken) in let g = entry (search) .good in omega arith
 
 mul-old : tie.Need-mul-old Inv-loop μ-loop
-mul-old c = let h = mark-place (entry (search) .pre .1) _ (c .before .loop-test .taken) in let g = entry (search) .good .1 .1 .1 .0 in omega arith
+mul-old c = let h = mark-place (entry (search) .pre .1) _ (c .before .loop-test .taken) in let g = entry (search) .good in omega arith
 
 slice-read-old : tie.Need-slice-read-old Inv-loop μ-loop
 slice-read-old c =
@@ -52,30 +43,18 @@ slice-read-old c =
 
 mul-work : tie.Need-mul-work Inv-loop μ-loop
 mul-work c =
-    let h = mark-place (entry (search) .pre .1) _ (in-loop (search) .loop-test .taken) in let g = entry (search) .good .1 .1 .1 .0 in omega arith
+    let h = mark-place (entry (search) .pre .1) _ (in-loop (search) .loop-test .taken) in let g = entry (search) .good in omega arith
 
 slice-write-work : tie.Need-slice-write-work Inv-loop μ-loop
 slice-write-work c =
     let h = mark-place (entry (search) .pre .1) _ (in-loop (search) .loop-test .taken) in
     let l = at-loop (search) .loop .inv .marking .long in omega arith
 
-add-k : tie.Need-add-k Inv-loop μ-loop
-add-k c = omega arith
-
-loop-less : tie.Need-loop-less Inv-loop μ-loop
-loop-less c = omega arith
-
 loop-again : tie.Need-loop-again Inv-loop μ-loop
 loop-again c = new-old (at-loop (search) .loop .inv) (in-loop (search) .loop-test .taken) (c .if1 .taken)
 
 add-count : tie.Need-add-count Inv-loop μ-loop
 add-count c = let f = at-loop (search) .loop .inv .few in omega arith
-
-add-k-2 : tie.Need-add-k-2 Inv-loop μ-loop
-add-k-2 c = omega arith
-
-loop-less-2 : tie.Need-loop-less-2 Inv-loop μ-loop
-loop-less-2 c = omega arith
 
 loop-again-2 : tie.Need-loop-again-2 Inv-loop μ-loop
 loop-again-2 c = new-mark (at-loop (search) .loop .inv) (in-loop (search) .loop-test .taken) (c .if1 .left)
@@ -93,21 +72,21 @@ mark-new-spec =
     Inv-loop
     μ-loop
     loop-holds
-    add-p
-    mul-p
-    shared-slice-read-p
+    (λ c. omega arith)
+    (λ c. omega arith)
+    (λ c. omega arith)
     cast-p
     add-p-2
     mul-old
     slice-read-old
     mul-work
     slice-write-work
-    add-k
-    loop-less
+    (λ c. omega arith)
+    (λ c. omega arith)
     loop-again
     add-count
-    add-k-2
-    loop-less-2
+    (λ c. omega arith)
+    (λ c. omega arith)
     loop-again-2
     same-length
     returns)

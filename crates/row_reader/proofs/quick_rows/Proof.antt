@@ -1,10 +1,12 @@
--- The loop's invariant is that of read_rows: the rows before place total are read and kept, and the rest, put onto them, are the column's. The measure is
+-- The loop's invariant is that of read_rows: the rows before place total are read and kept, and the rest, put onto them, are the column's. The
+-- measure is
 -- the rest.
 -- Assumes nothing.
 use mathlib.Core.Path.{_∙_}
 use native.Mathlib.Nat.{le-trans, pos-of-ne-zero}
 use borrow.Author.Tests.{leb-false, ltb-false}
 use mir.Facts.{fits-bits}
+use native.Mathlib.Omega.{arith}
 use Rattle.field_reader.proofs.Places.{bytes-fit, fewer, inside-fits, next-fits, none-left}
 use Rattle.row_reader.specs.Rows.{RowsRead}
 use Rattle.row_reader.proofs.Rows.{rows-start, rows-both, rows-long, rows-few, rows-paced, row-narrow}
@@ -51,18 +53,18 @@ short-rows-requires c κs =
     let x = at-loop (search) .loop .inv in let p = entry (search) .pre in (x .inside, le-trans (x .high) (p .1), le-trans (rows-few x) (p .4))
 
 same-length : tie.Need-same-length Inv-loop μ-loop
-same-length c = after-short-rows (search) .short-rows .kept .1 .1 .1 .1 .1 .0 ∙ rows-long (at-loop (search) .loop .inv)
+same-length c = omega (arith, after-short-rows (search) .short-rows .kept, rows-long (at-loop (search) .loop .inv))
 
 returns : tie.Need-returns Inv-loop μ-loop
 returns c = quick-over (at-loop (search) .loop .inv) (after-short-rows (search) .short-rows .ensures)
 
 add-k : tie.Need-add-k Inv-loop μ-loop
-add-k c = inside-fits (entry (search) .good .0 .0) (after-short-rows (search) .short-rows .ensures .read _ (c .before .if1 .left) .inside)
+add-k c = inside-fits (omega (arith, entry (search) .good)) (after-short-rows (search) .short-rows .ensures .read _ (c .before .if1 .left) .inside)
 
 add-total : tie.Need-add-total Inv-loop μ-loop
 add-total c =
     let x = rows-both (at-loop (search) .loop .inv) (after-short-rows (search) .short-rows .ensures .read _ (else1 (search) .if1 .left)) in
-    inside-fits (entry (search) .good .0 .0) (le-trans (rows-paced x (entry (search) .pre .3)) (x .inside))
+    inside-fits (omega (arith, entry (search) .good)) (le-trans (rows-paced x (entry (search) .pre .3)) (x .inside))
 
 sub-rest : tie.Need-sub-rest Inv-loop μ-loop
 sub-rest c = after-short-rows (search) .short-rows .ensures .few
@@ -92,7 +94,7 @@ narrow32-requires c κs = row-narrow (entry (search) .pre .1) (else1 (search) .i
 mul-rows : tie.Need-mul-rows Inv-loop μ-loop
 mul-rows c =
     let x = rows-both (at-loop (search) .loop .inv) (after-short-rows (search) .short-rows .ensures .read _ (else1 (search) .if1 .left)) in
-    bytes-fit (quick-room x (c .before .if5 .left)) (entry (search) .good .1 .1 .1 .1 .1 .1 .0 .1)
+    bytes-fit (quick-room x (c .before .if5 .left)) (omega (arith, entry (search) .good))
 
 slice-write-rows : tie.Need-slice-write-rows Inv-loop μ-loop
 slice-write-rows c = leb-false _ _ (c .before .if5 .left)
@@ -100,12 +102,12 @@ slice-write-rows c = leb-false _ _ (c .before .if5 .left)
 add-total-2 : tie.Need-add-total-2 Inv-loop μ-loop
 add-total-2 c =
     let x = rows-both (at-loop (search) .loop .inv) (after-short-rows (search) .short-rows .ensures .read _ (else1 (search) .if1 .left)) in
-    next-fits (entry (search) .good .1 .1 .1 .1 .1 .1 .0 .0) (quick-room x (c .before .if5 .left))
+    next-fits (omega (arith, entry (search) .good)) (quick-room x (c .before .if5 .left))
 
 add-k-2 : tie.Need-add-k-2 Inv-loop μ-loop
 add-k-2 c =
     let x = rows-both (at-loop (search) .loop .inv) (after-short-rows (search) .short-rows .ensures .read _ (else1 (search) .if1 .left)) in
-    inside-fits (entry (search) .good .0 .0) (quick-found x (else3 (search) .if3 .left) (after-two-groups (search) .two-groups .ensures)
+    inside-fits (omega (arith, entry (search) .good)) (quick-found x (else3 (search) .if3 .left) (after-two-groups (search) .two-groups .ensures)
     (else4 (search) .if4 .left) .inside)
 
 sub-rest-2 : tie.Need-sub-rest-2 Inv-loop μ-loop

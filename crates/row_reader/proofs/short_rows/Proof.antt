@@ -1,10 +1,12 @@
--- The loop's invariant: i rows are kept by i bytes, and read where the last is in its range. Each turn reads one byte that is a gap. The measure is how many
+-- The loop's invariant: i rows are kept by i bytes, and read where the last is in its range. Each turn reads one byte that is a gap. The measure is
+-- how many
 -- may come.
 -- Assumes nothing.
 use Prim.Native.Nat.{_-_}
 use native.Mathlib.Nat.{le-of-lt, lt-of-lt-of-le, pos-of-ne-zero}
 use borrow.Author.Needs.{needs}
 use mir.Facts.{fits-bits}
+use native.Mathlib.Omega.{arith}
 use Rattle.field_reader.proofs.Places.{before-end, bytes-fit, count-fits, inside-fits, nearer}
 use Rattle.row_reader.specs.Rows.{ShortRead}
 use Rattle.row_reader.proofs.Short.{short-start, short-long, short-narrow, short-place, short-gap, short-turn}
@@ -39,21 +41,15 @@ else1 c = c
 sub-most-short : tie.Need-sub-most-short Inv-loop μ-loop
 sub-most-short c = entry (search) .pre .0
 
-most-short-requires : tie.Need-most-short-requires Inv-loop μ-loop
-most-short-requires c κs = search needs
-
 loop-holds : tie.Need-loop-holds Inv-loop μ-loop
 loop-holds c = short-start _ _ _ _ _ _ (entry (search) .pre .0)
 
 add-wide8 : tie.Need-add-wide8 Inv-loop μ-loop
 add-wide8 c =
-    inside-fits (entry (search) .good .0 .0) (le-of-lt (before-end _ (c .loop-test .taken) (after-most-short (search) .most-short .ensures .1)))
+    inside-fits (omega (arith, entry (search) .good)) (le-of-lt (before-end _ (c .loop-test .taken) (after-most-short (search) .most-short .ensures .1)))
 
 shared-slice-read-wide8 : tie.Need-shared-slice-read-wide8 Inv-loop μ-loop
 shared-slice-read-wide8 c = before-end _ (c .before .loop-test .taken) (after-most-short (search) .most-short .ensures .1)
-
-wide8-requires : tie.Need-wide8-requires Inv-loop μ-loop
-wide8-requires c κs = search needs
 
 same-length : tie.Need-same-length Inv-loop μ-loop
 same-length c = short-long (at-loop (search) .loop .inv)
@@ -72,20 +68,20 @@ narrow32-requires c κs =
 
 add-rows : tie.Need-add-rows Inv-loop μ-loop
 add-rows c =
-    inside-fits (entry (search) .good .1 .1 .1 .1 .1 .0 .0)
+    inside-fits (omega (arith, entry (search) .good))
     (le-of-lt (before-end _ (in-loop (search) .loop-test .taken) (after-most-short (search) .most-short .ensures .2)))
 
 mul-rows : tie.Need-mul-rows Inv-loop μ-loop
 mul-rows c =
     bytes-fit (before-end _ (in-loop (search) .loop-test .taken) (after-most-short (search) .most-short .ensures .2))
-    (entry (search) .good .1 .1 .1 .1 .1 .0 .1)
+    (omega (arith, entry (search) .good))
 
 slice-write-rows : tie.Need-slice-write-rows Inv-loop μ-loop
 slice-write-rows c =
     short-place (at-loop (search) .loop .inv) (in-loop (search) .loop-test .taken) (after-most-short (search) .most-short .ensures .2)
 
 add-i : tie.Need-add-i Inv-loop μ-loop
-add-i c = count-fits _ (in-loop (search) .loop-test .taken) (after-most-short (search) .most-short .ensures .1) (entry (search) .good .0 .0)
+add-i c = count-fits _ (in-loop (search) .loop-test .taken) (after-most-short (search) .most-short .ensures .1) (omega (arith, entry (search) .good))
 
 loop-less : tie.Need-loop-less Inv-loop μ-loop
 loop-less c = nearer (in-loop (search) .loop-test .taken)
@@ -111,11 +107,11 @@ short-rows-spec =
     Inv-loop
     μ-loop
     sub-most-short
-    most-short-requires
+    (λ c κs. search needs)
     loop-holds
     add-wide8
     shared-slice-read-wide8
-    wide8-requires
+    (λ c κs. search needs)
     same-length
     returns
     add-last

@@ -3,6 +3,7 @@
 use mathlib.Core.Path.{sym, ap, _∙_}
 use borrow.Author.Needs.{needs}
 use denote.Ref.{now}
+use native.Mathlib.Omega.{arith}
 use Rattle.papers.specs.Lists.{every}
 use Rattle.row_tests.proofs.Comparing.{not-both, then-other, rest-part, rest-markable}
 use Rattle.row_tests.proofs.adds_own.Statement.{statement}
@@ -21,35 +22,11 @@ counted c = c
 abbrev else1 : tie.Else1 → tie.Else1
 else1 c = c
 
-mark-requires : tie.Need-mark-requires
-mark-requires c κs = search needs
-
-count-marked-requires : tie.Need-count-marked-requires
-count-marked-requires c κs = search needs
-
-same-length : tie.Need-same-length
-same-length c = search needs
-
 returns : tie.Need-returns
 returns c = (not-both _ _ _ (λ e. c .if1 .taken (c .before .count-marked .ensures ∙ e)), marked (search) .mark .ensures)
 
-mul-covered : tie.Need-mul-covered
-mul-covered c = search needs
-
-sub-covered : tie.Need-sub-covered
-sub-covered c = search needs
-
-part-covered-start : tie.Need-part-covered-start
-part-covered-start c = search needs
-
-part-covered-end : tie.Need-part-covered-end
-part-covered-end c = search needs
-
 covered-requires : tie.Need-covered-requires
-covered-requires c κs = rest-markable _ (entry (search) .pre .1 .0) (marked (search) .mark .kept .1 .1 .1 .0)
-
-same-length-2 : tie.Need-same-length-2
-same-length-2 c = search needs
+covered-requires c κs = rest-markable _ (entry (search) .pre .1 .0) (omega (arith, marked (search) .mark .kept))
 
 returns-2 : tie.Need-returns-2
 returns-2 c = (
@@ -62,14 +39,14 @@ pub adds-own-spec : {M : Type 1} → statement M
 adds-own-spec =
     tie.close
     (tie.spec
-    mark-requires
-    count-marked-requires
-    same-length
+    (λ c κs. search needs)
+    (λ c κs. search needs)
+    (λ c. search needs)
     returns
-    mul-covered
-    sub-covered
-    part-covered-start
-    part-covered-end
+    (λ c. search needs)
+    (λ c. search needs)
+    (λ c. search needs)
+    (λ c. search needs)
     covered-requires
-    same-length-2
+    (λ c. search needs)
     returns-2)

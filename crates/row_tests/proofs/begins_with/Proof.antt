@@ -18,12 +18,9 @@ returns c = λ e. absurd (true-false e refl)
 slice-aggregate-same-rows : tie.Need-slice-aggregate-same-rows
 slice-aggregate-same-rows c = sym (length-take-le _ _ (c .before .if1 .left))
 
-same-rows-requires : tie.Need-same-rows-requires
-same-rows-requires c κs = search needs
-
 returns-2 : tie.Need-returns-2
 returns-2 c = λ e. (else1 (search) .if1 .left, same-true _ _ (sym (c .same-rows .ensures) ∙ e))
 
 pub begins-with-spec : {M : Type 1} → statement M
 begins-with-spec =
-    tie.close (tie.spec returns slice-aggregate-same-rows same-rows-requires returns-2)
+    tie.close (tie.spec returns slice-aggregate-same-rows (λ c κs. search needs) returns-2)

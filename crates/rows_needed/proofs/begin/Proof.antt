@@ -33,9 +33,6 @@ in-loop c = c
 abbrev after-file : tie.After-file Inv-loop μ-loop → tie.After-file Inv-loop μ-loop
 after-file c = c
 
-clear64-requires : tie.Need-clear64-requires Inv-loop μ-loop
-clear64-requires c κs = omega arith
-
 loop-holds : tie.Need-loop-holds Inv-loop μ-loop
 loop-holds c =
     (begun-none _ _ _ (now (entry (search) .args .work)) _ (cleared (search) .clear64 .ensures) (entry (search) .pre .1), (omega arith, refl))
@@ -63,7 +60,7 @@ loop-again c = (
   begun-next (entry (search) .pre .0) (at-loop (search) .loop .inv .0) (in-loop (search) .loop-test .taken) _ (after-file (search) .file .ensures),
   (
     let l = in-loop (search) .loop-test .taken in omega arith,
-    after-file (search) .file .kept .1 .1 .1 .1 .1 .0 ∙ at-loop (search) .loop .inv .1 .1,
+    omega (arith, after-file (search) .file .kept, at-loop (search) .loop .inv .1 .1),
   ),
 )
 
@@ -79,7 +76,7 @@ begin-spec =
     (tie.spec
     Inv-loop
     μ-loop
-    clear64-requires
+    (λ c κs. omega arith)
     loop-holds
     add-file
     mul-file

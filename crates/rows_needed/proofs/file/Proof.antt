@@ -17,28 +17,28 @@ abbrev then1 : tie.Then1 → tie.Then1
 then1 c = c
 
 add-work : tie.Need-add-work
-add-work c = let l = c .pre .long in let u = c .pre .column in let g = c .good .1 .1 .1 .1 .1 .0 in omega arith
+add-work c = let l = c .pre .long in let u = c .pre .column in let g = c .good in omega arith
 
 add-work-2 : tie.Need-add-work-2
-add-work-2 c = let l = c .pre .long in let u = c .pre .column in let g = c .good .1 .1 .1 .1 .1 .0 in omega arith
+add-work-2 c = let l = c .pre .long in let u = c .pre .column in let g = c .good in omega arith
 
 add-work-3 : tie.Need-add-work-3
-add-work-3 c = let l = c .pre .long in let u = c .pre .column in let g = c .good .1 .1 .1 .1 .1 .0 in omega arith
+add-work-3 c = let l = c .pre .long in let u = c .pre .column in let g = c .good in omega arith
 
 mul-work : tie.Need-mul-work
-mul-work c = let l = c .pre .long in let u = c .pre .column in let g = c .good .1 .1 .1 .1 .1 .0 in omega arith
+mul-work c = let l = c .pre .long in let u = c .pre .column in let g = c .good in omega arith
 
 slice-write-work : tie.Need-slice-write-work
 slice-write-work c = let l = c .pre .long in let u = c .pre .column in omega arith
 
 mul-if1 : tie.Need-mul-if1
-mul-if1 c = let s = c .pre .started in let g = c .good .1 .1 .1 .0 in omega arith
+mul-if1 c = let s = c .pre .started in let g = c .good in omega arith
 
 shared-slice-read-if1 : tie.Need-shared-slice-read-if1
 shared-slice-read-if1 c = c .before .pre .started
 
 mul-r : tie.Need-mul-r
-mul-r c = let f = entry (search) .pre .row (c .if1 .taken) in let g = entry (search) .good .1 .1 .1 .1 .0 in omega arith
+mul-r c = let f = entry (search) .pre .row (c .if1 .taken) in let g = entry (search) .good in omega arith
 
 shared-slice-read-r : tie.Need-shared-slice-read-r
 shared-slice-read-r c = entry (search) .pre .row (c .before .if1 .taken) .0
@@ -49,27 +49,27 @@ cast-r c = omega (arith, c .shared-slice-known2 .given (entry (search) .args .q)
 add-work-4 : tie.Need-add-work-4
 add-work-4 c =
     let f = entry (search) .pre .row (c .before .if1 .taken) in
-    let l = entry (search) .pre .long in let g = entry (search) .good .1 .1 .1 .1 .1 .0 in omega arith
+    let l = entry (search) .pre .long in let g = entry (search) .good in omega arith
 
 mul-work-2 : tie.Need-mul-work-2
 mul-work-2 c =
     let f = entry (search) .pre .row (c .before .if1 .taken) in
-    let l = entry (search) .pre .long in let g = entry (search) .good .1 .1 .1 .1 .1 .0 in omega arith
+    let l = entry (search) .pre .long in let g = entry (search) .good in omega arith
 
 slice-read-work : tie.Need-slice-read-work
 slice-read-work c = let f = entry (search) .pre .row (then1 (search) .if1 .taken) in let l = entry (search) .pre .long in rw length-set (omega arith)
 
 add-work-5 : tie.Need-add-work-5
 add-work-5 c =
-    let l = entry (search) .pre .long in let u = entry (search) .pre .column in let g = entry (search) .good .1 .1 .1 .1 .1 .0 in omega arith
+    let l = entry (search) .pre .long in let u = entry (search) .pre .column in let g = entry (search) .good in omega arith
 
 add-work-6 : tie.Need-add-work-6
 add-work-6 c =
-    let l = entry (search) .pre .long in let u = entry (search) .pre .column in let g = entry (search) .good .1 .1 .1 .1 .1 .0 in omega arith
+    let l = entry (search) .pre .long in let u = entry (search) .pre .column in let g = entry (search) .good in omega arith
 
 mul-work-3 : tie.Need-mul-work-3
 mul-work-3 c =
-    let l = entry (search) .pre .long in let u = entry (search) .pre .column in let g = entry (search) .good .1 .1 .1 .1 .1 .0 in omega arith
+    let l = entry (search) .pre .long in let u = entry (search) .pre .column in let g = entry (search) .good in omega arith
 
 slice-write-work-2 : tie.Need-slice-write-work-2
 slice-write-work-2 c = let l = entry (search) .pre .long in let u = entry (search) .pre .column in rw length-set (omega arith)
@@ -77,28 +77,22 @@ slice-write-work-2 c = let l = entry (search) .pre .long in let u = entry (searc
 add-work-7 : tie.Need-add-work-7
 add-work-7 c =
     let f = entry (search) .pre .row (then1 (search) .if1 .taken) in
-    let l = entry (search) .pre .long in let g = entry (search) .good .1 .1 .1 .1 .1 .0 in omega arith
+    let l = entry (search) .pre .long in let g = entry (search) .good in omega arith
 
 mul-work-4 : tie.Need-mul-work-4
 mul-work-4 c =
     let f = entry (search) .pre .row (then1 (search) .if1 .taken) in
-    let l = entry (search) .pre .long in let g = entry (search) .good .1 .1 .1 .1 .1 .0 in omega arith
+    let l = entry (search) .pre .long in let g = entry (search) .good in omega arith
 
 slice-write-work-3 : tie.Need-slice-write-work-3
 slice-write-work-3 c =
     let f = entry (search) .pre .row (then1 (search) .if1 .taken) in let l = entry (search) .pre .long in rw (length-set, length-set) (omega arith)
-
-same-length : tie.Need-same-length
-same-length c = search needs
 
 returns : tie.Need-returns
 returns c =
     sym (filed-some (entry (search) .args .n) (entry (search) .args .c) (entry (search) .args .q) (now (entry (search) .args .starts))
     (now (entry (search) .args .rows)) (now (entry (search) .args .work)) (then1 (search) .if1 .taken) ∙ pushed-is (entry (search) .args .n) _
     (entry (search) .args .c) _)
-
-same-length-2 : tie.Need-same-length-2
-same-length-2 c = search needs
 
 returns-2 : tie.Need-returns-2
 returns-2 c =
@@ -129,7 +123,7 @@ file-spec =
     add-work-7
     mul-work-4
     slice-write-work-3
-    same-length
+    (λ c. search needs)
     returns
-    same-length-2
+    (λ c. search needs)
     returns-2)

@@ -35,9 +35,6 @@ in-loop c = c
 abbrev walked : tie.After-walk Inv-loop μ-loop → tie.After-walk Inv-loop μ-loop
 walked c = c
 
-clear32-requires : tie.Need-clear32-requires Inv-loop μ-loop
-clear32-requires c κs = omega arith
-
 begin-requires : tie.Need-begin-requires Inv-loop μ-loop
 begin-requires c κs = (entry (search) .pre .0, entry (search) .pre .1 .work-long)
 
@@ -76,17 +73,15 @@ loop-again : tie.Need-loop-again Inv-loop μ-loop
 loop-again c = (
   rows-close (at-loop (search) .loop .m) (walked (search) .walk .ensures),
   (
-    walked (search) .walk .kept .1 .1 .1 .1 .1 .0 ∙ at-loop (search) .loop .inv .1 .0,
-    walked (search) .walk .kept .1 .1 .1 .1 .1 .1 .0 ∙ length-set (at-loop (search) .loop .work) (at-loop (search) .loop .m + 1)
-        (at-loop (search) .loop .m + 1) ∙ at-loop (search) .loop .inv .1 .1,
+    omega (arith, walked (search) .walk .kept, at-loop (search) .loop .inv .1 .0),
+    omega (
+      arith,
+      walked (search) .walk .kept,
+      at-loop (search) .loop .inv .1 .1,
+      length-set (at-loop (search) .loop .work) (at-loop (search) .loop .m + 1) (at-loop (search) .loop .m + 1),
+    ),
   ),
 )
-
-same-length : tie.Need-same-length Inv-loop μ-loop
-same-length c = omega arith
-
-same-length-2 : tie.Need-same-length-2 Inv-loop μ-loop
-same-length-2 c = omega arith
 
 returns : tie.Need-returns Inv-loop μ-loop
 returns c = rows-last (entry (search) .pre .0) (c .before .loop .inv .0) (c .loop-test .left)
@@ -97,7 +92,7 @@ rows-needed-spec =
     (tie.spec
     Inv-loop
     μ-loop
-    clear32-requires
+    (λ c κs. omega arith)
     begin-requires
     loop-holds
     add-work
@@ -109,6 +104,6 @@ rows-needed-spec =
     add-m
     loop-less
     loop-again
-    same-length
-    same-length-2
+    (λ c. omega arith)
+    (λ c. omega arith)
     returns)

@@ -34,12 +34,12 @@ after-file c = c
 add-c : tie.Need-add-c Inv-loop μ-loop
 add-c c =
     let l = entry (search) .pre .buckets .long in
-    let h = entry (search) .pre .high in let g = entry (search) .good .1 .1 .1 .1 .1 .1 .0 in omega arith
+    let h = entry (search) .pre .high in let g = entry (search) .good in omega arith
 
 mul-c : tie.Need-mul-c Inv-loop μ-loop
 mul-c c =
     let l = entry (search) .pre .buckets .long in
-    let h = entry (search) .pre .high in let g = entry (search) .good .1 .1 .1 .1 .1 .1 .0 in omega arith
+    let h = entry (search) .pre .high in let g = entry (search) .good in omega arith
 
 slice-read-c : tie.Need-slice-read-c Inv-loop μ-loop
 slice-read-c c = let l = entry (search) .pre .buckets .long in let h = entry (search) .pre .high in omega arith
@@ -50,19 +50,19 @@ loop-holds c = (entry (search) .pre, (refl, refl))
 add-next : tie.Need-add-next Inv-loop μ-loop
 add-next c =
     let l = c .before .loop .inv .0 .buckets .long in
-    let e = c .before .loop .inv .1 .1 in let g = entry (search) .good .1 .1 .1 .1 .1 .1 .0 in omega arith
+    let e = c .before .loop .inv .1 .1 in let g = entry (search) .good in omega arith
 
 add-next-2 : tie.Need-add-next-2 Inv-loop μ-loop
 add-next-2 c =
     let u = column (c .before .loop .inv .0) (c .loop-test .taken) in
     let l = c .before .loop .inv .0 .buckets .long in
-    let e = c .before .loop .inv .1 .1 in let g = entry (search) .good .1 .1 .1 .1 .1 .1 .0 in omega arith
+    let e = c .before .loop .inv .1 .1 in let g = entry (search) .good in omega arith
 
 mul-next : tie.Need-mul-next Inv-loop μ-loop
 mul-next c =
     let u = column (c .before .loop .inv .0) (c .loop-test .taken) in
     let l = c .before .loop .inv .0 .buckets .long in
-    let e = c .before .loop .inv .1 .1 in let g = entry (search) .good .1 .1 .1 .1 .1 .1 .0 in omega arith
+    let e = c .before .loop .inv .1 .1 in let g = entry (search) .good in omega arith
 
 slice-read-next : tie.Need-slice-read-next Inv-loop μ-loop
 slice-read-next c =
@@ -75,53 +75,53 @@ climb-requires c κs = climbing (at-loop (search) .loop .inv .0) (in-loop (searc
 add-q : tie.Need-add-q Inv-loop μ-loop
 add-q c =
     let l = at-loop (search) .loop .inv .0 .buckets .long in
-    let e = at-loop (search) .loop .inv .1 .1 in let g = entry (search) .good .1 .1 .1 .1 .1 .1 .0 in omega arith
+    let e = at-loop (search) .loop .inv .1 .1 in let g = entry (search) .good in omega arith
 
 add-q-2 : tie.Need-add-q-2 Inv-loop μ-loop
 add-q-2 c =
     let l = at-loop (search) .loop .inv .0 .buckets .long in
-    let e = at-loop (search) .loop .inv .1 .1 in let g = entry (search) .good .1 .1 .1 .1 .1 .1 .0 in omega arith
+    let e = at-loop (search) .loop .inv .1 .1 in let g = entry (search) .good in omega arith
 
 add-q-3 : tie.Need-add-q-3 Inv-loop μ-loop
 add-q-3 c =
     let u = column (at-loop (search) .loop .inv .0) (in-loop (search) .loop-test .taken) in
     let l = at-loop (search) .loop .inv .0 .buckets .long in
-    let e = at-loop (search) .loop .inv .1 .1 in let g = entry (search) .good .1 .1 .1 .1 .1 .1 .0 in omega arith
+    let e = at-loop (search) .loop .inv .1 .1 in let g = entry (search) .good in omega arith
 
 mul-q : tie.Need-mul-q Inv-loop μ-loop
 mul-q c =
     let u = column (at-loop (search) .loop .inv .0) (in-loop (search) .loop-test .taken) in
     let l = at-loop (search) .loop .inv .0 .buckets .long in
-    let e = at-loop (search) .loop .inv .1 .1 in let g = entry (search) .good .1 .1 .1 .1 .1 .1 .0 in omega arith
+    let e = at-loop (search) .loop .inv .1 .1 in let g = entry (search) .good in omega arith
 
 slice-read-q : tie.Need-slice-read-q Inv-loop μ-loop
 slice-read-q c =
     let u = column (at-loop (search) .loop .inv .0) (in-loop (search) .loop-test .taken) in
-    let l = at-loop (search) .loop .inv .0 .buckets .long in let k = climbed (search) .climb .kept .1 .1 .1 .1 .0 in omega arith
+    let l = at-loop (search) .loop .inv .0 .buckets .long in let k = climbed (search) .climb .kept in omega arith
 
 add-q-4 : tie.Need-add-q-4 Inv-loop μ-loop
 add-q-4 c =
     let s = step-fits (at-loop (search) .loop .inv .0) (in-loop (search) .loop-test .taken) (climbed (search) .climb .ensures)
-    (climbed (search) .climb .kept .1 .1 .1 .0) (climbed (search) .climb .kept .1 .1 .1 .1 .0) in
-    let g = entry (search) .good .1 .1 .1 .1 .0 in omega arith
+    (omega (arith, climbed (search) .climb .kept)) (omega (arith, climbed (search) .climb .kept)) in
+    let g = entry (search) .good in omega arith
 
 file-requires : tie.Need-file-requires Inv-loop μ-loop
 file-requires c κs =
     filing (at-loop (search) .loop .inv .0) (in-loop (search) .loop-test .taken) (climbed (search) .climb .ensures)
-    (climbed (search) .climb .kept .1 .1 .1 .0) (climbed (search) .climb .kept .1 .1 .1 .1 .0)
+    (omega (arith, climbed (search) .climb .kept)) (omega (arith, climbed (search) .climb .kept))
 
 loop-less : tie.Need-loop-less Inv-loop μ-loop
 loop-less c =
     falls (at-loop (search) .loop .inv .0) (in-loop (search) .loop-test .taken) (climbed (search) .climb .ensures)
-    (climbed (search) .climb .kept .1 .1 .1 .0) (climbed (search) .climb .kept .1 .1 .1 .1 .0) _ (after-file (search) .file .ensures)
+    (omega (arith, climbed (search) .climb .kept)) (omega (arith, climbed (search) .climb .kept)) _ (after-file (search) .file .ensures)
 
 loop-again : tie.Need-loop-again Inv-loop μ-loop
 loop-again c = (
   walked (at-loop (search) .loop .inv .0) (in-loop (search) .loop-test .taken) (climbed (search) .climb .ensures)
-      (climbed (search) .climb .kept .1 .1 .1 .0) (climbed (search) .climb .kept .1 .1 .1 .1 .0) _ (after-file (search) .file .ensures),
+      (omega (arith, climbed (search) .climb .kept)) (omega (arith, climbed (search) .climb .kept)) _ (after-file (search) .file .ensures),
   (
-    climbed (search) .climb .kept .1 .1 .1 .0 ∙ at-loop (search) .loop .inv .1 .0,
-    after-file (search) .file .kept .1 .1 .1 .1 .1 .0 ∙ climbed (search) .climb .kept .1 .1 .1 .1 .0 ∙ at-loop (search) .loop .inv .1 .1,
+    omega (arith, climbed (search) .climb .kept, at-loop (search) .loop .inv .1 .0),
+    omega (arith, after-file (search) .file .kept, climbed (search) .climb .kept, at-loop (search) .loop .inv .1 .1),
   ),
 )
 

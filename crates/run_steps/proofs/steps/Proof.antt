@@ -1,4 +1,5 @@
--- The loop's invariant: after `done` steps without fault the stack list and the record hold the state after them. The measure is how many steps are left.
+-- The loop's invariant: after `done` steps without fault the stack list and the record hold the state after them. The measure is how many steps are
+-- left.
 -- Assumes nothing.
 use Prim.Native.Nat.{_-_}
 use mathlib.Core.Path.{_∙_}
@@ -43,12 +44,6 @@ step-fault-requires : tie.Need-step-fault-requires Inv-loop μ-loop
 step-fault-requires c κs =
     let few = at-loop (search) .loop .inv .within in (entry (search) .pre .0, (at-loop (search) .loop .inv .kept, (omega arith, omega arith)))
 
-add-answered : tie.Need-add-answered Inv-loop μ-loop
-add-answered c = search needs
-
-answered-requires : tie.Need-answered-requires Inv-loop μ-loop
-answered-requires c κs = search needs
-
 same-length : tie.Need-same-length Inv-loop μ-loop
 same-length c = at-loop (search) .loop .inv .long
 
@@ -63,19 +58,10 @@ take-step-requires c κs =
     ready _ _ _ _ _ _ _ (at-loop (search) .loop .inv) (in-loop (search) .loop-test .taken) (after-step-fault (search) .step-fault .ensures) (pre .0)
     (pre .1 .0) (pre .1 .1 .0) (c .before .if1 .left)
 
-add-done : tie.Need-add-done Inv-loop μ-loop
-add-done c = search needs
-
-loop-less : tie.Need-loop-less Inv-loop μ-loop
-loop-less c = search needs
-
 loop-again : tie.Need-loop-again Inv-loop μ-loop
 loop-again c =
     running-next _ _ _ _ _ _ _ (at-loop (search) .loop .inv) (in-loop (search) .loop-test .taken) (after-step-fault (search) .step-fault .ensures)
-    (else1 (search) .if1 .left) (taken (search) .take-step .kept .1 .1 .1 .1 .1 .0) (taken (search) .take-step .ensures)
-
-answered-requires-2 : tie.Need-answered-requires-2 Inv-loop μ-loop
-answered-requires-2 c κs = search needs
+    (else1 (search) .if1 .left) (omega (arith, taken (search) .take-step .kept)) (taken (search) .take-step .ensures)
 
 same-length-2 : tie.Need-same-length-2 Inv-loop μ-loop
 same-length-2 c = at-loop (search) .loop .inv .long
@@ -83,9 +69,6 @@ same-length-2 c = at-loop (search) .loop .inv .long
 returns-2 : tie.Need-returns-2 Inv-loop μ-loop
 returns-2 c =
     c .answered2 .ensures ∙ answers-left _ _ _ _ _ _ _ (at-loop (search) .loop .inv) (after-loop (search) .loop-test .left) (c .before .if2 .taken)
-
-answered-requires-3 : tie.Need-answered-requires-3 Inv-loop μ-loop
-answered-requires-3 c κs = search needs
 
 same-length-3 : tie.Need-same-length-3 Inv-loop μ-loop
 same-length-3 c = at-loop (search) .loop .inv .long
@@ -102,17 +85,17 @@ steps-spec =
     μ-loop
     loop-holds
     step-fault-requires
-    add-answered
-    answered-requires
+    (λ c. search needs)
+    (λ c κs. search needs)
     same-length
     returns
     take-step-requires
-    add-done
-    loop-less
+    (λ c. search needs)
+    (λ c. search needs)
     loop-again
-    answered-requires-2
+    (λ c κs. search needs)
     same-length-2
     returns-2
-    answered-requires-3
+    (λ c κs. search needs)
     same-length-3
     returns-3)

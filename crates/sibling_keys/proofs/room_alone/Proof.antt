@@ -37,12 +37,6 @@ after-greater c = c
 loop-holds : tie.Need-loop-holds Inv-loop μ-loop
 loop-holds c = turned-start _ _ _ (entry (search) .args .j)
 
-mul-c : tie.Need-mul-c Inv-loop μ-loop
-mul-c c = search needs
-
-shared-slice-read-c : tie.Need-shared-slice-read-c Inv-loop μ-loop
-shared-slice-read-c c = search needs
-
 cast-c : tie.Need-cast-c Inv-loop μ-loop
 cast-c c = omega (arith, c .shared-slice-known4 .given (at-loop (search) .loop .i))
 
@@ -60,44 +54,20 @@ add-greater c =
     let h = turned-light _ _ _ (entry (search) .args .j) (at-loop (search) .loop .inv) (entry (search) .pre) (in-loop (search) .loop-test .taken) in
     omega arith
 
-greater-requires : tie.Need-greater-requires Inv-loop μ-loop
-greater-requires c κs = search needs
-
 rows-of-requires : tie.Need-rows-of-requires Inv-loop μ-loop
 rows-of-requires c κs =
     turned-column _ _ _ (entry (search) .args .j) (at-loop (search) .loop .inv) (entry (search) .pre) (in-loop (search) .loop-test .taken)
 
-entries-requires : tie.Need-entries-requires Inv-loop μ-loop
-entries-requires c κs = search needs
-
 add-held : tie.Need-add-held Inv-loop μ-loop
 add-held c = omega (arith, c .entries .ensures, entries-fit (c .before .rows-of .result) (omega (arith, c .before .rows-of .ensures .1)))
-
-add-i : tie.Need-add-i Inv-loop μ-loop
-add-i c = search needs
-
-loop-less : tie.Need-loop-less Inv-loop μ-loop
-loop-less c = search needs
 
 loop-again : tie.Need-loop-again Inv-loop μ-loop
 loop-again c =
     turned-turn _ _ _ (entry (search) .args .j) (at-loop (search) .loop .inv) (entry (search) .pre) (in-loop (search) .loop-test .taken)
     (after-greater (search) .greater .ensures) (c .before .rows-of .ensures) (c .entries .ensures)
 
-rows-of-requires-2 : tie.Need-rows-of-requires-2 Inv-loop μ-loop
-rows-of-requires-2 c κs = search needs
-
-add-entries : tie.Need-add-entries Inv-loop μ-loop
-add-entries c = search needs
-
-entries-requires-2 : tie.Need-entries-requires-2 Inv-loop μ-loop
-entries-requires-2 c κs = search needs
-
 add-greater-2 : tie.Need-add-greater-2 Inv-loop μ-loop
 add-greater-2 c = omega (arith, c .entries2 .ensures, entries-fit (c .before .rows-of2 .result + 1) (omega (arith, c .before .rows-of2 .ensures .1)))
-
-greater-requires-2 : tie.Need-greater-requires-2 Inv-loop μ-loop
-greater-requires-2 c κs = search needs
 
 returns : tie.Need-returns Inv-loop μ-loop
 returns c =
@@ -111,22 +81,22 @@ room-alone-spec =
     Inv-loop
     μ-loop
     loop-holds
-    mul-c
-    shared-slice-read-c
+    (λ c. search needs)
+    (λ c. search needs)
     cast-c
     mul-greater
     shared-slice-read-greater
     add-greater
-    greater-requires
+    (λ c κs. search needs)
     rows-of-requires
-    entries-requires
+    (λ c κs. search needs)
     add-held
-    add-i
-    loop-less
+    (λ c. search needs)
+    (λ c. search needs)
     loop-again
-    rows-of-requires-2
-    add-entries
-    entries-requires-2
+    (λ c κs. search needs)
+    (λ c. search needs)
+    (λ c κs. search needs)
     add-greater-2
-    greater-requires-2
+    (λ c κs. search needs)
     returns)

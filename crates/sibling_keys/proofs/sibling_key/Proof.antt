@@ -11,9 +11,6 @@ use Rattle.sibling_keys.proofs.sibling_key.Tie as tie
 abbrev after-entries : tie.After-entries → tie.After-entries
 after-entries c = c
 
-entries-requires : tie.Need-entries-requires
-entries-requires c κs = search needs
-
 returns : tie.Need-returns
 returns c = sym (key-none _ _ _ _ (c .if1 .taken))
 
@@ -27,4 +24,4 @@ returns-4 : tie.Need-returns-4
 returns-4 c = after-entries (search) .entries .ensures ∙ sym (key-two _ _ _ _ (c .before .if1 .left) (c .if2 .left))
 
 pub sibling-key-spec : {M : Type 1} → statement M
-sibling-key-spec = tie.close (tie.spec entries-requires returns returns-2 returns-3 returns-4)
+sibling-key-spec = tie.close (tie.spec (λ c κs. search needs) returns returns-2 returns-3 returns-4)

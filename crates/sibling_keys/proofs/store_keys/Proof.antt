@@ -34,17 +34,8 @@ in-loop c = c
 abbrev after-rows-of2 : tie.After-rows-of2 Inv-loop μ-loop → tie.After-rows-of2 Inv-loop μ-loop
 after-rows-of2 c = c
 
-rows-of-requires : tie.Need-rows-of-requires Inv-loop μ-loop
-rows-of-requires c κs = search needs
-
 loop-holds : tie.Need-loop-holds Inv-loop μ-loop
 loop-holds c = keying-start
-
-mul-c : tie.Need-mul-c Inv-loop μ-loop
-mul-c c = search needs
-
-shared-slice-read-c : tie.Need-shared-slice-read-c Inv-loop μ-loop
-shared-slice-read-c c = search needs
 
 cast-c : tie.Need-cast-c Inv-loop μ-loop
 cast-c c = omega (arith, c .shared-slice-known3 .given (at-loop (search) .loop .i))
@@ -67,9 +58,6 @@ slice-read-sibling-key c =
     let pre = entry (search) .pre in
     let p = keying-places (at-loop (search) .loop .inv) (pre .0) (pre .1 .0) (pre .1 .1) (in-loop (search) .loop-test .taken) in search needs
 
-sibling-key-requires : tie.Need-sibling-key-requires Inv-loop μ-loop
-sibling-key-requires c κs = search needs
-
 add-work : tie.Need-add-work Inv-loop μ-loop
 add-work c =
     let pre = entry (search) .pre in
@@ -85,12 +73,6 @@ slice-write-work c =
     let pre = entry (search) .pre in
     let p = keying-places (at-loop (search) .loop .inv) (pre .0) (pre .1 .0) (pre .1 .1) (in-loop (search) .loop-test .taken) in p .1
 
-add-i : tie.Need-add-i Inv-loop μ-loop
-add-i c = search needs
-
-loop-less : tie.Need-loop-less Inv-loop μ-loop
-loop-less c = search needs
-
 loop-again : tie.Need-loop-again Inv-loop μ-loop
 loop-again c =
     let p = keying-places (at-loop (search) .loop .inv) (entry (search) .pre .0) (entry (search) .pre .1 .0) (entry (search) .pre .1 .1)
@@ -98,9 +80,6 @@ loop-again c =
     keying-turn (at-loop (search) .loop .inv) (in-loop (search) .loop-test .taken)
     (same-key _ (c .sibling-key .ensures) (after-rows-of (search) .rows-of .ensures .0) (after-rows-of2 (search) .rows-of2 .ensures .0)
     (keying-reads (at-loop (search) .loop .inv) (entry (search) .args .w) _ (entry (search) .pre .1 .0) (p .0))) (p .1)
-
-same-length : tie.Need-same-length Inv-loop μ-loop
-same-length c = search needs
 
 returns : tie.Need-returns Inv-loop μ-loop
 returns c = keying-stop (c .before .loop .inv) (c .loop-test .left)
@@ -111,21 +90,21 @@ store-keys-spec =
     (tie.spec
     Inv-loop
     μ-loop
-    rows-of-requires
+    (λ c κs. search needs)
     loop-holds
-    mul-c
-    shared-slice-read-c
+    (λ c. search needs)
+    (λ c. search needs)
     cast-c
     rows-of-requires-2
     add-sibling-key
     mul-sibling-key
     slice-read-sibling-key
-    sibling-key-requires
+    (λ c κs. search needs)
     add-work
     mul-work
     slice-write-work
-    add-i
-    loop-less
+    (λ c. search needs)
+    (λ c. search needs)
     loop-again
-    same-length
+    (λ c. search needs)
     returns)

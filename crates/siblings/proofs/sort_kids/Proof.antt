@@ -23,13 +23,7 @@ mul-sort-columns : tie.Need-mul-sort-columns
 mul-sort-columns c = omega (arith, entry (search) .pre .room, entry (search) .good)
 
 sub-sort-columns : tie.Need-sub-sort-columns
-sub-sort-columns c = omega (arith, entry (search) .pre .room, stored (search) .store-keys .kept .1 .1 .1 .1 .0)
-
-part-sort-columns-start : tie.Need-part-sort-columns-start
-part-sort-columns-start c = search needs
-
-part-sort-columns-end : tie.Need-part-sort-columns-end
-part-sort-columns-end c = search needs
+sub-sort-columns c = omega (arith, entry (search) .pre .room, stored (search) .store-keys .kept)
 
 sort-columns-requires : tie.Need-sort-columns-requires
 sort-columns-requires c κs = entry (search) .pre .enough
@@ -42,15 +36,9 @@ mul-room-alone c =
 sub-room-alone : tie.Need-sub-room-alone
 sub-room-alone c = omega (arith, entry (search) .pre .own)
 
-part-room-alone-start : tie.Need-part-room-alone-start
-part-room-alone-start c = search needs
-
-part-room-alone-end : tie.Need-part-room-alone-end
-part-room-alone-end c = search needs
-
 room-alone-requires : tie.Need-room-alone-requires
 room-alone-requires c κs =
-    sorted-kids _ (entry (search) .pre) (stored (search) .store-keys .ensures) (stored (search) .store-keys .kept .1 .1 .1 .1 .0)
+    sorted-kids _ (entry (search) .pre) (stored (search) .store-keys .ensures) (omega (arith, stored (search) .store-keys .kept))
     (sorted (search) .sort-columns .ensures)
 
 add-work : tie.Need-add-work
@@ -66,20 +54,17 @@ mul-work c =
 slice-write-work : tie.Need-slice-write-work
 slice-write-work c =
     let pre = entry (search) .pre in
-    omega (arith, pre .own, pre .room, stored (search) .store-keys .kept .1 .1 .1 .1 .0)
+    omega (arith, pre .own, pre .room, stored (search) .store-keys .kept)
 
 same-length : tie.Need-same-length
-same-length c = sorted (search) .sort-columns .kept .1 .0
+same-length c = omega (arith, sorted (search) .sort-columns .kept)
 
 same-length-2 : tie.Need-same-length-2
-same-length-2 c = sorted (search) .sort-columns .kept .1 .1 .0
-
-same-length-3 : tie.Need-same-length-3
-same-length-3 c = search needs
+same-length-2 c = omega (arith, sorted (search) .sort-columns .kept)
 
 returns : tie.Need-returns
 returns c =
-    sorted-done _ (entry (search) .pre) (stored (search) .store-keys .ensures) (stored (search) .store-keys .kept .1 .1 .1 .1 .0)
+    sorted-done _ (entry (search) .pre) (stored (search) .store-keys .ensures) (omega (arith, stored (search) .store-keys .kept))
     (sorted (search) .sort-columns .ensures) (c .room-alone .ensures)
 
 pub sort-kids-spec : {M : Type 1} → statement M
@@ -89,18 +74,18 @@ sort-kids-spec =
     store-keys-requires
     mul-sort-columns
     sub-sort-columns
-    part-sort-columns-start
-    part-sort-columns-end
+    (λ c. search needs)
+    (λ c. search needs)
     sort-columns-requires
     mul-room-alone
     sub-room-alone
-    part-room-alone-start
-    part-room-alone-end
+    (λ c. search needs)
+    (λ c. search needs)
     room-alone-requires
     add-work
     mul-work
     slice-write-work
     same-length
     same-length-2
-    same-length-3
+    (λ c. search needs)
     returns)

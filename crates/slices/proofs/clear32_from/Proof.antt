@@ -12,24 +12,6 @@ entry c = c
 abbrev cleared : tie.After-clear32 → tie.After-clear32
 cleared c = c
 
-mul-clear32 : tie.Need-mul-clear32
-mul-clear32 c = search needs
-
-sub-clear32 : tie.Need-sub-clear32
-sub-clear32 c = search needs
-
-part-clear32-start : tie.Need-part-clear32-start
-part-clear32-start c = search needs
-
-part-clear32-end : tie.Need-part-clear32-end
-part-clear32-end c = search needs
-
-clear32-requires : tie.Need-clear32-requires
-clear32-requires c κs = search needs
-
-same-length : tie.Need-same-length
-same-length c = search needs
-
 returns : tie.Need-returns
 returns c = cleared-from _ _ (entry (search) .pre) (cleared (search) .clear32 .ensures)
 
@@ -37,10 +19,10 @@ pub clear32-from-spec : {M : Type 1} → statement M
 clear32-from-spec =
     tie.close
     (tie.spec
-    mul-clear32
-    sub-clear32
-    part-clear32-start
-    part-clear32-end
-    clear32-requires
-    same-length
+    (λ c. search needs)
+    (λ c. search needs)
+    (λ c. search needs)
+    (λ c. search needs)
+    (λ c κs. search needs)
+    (λ c. search needs)
     returns)

@@ -10,11 +10,8 @@ use Rattle.slices.proofs.part.Tie as tie
 slice-aggregate-result : tie.Need-slice-aggregate-result
 slice-aggregate-result c = sym (length-take-le _ _ (omega arith))
 
-returns : tie.Need-returns
-returns c = search needs
-
 returns-2 : tie.Need-returns-2
 returns-2 c = sym (take-all _ _ (c .if1 .left))
 
 pub part-spec : {M : Type 1} → statement M
-part-spec = tie.close (tie.spec slice-aggregate-result returns returns-2)
+part-spec = tie.close (tie.spec slice-aggregate-result (λ c. search needs) returns-2)

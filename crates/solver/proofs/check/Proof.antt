@@ -19,23 +19,11 @@ after-head c = c
 abbrev checked : tie.After-check-for-key → tie.After-check-for-key
 checked c = c
 
-read-key-requires : tie.Need-read-key-requires
-read-key-requires c κs = search needs
-
 enum-told : tie.Need-enum-told
 enum-told c = search needs
 
-mul-result : tie.Need-mul-result
-mul-result c = search needs
-
 returns : tie.Need-returns
 returns c = let (number, place, e) = told-unreadable (read (search) .read-key .ensures) (c .enum-told .given .1) in unreadable-is-27 _ _ e
-
-enum-known-head : tie.Need-enum-known-head
-enum-known-head c = search needs
-
-mul-result-2 : tie.Need-mul-result-2
-mul-result-2 c = search needs
 
 returns-2 : tie.Need-returns-2
 returns-2 c =
@@ -59,12 +47,12 @@ pub check-spec : {M : Type 1} → statement M
 check-spec =
     tie.close
     (tie.spec
-    read-key-requires
+    (λ c κs. search needs)
     enum-told
-    mul-result
+    (λ c. search needs)
     returns
-    enum-known-head
-    mul-result-2
+    (λ c. search needs)
+    (λ c. search needs)
     returns-2
     check-for-key-requires
     mul-result-3

@@ -3,7 +3,9 @@
 use mathlib.Core.Path.{ap, _∙_}
 use lib.ListN.{replicate}
 use borrow.Author.Needs.{needs}
+use native.Mathlib.Omega.{arith}
 use Rattle.held_updates.specs.Kept.{callOf}
+use Rattle.slices.proofs.Zeroed.{zeros-as-long}
 use Rattle.stack_run.proofs.Outcomes.{run-many, run-starts, starts-pass, run-rows, factor-is, all-long, run-short, run-steps}
 use Rattle.stack_run.proofs.run.Statement.{statement}
 use Rattle.stack_run.proofs.run.Tie as tie
@@ -39,14 +41,8 @@ after-steps c = c
 abbrev cleared : tie.After-clear32 → tie.After-clear32
 cleared c = c
 
-answered-requires : tie.Need-answered-requires
-answered-requires c κs = search needs
-
 returns : tie.Need-returns
 returns c = run-many _ (c .before .if1 .taken) (c .answered .ensures)
-
-starts-fault-requires : tie.Need-starts-fault-requires
-starts-fault-requires c κs = search needs
 
 returns-2 : tie.Need-returns-2
 returns-2 c = run-starts _ (else1 (search) .if1 .left) (after-starts-fault (search) .starts-fault .ensures) (c .if2 .taken)
@@ -64,15 +60,6 @@ returns-3 c =
     run-rows _ (else1 (search) .if1 .left) (after-starts-fault (search) .starts-fault .ensures) (else2 (search) .if2 .left)
     (after-rows-fault (search) .rows-fault .ensures) (c .if3 .taken)
 
-too-short-requires : tie.Need-too-short-requires
-too-short-requires c κs = search needs
-
-answered-requires-2 : tie.Need-answered-requires-2
-answered-requires-2 c κs = search needs
-
-same-length : tie.Need-same-length
-same-length c = search needs
-
 returns-4 : tie.Need-returns-4
 returns-4 c =
     run-short _ (else1 (search) .if1 .left) (after-starts-fault (search) .starts-fault .ensures) (else2 (search) .if2 .left)
@@ -89,34 +76,29 @@ steps-requires c κs =
           (c .before .if4 .left),
     )
 
-clear32-requires : tie.Need-clear32-requires
-clear32-requires c κs = search needs
-
-same-length-2 : tie.Need-same-length-2
-same-length-2 c = search needs
-
 returns-5 : tie.Need-returns-5
 returns-5 c =
     let steps = after-steps (search) .steps in
     run-steps _ (else1 (search) .if1 .left) (after-starts-fault (search) .starts-fault .ensures) (else2 (search) .if2 .left)
     (after-rows-fault (search) .rows-fault .ensures) (else3 (search) .if3 .left) (after-too-short (search) .too-short .ensures)
-    (else4 (search) .if4 .left) (steps .ensures) (cleared (search) .clear32 .ensures ∙ ap (λ k. replicate k 0) (steps .kept .1 .1 .1 .1 .1 .1 .0))
+    (else4 (search) .if4 .left) (steps .ensures)
+    (zeros-as-long _ _ (cleared (search) .clear32 .ensures) (omega (arith, steps .kept)))
 
 pub run-spec : {M : Type 1} → statement M
 run-spec =
     tie.close
     (tie.spec
-    answered-requires
+    (λ c κs. search needs)
     returns
-    starts-fault-requires
+    (λ c κs. search needs)
     returns-2
     rows-fault-requires
     returns-3
-    too-short-requires
-    answered-requires-2
-    same-length
+    (λ c κs. search needs)
+    (λ c κs. search needs)
+    (λ c. search needs)
     returns-4
     steps-requires
-    clear32-requires
-    same-length-2
+    (λ c κs. search needs)
+    (λ c. search needs)
     returns-5)

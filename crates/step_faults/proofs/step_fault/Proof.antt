@@ -26,20 +26,8 @@ after-popped-fit c = c
 abbrev else4 : tie.Else4 → tie.Else4
 else4 c = c
 
-mul-column : tie.Need-mul-column
-mul-column c = search needs
-
-shared-slice-read-column : tie.Need-shared-slice-read-column
-shared-slice-read-column c = search needs
-
 cast-column : tie.Need-cast-column
 cast-column c = omega (arith, c .shared-slice-known6 .given (entry (search) .args .done))
-
-mul-off : tie.Need-mul-off
-mul-off c = search needs
-
-shared-slice-read-off : tie.Need-shared-slice-read-off
-shared-slice-read-off c = search needs
 
 cast-off : tie.Need-cast-off
 cast-off c = omega (arith, c .shared-slice-known7 .given (entry (search) .args .done))
@@ -82,11 +70,11 @@ pub step-fault-spec : {M : Type 1} → statement M
 step-fault-spec =
     tie.close
     (tie.spec
-    mul-column
-    shared-slice-read-column
+    (λ c. search needs)
+    (λ c. search needs)
     cast-column
-    mul-off
-    shared-slice-read-off
+    (λ c. search needs)
+    (λ c. search needs)
     cast-off
     returns
     returns-2

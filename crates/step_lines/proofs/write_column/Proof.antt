@@ -38,40 +38,10 @@ entry c = c
 abbrev written : tie.After-write-step → tie.After-write-step
 written c = c
 
-sub-from : tie.Need-sub-from
-sub-from c = search needs
-
-mul-from : tie.Need-mul-from
-mul-from c = search needs
-
-shared-slice-read-from : tie.Need-shared-slice-read-from
-shared-slice-read-from c = search needs
-
-mul-to : tie.Need-mul-to
-mul-to c = search needs
-
-shared-slice-read-to : tie.Need-shared-slice-read-to
-shared-slice-read-to c = search needs
-
-mul-write-step : tie.Need-mul-write-step
-mul-write-step c = search needs
-
-sub-write-step : tie.Need-sub-write-step
-sub-write-step c = search needs
-
-part-write-step-start : tie.Need-part-write-step-start
-part-write-step-start c = search needs
-
-part-write-step-end : tie.Need-part-write-step-end
-part-write-step-end c = search needs
-
 write-step-requires : tie.Need-write-step-requires
 write-step-requires c κs =
     line-fits (entry (search) .args .fstarts .now) (entry (search) .args .frows .now) (entry (search) .args .j) (entry (search) .pre .0 .0 .some)
     (entry (search) .args .pops) (entry (search) .args .room) (entry (search) .args .at) (entry (search) .pre .1)
-
-same-length : tie.Need-same-length
-same-length c = search needs
 
 returns : tie.Need-returns
 returns c =
@@ -83,15 +53,15 @@ pub write-column-spec : {M : Type 1} → statement M
 write-column-spec =
     tie.close
     (tie.spec
-    sub-from
-    mul-from
-    shared-slice-read-from
-    mul-to
-    shared-slice-read-to
-    mul-write-step
-    sub-write-step
-    part-write-step-start
-    part-write-step-end
+    (λ c. search needs)
+    (λ c. search needs)
+    (λ c. search needs)
+    (λ c. search needs)
+    (λ c. search needs)
+    (λ c. search needs)
+    (λ c. search needs)
+    (λ c. search needs)
+    (λ c. search needs)
     write-step-requires
-    same-length
+    (λ c. search needs)
     returns)

@@ -1,4 +1,5 @@
--- The loop's invariant: the first k steps are done, the sums of the updates then held stand in below, and their lines are written. The measure is how many
+-- The loop's invariant: the first k steps are done, the sums of the updates then held stand in below, and their lines are written. The measure is how
+-- many
 -- steps are left.
 -- Assumes nothing.
 use Prim.Native.Nat.{_-_}
@@ -40,26 +41,11 @@ written c = c
 abbrev held : tie.After-hold Inv-loop μ-loop → tie.After-hold Inv-loop μ-loop
 held c = c
 
-slice-write-below : tie.Need-slice-write-below Inv-loop μ-loop
-slice-write-below c = search needs
-
 loop-holds : tie.Need-loop-holds Inv-loop μ-loop
 loop-holds c = printing-start _ _ _ _ (entry (search) .args .below .now) _ _ (entry (search) .pre .1 .0)
 
-mul-j : tie.Need-mul-j Inv-loop μ-loop
-mul-j c = search needs
-
-shared-slice-read-j : tie.Need-shared-slice-read-j Inv-loop μ-loop
-shared-slice-read-j c = search needs
-
 cast-j : tie.Need-cast-j Inv-loop μ-loop
 cast-j c = omega (arith, c .shared-slice-known5 .given (at-loop (search) .loop .k))
-
-mul-p : tie.Need-mul-p Inv-loop μ-loop
-mul-p c = search needs
-
-shared-slice-read-p : tie.Need-shared-slice-read-p Inv-loop μ-loop
-shared-slice-read-p c = search needs
 
 cast-p : tie.Need-cast-p Inv-loop μ-loop
 cast-p c = omega (arith, c .shared-slice-known6 .given (at-loop (search) .loop .k))
@@ -87,12 +73,6 @@ hold-requires c κs =
     stacked-over _ _ _ (at-loop (search) .loop .inv .stacked) (entry (search) .pre .0 .stepped) (in-loop (search) .loop-test .taken)
     (after-rows-of (search) .rows-of .ensures)
 
-add-k : tie.Need-add-k Inv-loop μ-loop
-add-k c = search needs
-
-loop-less : tie.Need-loop-less Inv-loop μ-loop
-loop-less c = search needs
-
 loop-again : tie.Need-loop-again Inv-loop μ-loop
 loop-again c =
     printing-turn _ _ _ _ (at-loop (search) .loop .inv) (entry (search) .pre .0) (in-loop (search) .loop-test .taken)
@@ -114,20 +94,20 @@ write-steps-spec =
     (tie.spec
     Inv-loop
     μ-loop
-    slice-write-below
+    (λ c. search needs)
     loop-holds
-    mul-j
-    shared-slice-read-j
+    (λ c. search needs)
+    (λ c. search needs)
     cast-j
-    mul-p
-    shared-slice-read-p
+    (λ c. search needs)
+    (λ c. search needs)
     cast-p
     rows-of-requires
     in-use-requires
     write-column-requires
     hold-requires
-    add-k
-    loop-less
+    (λ c. search needs)
+    (λ c. search needs)
     loop-again
     same-length
     same-length-2

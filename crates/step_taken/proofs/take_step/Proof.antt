@@ -19,42 +19,9 @@ after-room-in-use c = c
 abbrev after-entries-of : tie.After-entries-of → tie.After-entries-of
 after-entries-of c = c
 
-mul-column : tie.Need-mul-column
-mul-column c = search needs
-
-shared-slice-read-column : tie.Need-shared-slice-read-column
-shared-slice-read-column c = search needs
-
-mul-off : tie.Need-mul-off
-mul-off c = search needs
-
-shared-slice-read-off : tie.Need-shared-slice-read-off
-shared-slice-read-off c = search needs
-
-cast-off : tie.Need-cast-off
-cast-off c = search needs
-
-popped-entries-requires : tie.Need-popped-entries-requires
-popped-entries-requires c κs = search needs
-
-cast-room-in-use : tie.Need-cast-room-in-use
-cast-room-in-use c = search needs
-
-room-in-use-requires : tie.Need-room-in-use-requires
-room-in-use-requires c κs = search needs
-
-cast-entries-of : tie.Need-cast-entries-of
-cast-entries-of c = search needs
-
-entries-of-requires : tie.Need-entries-of-requires
-entries-of-requires c κs = search needs
-
 advance-requires : tie.Need-advance-requires
 advance-requires c κs =
     takes (entry (search) .pre) (after-popped-entries (search) .popped-entries .ensures) (c .entries-of .ensures) (c .before .room-in-use .ensures)
-
-same-length : tie.Need-same-length
-same-length c = search needs
 
 returns : tie.Need-returns
 returns c =
@@ -78,9 +45,6 @@ slice-write-stack c =
     store-within (entry (search) .pre) (after-popped-entries (search) .popped-entries .ensures) (after-entries-of (search) .entries-of .ensures)
     (after-room-in-use (search) .room-in-use .ensures) (c .before .advance .ensures) (c .if1 .left) .2
 
-same-length-2 : tie.Need-same-length-2
-same-length-2 c = search needs
-
 returns-2 : tie.Need-returns-2
 returns-2 c =
     taken-update (entry (search) .pre) (after-popped-entries (search) .popped-entries .ensures) (after-entries-of (search) .entries-of .ensures)
@@ -90,21 +54,21 @@ pub take-step-spec : {M : Type 1} → statement M
 take-step-spec =
     tie.close
     (tie.spec
-    mul-column
-    shared-slice-read-column
-    mul-off
-    shared-slice-read-off
-    cast-off
-    popped-entries-requires
-    cast-room-in-use
-    room-in-use-requires
-    cast-entries-of
-    entries-of-requires
+    (λ c. search needs)
+    (λ c. search needs)
+    (λ c. search needs)
+    (λ c. search needs)
+    (λ c. search needs)
+    (λ c κs. search needs)
+    (λ c. search needs)
+    (λ c κs. search needs)
+    (λ c. search needs)
+    (λ c κs. search needs)
     advance-requires
-    same-length
+    (λ c. search needs)
     returns
     sub-stack
     mul-stack
     slice-write-stack
-    same-length-2
+    (λ c. search needs)
     returns-2)

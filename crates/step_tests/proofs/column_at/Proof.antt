@@ -6,12 +6,6 @@ use borrow.Author.Needs.{needs}
 use Rattle.step_tests.proofs.column_at.Statement.{statement}
 use Rattle.step_tests.proofs.column_at.Tie as tie
 
-mul-result : tie.Need-mul-result
-mul-result c = search needs
-
-shared-slice-read-result : tie.Need-shared-slice-read-result
-shared-slice-read-result c = search needs
-
 cast-result : tie.Need-cast-result
 cast-result c = omega (arith, c .shared-slice-known .given (c .before .args .i))
 
@@ -19,4 +13,4 @@ returns : tie.Need-returns
 returns c = (refl, c .before .pre .0 (c .before .args .i) (c .before .pre .1) .1)
 
 pub column-at-spec : {M : Type 1} → statement M
-column-at-spec = tie.close (tie.spec mul-result shared-slice-read-result cast-result returns)
+column-at-spec = tie.close (tie.spec (λ c. search needs) (λ c. search needs) cast-result returns)

@@ -29,12 +29,6 @@ at-loop c = c
 abbrev after-column-at : tie.After-column-at Inv-loop μ-loop → tie.After-column-at Inv-loop μ-loop
 after-column-at c = c
 
-add-count-children : tie.Need-add-count-children Inv-loop μ-loop
-add-count-children c = search needs
-
-slice-relend-prefix-count-children : tie.Need-slice-relend-prefix-count-children Inv-loop μ-loop
-slice-relend-prefix-count-children c = search needs
-
 slice-aggregate-count-children : tie.Need-slice-aggregate-count-children Inv-loop μ-loop
 slice-aggregate-count-children c = sym (length-take-le _ (now (entry (search) .args .work)) (omega arith))
 
@@ -43,32 +37,11 @@ count-children-requires c κs = (entry (search) .pre .0, length-take-le _ (now (
 
 loop-holds : tie.Need-loop-holds Inv-loop μ-loop
 loop-holds c =
-    popped-start _ _ _ (now (entry (search) .args .work)) _ (entry (search) .pre .1 .1 .1 .1) (counted (search) .count-children .kept .1 .0)
+    popped-start _ _ _ (now (entry (search) .args .work)) _ (entry (search) .pre .1 .1 .1 .1) (omega (arith, counted (search) .count-children .kept))
     (counted (search) .count-children .ensures)
-
-column-at-requires : tie.Need-column-at-requires Inv-loop μ-loop
-column-at-requires c κs = search needs
-
-mul-if1 : tie.Need-mul-if1 Inv-loop μ-loop
-mul-if1 c = search needs
-
-shared-slice-read-if1 : tie.Need-shared-slice-read-if1 Inv-loop μ-loop
-shared-slice-read-if1 c = search needs
 
 cast-if1 : tie.Need-cast-if1 Inv-loop μ-loop
 cast-if1 c = omega (arith, c .shared-slice-known4 .given (at-loop (search) .loop .i))
-
-mul-if1-2 : tie.Need-mul-if1-2 Inv-loop μ-loop
-mul-if1-2 c = search needs
-
-slice-read-if1 : tie.Need-slice-read-if1 Inv-loop μ-loop
-slice-read-if1 c = search needs
-
-add-result : tie.Need-add-result Inv-loop μ-loop
-add-result c = search needs
-
-same-length : tie.Need-same-length Inv-loop μ-loop
-same-length c = search needs
 
 returns : tie.Need-returns Inv-loop μ-loop
 returns c =
@@ -76,20 +49,11 @@ returns c =
     popped-found _ _ _ (pre .1 .0) (pre .1 .1 .0 .0) _ _ (at-loop (search) .loop .inv) (omega arith) _
     (after-column-at (search) .column-at .ensures .0) (c .if1 .taken)
 
-add-i : tie.Need-add-i Inv-loop μ-loop
-add-i c = search needs
-
-loop-less : tie.Need-loop-less Inv-loop μ-loop
-loop-less c = search needs
-
 loop-again : tie.Need-loop-again Inv-loop μ-loop
 loop-again c =
     let pre = entry (search) .pre in
     popped-turn _ _ _ (pre .1 .0) (pre .1 .1 .0 .0) _ _ (at-loop (search) .loop .inv) (omega arith) _
     (after-column-at (search) .column-at .ensures .0) (c .if1 .left)
-
-same-length-2 : tie.Need-same-length-2 Inv-loop μ-loop
-same-length-2 c = search needs
 
 returns-2 : tie.Need-returns-2 Inv-loop μ-loop
 returns-2 c = popped-stop _ _ _ (entry (search) .pre .1 .0) (entry (search) .pre .1 .1 .0 .0) _ _ (c .before .loop .inv) (omega arith)
@@ -100,22 +64,22 @@ first-wrong-pops-spec =
     (tie.spec
     Inv-loop
     μ-loop
-    add-count-children
-    slice-relend-prefix-count-children
+    (λ c. search needs)
+    (λ c. search needs)
     slice-aggregate-count-children
     count-children-requires
     loop-holds
-    column-at-requires
-    mul-if1
-    shared-slice-read-if1
+    (λ c κs. search needs)
+    (λ c. search needs)
+    (λ c. search needs)
     cast-if1
-    mul-if1-2
-    slice-read-if1
-    add-result
-    same-length
+    (λ c. search needs)
+    (λ c. search needs)
+    (λ c. search needs)
+    (λ c. search needs)
     returns
-    add-i
-    loop-less
+    (λ c. search needs)
+    (λ c. search needs)
     loop-again
-    same-length-2
+    (λ c. search needs)
     returns-2)

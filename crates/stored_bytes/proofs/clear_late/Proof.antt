@@ -16,14 +16,8 @@ cleared c = c
 returns : tie.Need-returns
 returns c = (λ h. refl, λ h. absurd (omega (arith, c .if1 .taken)))
 
-clear8-requires : tie.Need-clear8-requires
-clear8-requires c κs = search needs
-
-same-length : tie.Need-same-length
-same-length c = search needs
-
 returns-2 : tie.Need-returns-2
 returns-2 c = (λ h. absurd (omega (arith, else1 (search) .if1 .left)), λ h. cleared (search) .clear8 .ensures)
 
 pub clear-late-spec : {M : Type 1} → statement M
-clear-late-spec = tie.close (tie.spec returns clear8-requires same-length returns-2)
+clear-late-spec = tie.close (tie.spec returns (λ c κs. search needs) (λ c. search needs) returns-2)

@@ -18,36 +18,9 @@ after-clear8 c = c
 abbrev after-clear82 : tie.After-clear82 → tie.After-clear82
 after-clear82 c = c
 
-clear8-requires : tie.Need-clear8-requires
-clear8-requires c κs = search needs
-
-answered-requires : tie.Need-answered-requires
-answered-requires c κs = search needs
-
-same-length : tie.Need-same-length
-same-length c = search needs
-
 returns : tie.Need-returns
 returns c written before n e =
     finished-short written before n e (then1 (search) .if1 .taken) (c .answered .ensures) (after-clear8 (search) .clear8 .ensures)
-
-sub-clear8 : tie.Need-sub-clear8
-sub-clear8 c = search needs
-
-part-clear8-start : tie.Need-part-clear8-start
-part-clear8-start c = search needs
-
-part-clear8-end : tie.Need-part-clear8-end
-part-clear8-end c = search needs
-
-clear8-requires-2 : tie.Need-clear8-requires-2
-clear8-requires-2 c κs = search needs
-
-answered-requires-2 : tie.Need-answered-requires-2
-answered-requires-2 c κs = search needs
-
-same-length-2 : tie.Need-same-length-2
-same-length-2 c = search needs
 
 returns-2 : tie.Need-returns-2
 returns-2 c written before n e =
@@ -57,14 +30,14 @@ pub finish-spec : {M : Type 1} → statement M
 finish-spec =
     tie.close
     (tie.spec
-    clear8-requires
-    answered-requires
-    same-length
+    (λ c κs. search needs)
+    (λ c κs. search needs)
+    (λ c. search needs)
     returns
-    sub-clear8
-    part-clear8-start
-    part-clear8-end
-    clear8-requires-2
-    answered-requires-2
-    same-length-2
+    (λ c. search needs)
+    (λ c. search needs)
+    (λ c. search needs)
+    (λ c κs. search needs)
+    (λ c κs. search needs)
+    (λ c. search needs)
     returns-2)

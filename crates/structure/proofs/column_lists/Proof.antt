@@ -55,9 +55,6 @@ at-loop₂ c = search
 abbrev in-loop₂ : tie.After-gather Inv-loop μ-loop → tie.In-loop Inv-loop μ-loop
 in-loop₂ c = search
 
-clear64-requires : tie.Need-clear64-requires Inv-loop μ-loop
-clear64-requires c κs = tt
-
 slice-write-fstarts : tie.Need-slice-write-fstarts Inv-loop μ-loop
 slice-write-fstarts c = let l = entry (search) .pre .1 .starts-long in omega arith
 
@@ -87,13 +84,13 @@ same-length-3 : tie.Need-same-length-3 Inv-loop μ-loop
 same-length-3 c = long-f (tested-below (entry₁ (search) .pre .0)) (at-loop (search) .loop .inv)
 
 same-length-4 : tie.Need-same-length-4 Inv-loop μ-loop
-same-length-4 c = gathered (search) .gather .kept .1 .1 .1 .1 .1 .1 .1 .0 ∙ at-loop (search) .loop .inv .long-x
+same-length-4 c = omega (arith, gathered (search) .gather .kept, at-loop (search) .loop .inv .long-x)
 
 same-length-5 : tie.Need-same-length-5 Inv-loop μ-loop
-same-length-5 c = gathered (search) .gather .kept .1 .1 .1 .1 .1 .1 .1 .1 .0 ∙ at-loop (search) .loop .inv .long-y
+same-length-5 c = omega (arith, gathered (search) .gather .kept, at-loop (search) .loop .inv .long-y)
 
 same-length-6 : tie.Need-same-length-6 Inv-loop μ-loop
-same-length-6 c = gathered (search) .gather .kept .1 .1 .1 .1 .1 .1 .0 ∙ at-loop (search) .loop .inv .long-w ∙ cleared (search) .clear64 .kept .0
+same-length-6 c = omega (arith, gathered (search) .gather .kept, at-loop (search) .loop .inv .long-w, cleared (search) .clear64 .kept)
 
 returns : tie.Need-returns Inv-loop μ-loop
 returns c =
@@ -103,29 +100,26 @@ returns c =
 gathered-requires : tie.Need-gathered-requires Inv-loop μ-loop
 gathered-requires c κs =
     run-held (tested-below (entry₁ (search) .pre .0)) (at-loop (search) .loop .inv) (in-loop (search) .loop-test .taken)
-    (gathered (search) .gather .ensures) (gathered (search) .gather .kept .1 .1 .1 .1 .1 .1 .0)
-    (gathered (search) .gather .kept .1 .1 .1 .1 .1 .1 .1 .0) (gathered (search) .gather .kept .1 .1 .1 .1 .1 .1 .1 .1 .0)
+    (gathered (search) .gather .ensures) (omega (arith, gathered (search) .gather .kept))
+    (omega (arith, gathered (search) .gather .kept)) (omega (arith, gathered (search) .gather .kept))
 
 store-requires : tie.Need-store-requires Inv-loop μ-loop
 store-requires c κs =
     run-store (tested-below (entry₁ (search) .pre .0)) (at-loop (search) .loop .inv) (in-loop (search) .loop-test .taken)
-    (gathered (search) .gather .ensures) (gathered (search) .gather .kept .1 .1 .1 .1 .1 .1 .0)
-    (gathered (search) .gather .kept .1 .1 .1 .1 .1 .1 .1 .0) (gathered (search) .gather .kept .1 .1 .1 .1 .1 .1 .1 .1 .0) _
+    (gathered (search) .gather .ensures) (omega (arith, gathered (search) .gather .kept))
+    (omega (arith, gathered (search) .gather .kept)) (omega (arith, gathered (search) .gather .kept)) _
     (after-gathered (search) .gathered .ensures) (else1 (search) .if1 .left)
 
 add-m : tie.Need-add-m Inv-loop μ-loop
 add-m c = let f = entry₂ (search) .pre .0 .few in omega arith
 
-loop-less : tie.Need-loop-less Inv-loop μ-loop
-loop-less c = omega arith
-
 loop-again : tie.Need-loop-again Inv-loop μ-loop
 loop-again c =
     run-on (tested-below (entry₂ (search) .pre .0)) (at-loop₂ (search) .loop .inv) (in-loop₂ (search) .loop-test .taken)
-    (gathered (search) .gather .ensures) (gathered (search) .gather .kept .1 .1 .1 .1 .1 .1 .0)
-    (gathered (search) .gather .kept .1 .1 .1 .1 .1 .1 .1 .0) (gathered (search) .gather .kept .1 .1 .1 .1 .1 .1 .1 .1 .0) _
+    (gathered (search) .gather .ensures) (omega (arith, gathered (search) .gather .kept))
+    (omega (arith, gathered (search) .gather .kept)) (omega (arith, gathered (search) .gather .kept)) _
     (after-gathered (search) .gathered .ensures) (else1 (search) .if1 .left) (stored (search) .store .ensures)
-    (stored (search) .store .kept .1 .1 .1 .1 .1 .1 .0)
+    (omega (arith, stored (search) .store .kept))
 
 same-length-7 : tie.Need-same-length-7 Inv-loop μ-loop
 same-length-7 c = long-p (tested-below (entry (search) .pre .0)) (c .before .loop .inv)
@@ -154,7 +148,7 @@ column-lists-spec =
     (tie.spec
     Inv-loop
     μ-loop
-    clear64-requires
+    (λ c κs. tt)
     slice-write-fstarts
     loop-holds
     gather-requires
@@ -171,7 +165,7 @@ column-lists-spec =
     gathered-requires
     store-requires
     add-m
-    loop-less
+    (λ c. omega arith)
     loop-again
     same-length-7
     same-length-8

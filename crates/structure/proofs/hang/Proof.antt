@@ -15,29 +15,8 @@ entry c = c
 returns : tie.Need-returns
 returns c = rw (c .if1 .taken) (sym (hanging-root _ _ _))
 
-mul-work : tie.Need-mul-work
-mul-work c = omega arith
-
-slice-read-work : tie.Need-slice-read-work
-slice-read-work c = omega arith
-
-add-work : tie.Need-add-work
-add-work c = omega arith
-
-mul-work-2 : tie.Need-mul-work-2
-mul-work-2 c = omega arith
-
-slice-write-work : tie.Need-slice-write-work
-slice-write-work c = omega arith
-
-mul-work-3 : tie.Need-mul-work-3
-mul-work-3 c = omega arith
-
 slice-write-work-2 : tie.Need-slice-write-work-2
 slice-write-work-2 c = rw length-set (omega (arith, entry (search) .pre))
-
-same-length : tie.Need-same-length
-same-length c = search needs
 
 returns-2 : tie.Need-returns-2
 returns-2 c = sym (hanging-is _ _ _ _ (c .before .if1 .left))
@@ -47,12 +26,12 @@ hang-spec =
     tie.close
     (tie.spec
     returns
-    mul-work
-    slice-read-work
-    add-work
-    mul-work-2
-    slice-write-work
-    mul-work-3
+    (λ c. omega arith)
+    (λ c. omega arith)
+    (λ c. omega arith)
+    (λ c. omega arith)
+    (λ c. omega arith)
+    (λ c. omega arith)
     slice-write-work-2
-    same-length
+    (λ c. search needs)
     returns-2)

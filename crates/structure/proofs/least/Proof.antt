@@ -8,11 +8,8 @@ use Rattle.structure.proofs.least.Tie as tie
 returns : tie.Need-returns
 returns c = least-none _ (c .if1 .taken)
 
-shared-slice-read-result : tie.Need-shared-slice-read-result
-shared-slice-read-result c = omega arith
-
 returns-2 : tie.Need-returns-2
 returns-2 c = least-some _ (c .before .if1 .left)
 
 pub least-spec : {M : Type 1} → statement M
-least-spec = tie.close (tie.spec returns shared-slice-read-result returns-2)
+least-spec = tie.close (tie.spec returns (λ c. omega arith) returns-2)

@@ -16,57 +16,6 @@ after-least c = c
 abbrev after-hang : tie.After-hang → tie.After-hang
 after-hang c = c
 
-mul-at : tie.Need-mul-at
-mul-at c = omega arith
-
-slice-read-at : tie.Need-slice-read-at
-slice-read-at c = omega arith
-
-copy-at-requires : tie.Need-copy-at-requires
-copy-at-requires c κs = omega arith
-
-add-fstarts : tie.Need-add-fstarts
-add-fstarts c = omega arith
-
-add-fstarts-2 : tie.Need-add-fstarts-2
-add-fstarts-2 c = omega arith
-
-mul-fstarts : tie.Need-mul-fstarts
-mul-fstarts c = omega arith
-
-slice-write-fstarts : tie.Need-slice-write-fstarts
-slice-write-fstarts c = omega arith
-
-least-requires : tie.Need-least-requires
-least-requires c κs = omega arith
-
-mul-parents : tie.Need-mul-parents
-mul-parents c = omega arith
-
-slice-write-parents : tie.Need-slice-write-parents
-slice-write-parents c = omega arith
-
-cast-hang : tie.Need-cast-hang
-cast-hang c = omega arith
-
-add-hang : tie.Need-add-hang
-add-hang c = omega arith
-
-hang-requires : tie.Need-hang-requires
-hang-requires c κs = omega arith
-
-same-length : tie.Need-same-length
-same-length c = search needs
-
-same-length-2 : tie.Need-same-length-2
-same-length-2 c = search needs
-
-same-length-3 : tie.Need-same-length-3
-same-length-3 c = omega arith
-
-same-length-4 : tie.Need-same-length-4
-same-length-4 c = omega arith
-
 returns : tie.Need-returns
 returns c =
     record {
@@ -80,21 +29,21 @@ pub store-spec : {M : Type 1} → statement M
 store-spec =
     tie.close
     (tie.spec
-    mul-at
-    slice-read-at
-    copy-at-requires
-    add-fstarts
-    add-fstarts-2
-    mul-fstarts
-    slice-write-fstarts
-    least-requires
-    mul-parents
-    slice-write-parents
-    cast-hang
-    add-hang
-    hang-requires
-    same-length
-    same-length-2
-    same-length-3
-    same-length-4
+    (λ c. omega arith)
+    (λ c. omega arith)
+    (λ c κs. omega arith)
+    (λ c. omega arith)
+    (λ c. omega arith)
+    (λ c. omega arith)
+    (λ c. omega arith)
+    (λ c κs. omega arith)
+    (λ c. omega arith)
+    (λ c. omega arith)
+    (λ c. omega arith)
+    (λ c. omega arith)
+    (λ c κs. omega arith)
+    (λ c. search needs)
+    (λ c. search needs)
+    (λ c. omega arith)
+    (λ c. omega arith)
     returns)

@@ -19,15 +19,6 @@ written c = c
 abbrev counted : tie.After-count-descendants → tie.After-count-descendants
 counted c = c
 
-add-m : tie.Need-add-m
-add-m c = search needs
-
-add-e : tie.Need-add-e
-add-e c = search needs
-
-slice-relend-prefix-write-steps : tie.Need-slice-relend-prefix-write-steps
-slice-relend-prefix-write-steps c = search needs
-
 slice-aggregate-write-steps : tie.Need-slice-aggregate-write-steps
 slice-aggregate-write-steps c = sym (length-take-le _ (now (entry (search) .args .work)) (omega (arith, entry (search) .pre .1 .1)))
 
@@ -35,41 +26,14 @@ write-steps-requires : tie.Need-write-steps-requires
 write-steps-requires c κs =
     steps-asked (now (entry (search) .args .work)) (entry (search) .pre .1 .0 .0) (entry (search) .pre .1 .0 .1) (entry (search) .pre .1 .1)
 
-mul-count-descendants : tie.Need-mul-count-descendants
-mul-count-descendants c = search needs
-
-sub-count-descendants : tie.Need-sub-count-descendants
-sub-count-descendants c = search needs
-
-part-count-descendants-start : tie.Need-part-count-descendants-start
-part-count-descendants-start c = search needs
-
-part-count-descendants-end : tie.Need-part-count-descendants-end
-part-count-descendants-end c = search needs
-
-count-descendants-requires : tie.Need-count-descendants-requires
-count-descendants-requires c κs = search needs
-
 slice-aggregate-first-stray : tie.Need-slice-aggregate-first-stray
 slice-aggregate-first-stray c =
     let pre = entry (search) .pre in
     let write-steps = written (search) .write-steps in
     let count-descendants = counted (search) .count-descendants in
     front-room _ _ (pre .0 .0) (pre .0 .1) (pre .1 .0 .0) (pre .1 .0 .1) (now (entry (search) .args .work)) (write-steps .last .1 .0)
-    (count-descendants .last .1 .0) (pre .1 .1) (write-steps .kept .1 .0) (count-descendants .kept .1 .0) (write-steps .ensures)
+    (count-descendants .last .1 .0) (pre .1 .1) (omega (arith, write-steps .kept)) (omega (arith, count-descendants .kept)) (write-steps .ensures)
     (count-descendants .ensures)
-
-mul-first-stray : tie.Need-mul-first-stray
-mul-first-stray c = search needs
-
-sub-first-stray : tie.Need-sub-first-stray
-sub-first-stray c = search needs
-
-part-first-stray-start : tie.Need-part-first-stray-start
-part-first-stray-start c = search needs
-
-part-first-stray-end : tie.Need-part-first-stray-end
-part-first-stray-end c = search needs
 
 first-stray-requires : tie.Need-first-stray-requires
 first-stray-requires c κs =
@@ -77,11 +41,8 @@ first-stray-requires c κs =
     let write-steps = written (search) .write-steps in
     let count-descendants = counted (search) .count-descendants in
     stray-asked _ _ (pre .0 .0) (pre .0 .1) (pre .1 .0 .0) (pre .1 .0 .1) (now (entry (search) .args .work)) (write-steps .last .1 .0)
-    (count-descendants .last .1 .0) (pre .1 .1) (write-steps .kept .1 .0) (count-descendants .kept .1 .0) (write-steps .ensures)
+    (count-descendants .last .1 .0) (pre .1 .1) (omega (arith, write-steps .kept)) (omega (arith, count-descendants .kept)) (write-steps .ensures)
     (count-descendants .ensures)
-
-same-length : tie.Need-same-length
-same-length c = search needs
 
 returns : tie.Need-returns
 returns c =
@@ -89,28 +50,28 @@ returns c =
     let write-steps = written (search) .write-steps in
     let count-descendants = counted (search) .count-descendants in
     stray-found _ _ (pre .0 .0) (pre .0 .1) (pre .1 .0 .0) (pre .1 .0 .1) (now (entry (search) .args .work)) (write-steps .last .1 .0)
-    (count-descendants .last .1 .0) (pre .1 .1) (write-steps .kept .1 .0) (count-descendants .kept .1 .0) (write-steps .ensures)
+    (count-descendants .last .1 .0) (pre .1 .1) (omega (arith, write-steps .kept)) (omega (arith, count-descendants .kept)) (write-steps .ensures)
     (count-descendants .ensures) (c .first-stray .ensures)
 
 pub first-scattered-spec : {M : Type 1} → statement M
 first-scattered-spec =
     tie.close
     (tie.spec
-    add-m
-    add-e
-    slice-relend-prefix-write-steps
+    (λ c. search needs)
+    (λ c. search needs)
+    (λ c. search needs)
     slice-aggregate-write-steps
     write-steps-requires
-    mul-count-descendants
-    sub-count-descendants
-    part-count-descendants-start
-    part-count-descendants-end
-    count-descendants-requires
+    (λ c. search needs)
+    (λ c. search needs)
+    (λ c. search needs)
+    (λ c. search needs)
+    (λ c κs. search needs)
     slice-aggregate-first-stray
-    mul-first-stray
-    sub-first-stray
-    part-first-stray-start
-    part-first-stray-end
+    (λ c. search needs)
+    (λ c. search needs)
+    (λ c. search needs)
+    (λ c. search needs)
     first-stray-requires
-    same-length
+    (λ c. search needs)
     returns)

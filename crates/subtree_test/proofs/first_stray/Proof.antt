@@ -25,18 +25,6 @@ at-loop c = c
 loop-holds : tie.Need-loop-holds Inv-loop μ-loop
 loop-holds c = (earliest-none _, search needs)
 
-stray-step-requires : tie.Need-stray-step-requires Inv-loop μ-loop
-stray-step-requires c κs = search needs
-
-earlier-requires : tie.Need-earlier-requires Inv-loop μ-loop
-earlier-requires c κs = search needs
-
-add-i : tie.Need-add-i Inv-loop μ-loop
-add-i c = search needs
-
-loop-less : tie.Need-loop-less Inv-loop μ-loop
-loop-less c = search needs
-
 loop-again : tie.Need-loop-again Inv-loop μ-loop
 loop-again c = (earliest-next _ _ (at-loop (search) .loop .inv .0) (c .before .stray-step .ensures) (c .earlier .ensures), search needs)
 
@@ -50,9 +38,9 @@ first-stray-spec =
     Inv-loop
     μ-loop
     loop-holds
-    stray-step-requires
-    earlier-requires
-    add-i
-    loop-less
+    (λ c κs. search needs)
+    (λ c κs. search needs)
+    (λ c. search needs)
+    (λ c. search needs)
     loop-again
     returns)

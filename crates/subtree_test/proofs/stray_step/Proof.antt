@@ -19,12 +19,6 @@ else1 c = c
 abbrev then2 : tie.Then2 → tie.Then2
 then2 c = c
 
-mul-p : tie.Need-mul-p
-mul-p c = search needs
-
-shared-slice-read-p : tie.Need-shared-slice-read-p
-shared-slice-read-p c = search needs
-
 cast-p : tie.Need-cast-p
 cast-p c = omega (arith, c .shared-slice-known .given (c .before .args .i))
 
@@ -36,24 +30,6 @@ mul-top c = let h = sums-fit _ _ _ _ (entry (search) .pre .0) (entry (search) .p
 
 shared-slice-read-top : tie.Need-shared-slice-read-top
 shared-slice-read-top c = sums-fit _ _ _ _ (entry (search) .pre .0) (entry (search) .pre .1) (c .before .if1 .left) .0
-
-add-own : tie.Need-add-own
-add-own c = search needs
-
-mul-own : tie.Need-mul-own
-mul-own c = search needs
-
-shared-slice-read-own : tie.Need-shared-slice-read-own
-shared-slice-read-own c = search needs
-
-add-if3 : tie.Need-add-if3
-add-if3 c = search needs
-
-mul-if3 : tie.Need-mul-if3
-mul-if3 c = search needs
-
-shared-slice-read-if3 : tie.Need-shared-slice-read-if3
-shared-slice-read-if3 c = search needs
 
 add-if3-2 : tie.Need-add-if3-2
 add-if3-2 c = let h = sums-fit _ _ _ _ (entry (search) .pre .0) (entry (search) .pre .1) (else1 (search) .if1 .left) in search needs
@@ -82,18 +58,18 @@ pub stray-step-spec : {M : Type 1} → statement M
 stray-step-spec =
     tie.close
     (tie.spec
-    mul-p
-    shared-slice-read-p
+    (λ c. search needs)
+    (λ c. search needs)
     cast-p
     returns
     mul-top
     shared-slice-read-top
-    add-own
-    mul-own
-    shared-slice-read-own
-    add-if3
-    mul-if3
-    shared-slice-read-if3
+    (λ c. search needs)
+    (λ c. search needs)
+    (λ c. search needs)
+    (λ c. search needs)
+    (λ c. search needs)
+    (λ c. search needs)
     add-if3-2
     mul-if3-2
     shared-slice-read-if3-2

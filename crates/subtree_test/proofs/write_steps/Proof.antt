@@ -24,15 +24,6 @@ at-loop c = c
 loop-holds : tie.Need-loop-holds Inv-loop μ-loop
 loop-holds c = writing-start _ _ (c .pre .1)
 
-add-steps : tie.Need-add-steps Inv-loop μ-loop
-add-steps c = search needs
-
-mul-steps : tie.Need-mul-steps Inv-loop μ-loop
-mul-steps c = search needs
-
-shared-slice-read-steps : tie.Need-shared-slice-read-steps Inv-loop μ-loop
-shared-slice-read-steps c = search needs
-
 cast-steps : tie.Need-cast-steps Inv-loop μ-loop
 cast-steps c = omega (arith, column-fits (entry (search) .pre .0) (at-loop (search) .loop .k) (search needs))
 
@@ -42,17 +33,8 @@ mul-steps-2 c = let h = column-fits (entry (search) .pre .0) (at-loop (search) .
 slice-write-steps : tie.Need-slice-write-steps Inv-loop μ-loop
 slice-write-steps c = let h = column-fits (entry (search) .pre .0) (at-loop (search) .loop .k) (search needs) in search needs
 
-add-k : tie.Need-add-k Inv-loop μ-loop
-add-k c = search needs
-
-loop-less : tie.Need-loop-less Inv-loop μ-loop
-loop-less c = search needs
-
 loop-again : tie.Need-loop-again Inv-loop μ-loop
 loop-again c = writing-turn (entry (search) .pre .0) (at-loop (search) .loop .inv) (search needs)
-
-same-length : tie.Need-same-length Inv-loop μ-loop
-same-length c = search needs
 
 returns : tie.Need-returns Inv-loop μ-loop
 returns c = writing-stop (c .before .loop .inv) (search needs)
@@ -64,14 +46,14 @@ write-steps-spec =
     Inv-loop
     μ-loop
     loop-holds
-    add-steps
-    mul-steps
-    shared-slice-read-steps
+    (λ c. search needs)
+    (λ c. search needs)
+    (λ c. search needs)
     cast-steps
     mul-steps-2
     slice-write-steps
-    add-k
-    loop-less
+    (λ c. search needs)
+    (λ c. search needs)
     loop-again
-    same-length
+    (λ c. search needs)
     returns)

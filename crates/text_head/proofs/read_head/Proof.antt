@@ -13,26 +13,17 @@ read c = c
 abbrev after-n : tie.After-n → tie.After-n
 after-n c = c
 
-read-word-requires : tie.Need-read-word-requires
-read-word-requires c κs = search needs
-
 enum-told : tie.Need-enum-told
 enum-told c = search needs
 
 returns : tie.Need-returns
 returns c = head-one (word-last (read (search) .read-word .ensures) (c .enum-told .given .1))
 
-enum-known-n : tie.Need-enum-known-n
-enum-known-n c = search needs
-
 read-limit-requires : tie.Need-read-limit-requires
 read-limit-requires c κs = word-more (read (search) .read-word .ensures) (c .before .n .given .1) .inside
 
 returns-2 : tie.Need-returns-2
 returns-2 c = head-further (word-more (read (search) .read-word .ensures) (after-n (search) .n .given .1)) _ (c .read-limit .ensures)
-
-enum-told-2 : tie.Need-enum-told-2
-enum-told-2 c = search needs
 
 returns-3 : tie.Need-returns-3
 returns-3 c = head-bad (word-bad (read (search) .read-word .ensures) (c .enum-told2 .given .1))
@@ -41,11 +32,11 @@ pub read-head-spec : {M : Type 1} → statement M
 read-head-spec =
     tie.close
     (tie.spec
-    read-word-requires
+    (λ c κs. search needs)
     enum-told
     returns
-    enum-known-n
+    (λ c. search needs)
     read-limit-requires
     returns-2
-    enum-told-2
+    (λ c. search needs)
     returns-3)

@@ -13,17 +13,8 @@ read c = c
 abbrev after-limit2 : tie.After-limit2 → tie.After-limit2
 after-limit2 c = c
 
-read-word-requires : tie.Need-read-word-requires
-read-word-requires c κs = search needs
-
-enum-known-limit : tie.Need-enum-known-limit
-enum-known-limit c = search needs
-
 returns : tie.Need-returns
 returns c = head-two (word-last (read (search) .read-word .ensures) (c .before .limit .given .1)) _
-
-enum-known-limit-2 : tie.Need-enum-known-limit-2
-enum-known-limit-2 c = search needs
 
 read-mark-requires : tie.Need-read-mark-requires
 read-mark-requires c κs = word-more (read (search) .read-word .ensures) (c .before .limit2 .given .1) .inside
@@ -41,10 +32,10 @@ pub read-limit-spec : {M : Type 1} → statement M
 read-limit-spec =
     tie.close
     (tie.spec
-    read-word-requires
-    enum-known-limit
+    (λ c κs. search needs)
+    (λ c. search needs)
     returns
-    enum-known-limit-2
+    (λ c. search needs)
     read-mark-requires
     returns-2
     enum-told

@@ -10,12 +10,6 @@ use Rattle.text_head.proofs.read_mark.Tie as tie
 abbrev read : tie.After-read-word → tie.After-read-word
 read c = c
 
-read-word-requires : tie.Need-read-word-requires
-read-word-requires c κs = search needs
-
-enum-known-mark : tie.Need-enum-known-mark
-enum-known-mark c = search needs
-
 returns : tie.Need-returns
 returns c = head-three (word-last (read (search) .read-word .ensures) (c .before .mark .given .1)) _ _
 
@@ -25,13 +19,10 @@ enum-told c = search needs
 returns-2 : tie.Need-returns-2
 returns-2 c = head-four (word-more (read (search) .read-word .ensures) (c .enum-told .given .1)) _ _
 
-enum-told-2 : tie.Need-enum-told-2
-enum-told-2 c = search needs
-
 returns-3 : tie.Need-returns-3
 returns-3 c = head-bad (word-bad (read (search) .read-word .ensures) (c .enum-told2 .given .1))
 
 pub read-mark-spec : {M : Type 1} → statement M
 read-mark-spec =
     tie.close
-    (tie.spec read-word-requires enum-known-mark returns enum-told returns-2 enum-told-2 returns-3)
+    (tie.spec (λ c κs. search needs) (λ c. search needs) returns enum-told returns-2 (λ c. search needs) returns-3)

@@ -26,17 +26,11 @@ after-read-rows c = c
 abbrev after-count : tie.After-count → tie.After-count
 after-count c = c
 
-read-word-requires : tie.Need-read-word-requires
-read-word-requires c κs = search needs
-
 enum-told : tie.Need-enum-told
 enum-told c = search needs
 
 returns : tie.Need-returns
 returns c = line-bad (word-bad (after-read-word (search) .read-word .ensures) (c .enum-told .given .1))
-
-enum-known-said : tie.Need-enum-known-said
-enum-known-said c = search needs
 
 returns-2 : tie.Need-returns-2
 returns-2 c = line-lacks (word-last (after-read-word (search) .read-word .ensures) (after-said (search) .said .given .1)) (c .if1 .taken)
@@ -44,38 +38,20 @@ returns-2 c = line-lacks (word-last (after-read-word (search) .read-word .ensure
 returns-3 : tie.Need-returns-3
 returns-3 c = line-alone (word-last (after-read-word (search) .read-word .ensures) (after-said (search) .said .given .1)) (c .if1 .left)
 
-enum-known-said-2 : tie.Need-enum-known-said-2
-enum-known-said-2 c = search needs
-
 read-rows-requires : tie.Need-read-rows-requires
 read-rows-requires c κs =
     let w = word-more (after-read-word (search) .read-word .ensures) (after-said2 (search) .said2 .given .1) in
     let o = w .on in let p = entry (search) .pre .1 in (w .inside, omega arith)
-
-enum-told-2 : tie.Need-enum-told-2
-enum-told-2 c = search needs
-
-same-length : tie.Need-same-length
-same-length c = search needs
 
 returns-4 : tie.Need-returns-4
 returns-4 c =
     line-no-rows (word-more (after-read-word (search) .read-word .ensures) (after-said2 (search) .said2 .given .1))
     (after-read-rows (search) .read-rows .ensures) (c .enum-told2 .given .1)
 
-enum-known-count : tie.Need-enum-known-count
-enum-known-count c = search needs
-
-same-length-2 : tie.Need-same-length-2
-same-length-2 c = search needs
-
 returns-5 : tie.Need-returns-5
 returns-5 c =
     line-differs (word-more (after-read-word (search) .read-word .ensures) (after-said2 (search) .said2 .given .1))
     (after-read-rows (search) .read-rows .ensures) (after-count (search) .count .given .1) (c .if2 .taken)
-
-same-length-3 : tie.Need-same-length-3
-same-length-3 c = search needs
 
 returns-6 : tie.Need-returns-6
 returns-6 c =
@@ -86,19 +62,19 @@ pub read-line-spec : {M : Type 1} → statement M
 read-line-spec =
     tie.close
     (tie.spec
-    read-word-requires
+    (λ c κs. search needs)
     enum-told
     returns
-    enum-known-said
+    (λ c. search needs)
     returns-2
     returns-3
-    enum-known-said-2
+    (λ c. search needs)
     read-rows-requires
-    enum-told-2
-    same-length
+    (λ c. search needs)
+    (λ c. search needs)
     returns-4
-    enum-known-count
-    same-length-2
+    (λ c. search needs)
+    (λ c. search needs)
     returns-5
-    same-length-3
+    (λ c. search needs)
     returns-6)

@@ -56,18 +56,6 @@ same-length c = rows-long (at-loop (search) .loop .inv)
 returns : tie.Need-returns Inv-loop μ-loop
 returns c = rows-bad (at-loop (search) .loop .inv) (word-bad (read (search) .read-word .ensures) (c .enum-told .given .1))
 
-enum-known-value : tie.Need-enum-known-value Inv-loop μ-loop
-enum-known-value c = search needs
-
-add-keep-row : tie.Need-add-keep-row Inv-loop μ-loop
-add-keep-row c = search needs
-
-keep-row-requires : tie.Need-keep-row-requires Inv-loop μ-loop
-keep-row-requires c κs = search needs
-
-add-t17 : tie.Need-add-t17 Inv-loop μ-loop
-add-t17 c = search needs
-
 same-length-2 : tie.Need-same-length-2 Inv-loop μ-loop
 same-length-2 c = after-keep-row (search) .keep-row .kept .0 ∙ rows-long (at-loop (search) .loop .inv)
 
@@ -75,18 +63,6 @@ returns-2 : tie.Need-returns-2 Inv-loop μ-loop
 returns-2 c =
     rows-last (at-loop (search) .loop .inv) (word-last (read (search) .read-word .ensures) (after-value (search) .value .given .1))
     (after-keep-row (search) .keep-row .ensures)
-
-enum-known-value-2 : tie.Need-enum-known-value-2 Inv-loop μ-loop
-enum-known-value-2 c = search needs
-
-add-keep-row-2 : tie.Need-add-keep-row-2 Inv-loop μ-loop
-add-keep-row-2 c = search needs
-
-keep-row-requires-2 : tie.Need-keep-row-requires-2 Inv-loop μ-loop
-keep-row-requires-2 c κs = search needs
-
-add-count : tie.Need-add-count Inv-loop μ-loop
-add-count c = search needs
 
 loop-less : tie.Need-loop-less Inv-loop μ-loop
 loop-less c =
@@ -115,16 +91,16 @@ read-rows-spec =
     enum-told
     same-length
     returns
-    enum-known-value
-    add-keep-row
-    keep-row-requires
-    add-t17
+    (λ c. search needs)
+    (λ c. search needs)
+    (λ c κs. search needs)
+    (λ c. search needs)
     same-length-2
     returns-2
-    enum-known-value-2
-    add-keep-row-2
-    keep-row-requires-2
-    add-count
+    (λ c. search needs)
+    (λ c. search needs)
+    (λ c κs. search needs)
+    (λ c. search needs)
     loop-less
     loop-again
     same-length-3

@@ -34,9 +34,6 @@ returns c = told-more (c .if1 .taken)
 returns-2 : tie.Need-returns-2
 returns-2 c = told-long (c .before .if1 .left) (c .if2 .taken)
 
-read-head-requires : tie.Need-read-head-requires
-read-head-requires c κs = search needs
-
 enum-told : tie.Need-enum-told
 enum-told c = search needs
 
@@ -44,9 +41,6 @@ returns-3 : tie.Need-returns-3
 returns-3 c =
     told-bad-head (else1 (search) .if1 .left) (else2 (search) .if2 .left) (told-no-head (after-read-head (search) .read-head .ensures)
     (c .enum-told .given .1))
-
-enum-known-head : tie.Need-enum-known-head
-enum-known-head c = search needs
 
 returns-4 : tie.Need-returns-4
 returns-4 c =
@@ -58,29 +52,11 @@ read-lines-requires c κs =
     let x = told-head (after-read-head (search) .read-head .ensures) (after-head (search) .head .given .1) in
     (x .ends, sym (ap (λ q. q .n) (x .is)), else3 (search) .if3 .left, entry (search) .pre)
 
-enum-known-number : tie.Need-enum-known-number
-enum-known-number c = search needs
-
-same-length : tie.Need-same-length
-same-length c = search needs
-
-same-length-2 : tie.Need-same-length-2
-same-length-2 c = search needs
-
 returns-5 : tie.Need-returns-5
 returns-5 c =
     told-bad-lines (else1 (search) .if1 .left) (else2 (search) .if2 .left) (told-head (after-read-head (search) .read-head .ensures)
     (after-head (search) .head .given .1)) (else3 (search) .if3 .left) (after-read-lines (search) .read-lines .ensures)
     (c .before .number .given .1)
-
-enum-known-count : tie.Need-enum-known-count
-enum-known-count c = search needs
-
-same-length-3 : tie.Need-same-length-3
-same-length-3 c = search needs
-
-same-length-4 : tie.Need-same-length-4
-same-length-4 c = search needs
 
 returns-6 : tie.Need-returns-6
 returns-6 c =
@@ -94,17 +70,17 @@ read-job-spec =
     (tie.spec
     returns
     returns-2
-    read-head-requires
+    (λ c κs. search needs)
     enum-told
     returns-3
-    enum-known-head
+    (λ c. search needs)
     returns-4
     read-lines-requires
-    enum-known-number
-    same-length
-    same-length-2
+    (λ c. search needs)
+    (λ c. search needs)
+    (λ c. search needs)
     returns-5
-    enum-known-count
-    same-length-3
-    same-length-4
+    (λ c. search needs)
+    (λ c. search needs)
+    (λ c. search needs)
     returns-6)

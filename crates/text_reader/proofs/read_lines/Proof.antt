@@ -1,4 +1,5 @@
--- The loop's invariant: the lines of the first j columns are read and without fault, and the rest of the text begins with the next. The measure is the
+-- The loop's invariant: the lines of the first j columns are read and without fault, and the rest of the text begins with the next. The measure is
+-- the
 -- columns left.
 -- Assumes nothing.
 use Prim.Native.Nat.{_-_}
@@ -35,9 +36,6 @@ read c = c
 abbrev after-count : tie.After-count Inv-loop μ-loop → tie.After-count Inv-loop μ-loop
 after-count c = c
 
-slice-write-starts : tie.Need-slice-write-starts Inv-loop μ-loop
-slice-write-starts c = search needs
-
 loop-holds : tie.Need-loop-holds Inv-loop μ-loop
 loop-holds c = lines-start _ _ (now (entry (search) .args .starts)) _ (entry (search) .pre .0)
 
@@ -47,63 +45,42 @@ read-line-requires c κs = (at-loop (search) .loop .inv .inside, at-loop (search
 enum-told : tie.Need-enum-told Inv-loop μ-loop
 enum-told c = search needs
 
-add-t16 : tie.Need-add-t16 Inv-loop μ-loop
-add-t16 c = search needs
-
 same-length : tie.Need-same-length Inv-loop μ-loop
 same-length c = starts-long (at-loop (search) .loop .inv) ∙ length-set (now (entry (search) .args .starts)) 0 0
 
 same-length-2 : tie.Need-same-length-2 Inv-loop μ-loop
-same-length-2 c = read (search) .read-line .kept .1 .1 .0 ∙ rows-long (at-loop (search) .loop .inv)
+same-length-2 c = omega (arith, read (search) .read-line .kept, rows-long (at-loop (search) .loop .inv))
 
 returns : tie.Need-returns Inv-loop μ-loop
 returns c =
     told-first (lines-bad (at-loop (search) .loop .inv) (entry (search) .pre .1) (in-loop (search) .loop-test .taken)
     (told-bad (read (search) .read-line .ensures) (c .enum-told .given .1)))
 
-enum-known-count : tie.Need-enum-known-count Inv-loop μ-loop
-enum-known-count c = search needs
-
 add-total : tie.Need-add-total Inv-loop μ-loop
 add-total c =
     let y = told-rows (read (search) .read-line .ensures) (c .before .count .given .1) in
     let p = y .paced in let i = y .ends .inside in let q = at-loop (search) .loop .inv .paced in search needs
 
-add-t18 : tie.Need-add-t18 Inv-loop μ-loop
-add-t18 c = search needs
-
 same-length-3 : tie.Need-same-length-3 Inv-loop μ-loop
 same-length-3 c = starts-long (at-loop (search) .loop .inv) ∙ length-set (now (entry (search) .args .starts)) 0 0
 
 same-length-4 : tie.Need-same-length-4 Inv-loop μ-loop
-same-length-4 c = read (search) .read-line .kept .1 .1 .0 ∙ rows-long (at-loop (search) .loop .inv)
+same-length-4 c = omega (arith, read (search) .read-line .kept, rows-long (at-loop (search) .loop .inv))
 
 returns-2 : tie.Need-returns-2 Inv-loop μ-loop
 returns-2 c =
     told-first (lines-over (at-loop (search) .loop .inv) (told-rows (read (search) .read-line .ensures) (after-count (search) .count .given .1))
     (entry (search) .pre .1) (in-loop (search) .loop-test .taken) (c .if1 .taken))
 
-add-j : tie.Need-add-j Inv-loop μ-loop
-add-j c = search needs
-
-mul-starts : tie.Need-mul-starts Inv-loop μ-loop
-mul-starts c = search needs
-
 slice-write-starts-2 : tie.Need-slice-write-starts-2 Inv-loop μ-loop
 slice-write-starts-2 c =
     let e = starts-long (at-loop (search) .loop .inv) ∙ length-set (now (entry (search) .args .starts)) 0 0 in
     let t = in-loop (search) .loop-test .taken in let p = entry (search) .pre .2 in let q = entry (search) .pre .3 in omega arith
 
-loop-less : tie.Need-loop-less Inv-loop μ-loop
-loop-less c = search needs
-
 loop-again : tie.Need-loop-again Inv-loop μ-loop
 loop-again c =
     lines-turn (at-loop (search) .loop .inv) (told-rows (read (search) .read-line .ensures) (after-count (search) .count .given .1))
     (in-loop (search) .loop-test .taken) (c .if1 .left) refl
-
-add-t25 : tie.Need-add-t25 Inv-loop μ-loop
-add-t25 c = search needs
 
 same-length-5 : tie.Need-same-length-5 Inv-loop μ-loop
 same-length-5 c = starts-long (at-loop (search) .loop .inv) ∙ length-set (now (entry (search) .args .starts)) 0 0
@@ -129,26 +106,26 @@ read-lines-spec =
     (tie.spec
     Inv-loop
     μ-loop
-    slice-write-starts
+    (λ c. search needs)
     loop-holds
     read-line-requires
     enum-told
-    add-t16
+    (λ c. search needs)
     same-length
     same-length-2
     returns
-    enum-known-count
+    (λ c. search needs)
     add-total
-    add-t18
+    (λ c. search needs)
     same-length-3
     same-length-4
     returns-2
-    add-j
-    mul-starts
+    (λ c. search needs)
+    (λ c. search needs)
     slice-write-starts-2
-    loop-less
+    (λ c. search needs)
     loop-again
-    add-t25
+    (λ c. search needs)
     same-length-5
     same-length-6
     returns-3

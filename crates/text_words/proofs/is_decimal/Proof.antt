@@ -20,11 +20,8 @@ returns c = sym (none-decimal _ _ (c .before .pre) (c .if1 .taken))
 returns-2 : tie.Need-returns-2
 returns-2 c = let e = c .if2 .taken in sym (digits-decimal _ _ (entry (search) .pre) (omega arith) (λ l. absurd (omega arith)))
 
-shared-slice-read-result : tie.Need-shared-slice-read-result
-shared-slice-read-result c = search needs
-
 returns-3 : tie.Need-returns-3
 returns-3 c = let e = else1 (search) .if1 .left in let f = c .before .if2 .left in lead-decimal _ _ (entry (search) .pre) (omega arith)
 
 pub is-decimal-spec : {M : Type 1} → statement M
-is-decimal-spec = tie.close (tie.spec returns returns-2 shared-slice-read-result returns-3)
+is-decimal-spec = tie.close (tie.spec returns returns-2 (λ c. search needs) returns-3)

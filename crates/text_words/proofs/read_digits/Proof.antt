@@ -31,26 +31,8 @@ in-loop c = c
 abbrev after-wide8 : tie.After-wide8 Inv-loop μ-loop → tie.After-wide8 Inv-loop μ-loop
 after-wide8 c = c
 
-sub-lesser : tie.Need-sub-lesser Inv-loop μ-loop
-sub-lesser c = search needs
-
-lesser-requires : tie.Need-lesser-requires Inv-loop μ-loop
-lesser-requires c κs = search needs
-
 loop-holds : tie.Need-loop-holds Inv-loop μ-loop
 loop-holds c = digits-start _ _ (entry (search) .pre)
-
-add-wide8 : tie.Need-add-wide8 Inv-loop μ-loop
-add-wide8 c = search needs
-
-shared-slice-read-wide8 : tie.Need-shared-slice-read-wide8 Inv-loop μ-loop
-shared-slice-read-wide8 c = search needs
-
-wide8-requires : tie.Need-wide8-requires Inv-loop μ-loop
-wide8-requires c κs = search needs
-
-is-digit-requires : tie.Need-is-digit-requires Inv-loop μ-loop
-is-digit-requires c κs = search needs
 
 returns : tie.Need-returns Inv-loop μ-loop
 returns c = (
@@ -71,12 +53,6 @@ add-value c =
     let few = after-lesser (search) .lesser .ensures in
     let fit = digits-fit _ _ (at-loop (search) .loop .inv) (omega (arith, in-loop (search) .loop-test .taken)) in
     let high = after-wide8 (search) .wide8 .ensures .1 in omega arith
-
-add-i : tie.Need-add-i Inv-loop μ-loop
-add-i c = search needs
-
-loop-less : tie.Need-loop-less Inv-loop μ-loop
-loop-less c = search needs
 
 loop-again : tie.Need-loop-again Inv-loop μ-loop
 loop-again c =
@@ -100,18 +76,18 @@ read-digits-spec =
     (tie.spec
     Inv-loop
     μ-loop
-    sub-lesser
-    lesser-requires
+    (λ c. search needs)
+    (λ c κs. search needs)
     loop-holds
-    add-wide8
-    shared-slice-read-wide8
-    wide8-requires
-    is-digit-requires
+    (λ c. search needs)
+    (λ c. search needs)
+    (λ c κs. search needs)
+    (λ c κs. search needs)
     returns
     mul-value
     sub-value
     add-value
-    add-i
-    loop-less
+    (λ c. search needs)
+    (λ c. search needs)
     loop-again
     returns-2)

@@ -24,39 +24,18 @@ else2 c = c
 abbrev else3 : tie.Else3 → tie.Else3
 else3 c = c
 
-read-digits-requires : tie.Need-read-digits-requires
-read-digits-requires c κs = search needs
-
-add-end : tie.Need-add-end
-add-end c = search needs
-
 returns : tie.Need-returns
 returns c = bad refl (none-ended _ _ (read (search) .read-digits .ensures .0) (read (search) .read-digits .ensures .1) (c .if1 .taken))
-
-is-decimal-requires : tie.Need-is-decimal-requires
-is-decimal-requires c κs = search needs
 
 returns-2 : tie.Need-returns-2
 returns-2 c =
     bad refl (none-bad _ _ (read (search) .read-digits .ensures .0) (read (search) .read-digits .ensures .1)
     (sym (c .before .is-decimal .ensures) ∙ not-true _ (c .if2 .taken)))
 
-shared-slice-read-if3 : tie.Need-shared-slice-read-if3
-shared-slice-read-if3 c = search needs
-
-add-t11 : tie.Need-add-t11
-add-t11 c = search needs
-
 returns-3 : tie.Need-returns-3
 returns-3 c =
     more _ _ refl (number-here _ _ (read (search) .read-digits .ensures .0) (sym (after-is-decimal (search) .is-decimal .ensures) ∙ not-false _
     (else2 (search) .if2 .left)) (else1 (search) .if1 .left) (c .if3 .taken))
-
-shared-slice-read-if4 : tie.Need-shared-slice-read-if4
-shared-slice-read-if4 c = search needs
-
-add-t13 : tie.Need-add-t13
-add-t13 c = search needs
 
 returns-4 : tie.Need-returns-4
 returns-4 c =
@@ -72,15 +51,15 @@ pub read-word-spec : {M : Type 1} → statement M
 read-word-spec =
     tie.close
     (tie.spec
-    read-digits-requires
-    add-end
+    (λ c κs. search needs)
+    (λ c. search needs)
     returns
-    is-decimal-requires
+    (λ c κs. search needs)
     returns-2
-    shared-slice-read-if3
-    add-t11
+    (λ c. search needs)
+    (λ c. search needs)
     returns-3
-    shared-slice-read-if4
-    add-t13
+    (λ c. search needs)
+    (λ c. search needs)
     returns-4
     returns-5)

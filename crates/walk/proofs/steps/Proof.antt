@@ -12,17 +12,8 @@ after-siblings c = c
 abbrev after-column : tie.After-column → tie.After-column
 after-column c = c
 
-siblings-requires : tie.Need-siblings-requires
-siblings-requires c κs = search needs
-
-column-requires : tie.Need-column-requires
-column-requires c κs = search needs
-
-same-length : tie.Need-same-length
-same-length c = search needs
-
 returns : tie.Need-returns
 returns c = after-column (search) .column .ensures ∙ after-siblings (search) .siblings .ensures .1 .1
 
 pub steps-spec : {M : Type 1} → statement M
-steps-spec = tie.close (tie.spec siblings-requires column-requires same-length returns)
+steps-spec = tie.close (tie.spec (λ c κs. search needs) (λ c κs. search needs) (λ c. search needs) returns)

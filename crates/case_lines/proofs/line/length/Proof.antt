@@ -12,37 +12,16 @@ Inv-loop head number₀ i₀ number i = Unit {0}
 abbrev μ-loop : tie.MeasureT-loop
 μ-loop head number₀ i₀ number i = 5 - i
 
-loop-holds : tie.Need-loop-holds Inv-loop μ-loop
-loop-holds c = tt
-
-element-copy-out-followed : tie.Need-element-copy-out-followed Inv-loop μ-loop
-element-copy-out-followed c = search needs
-
-followed-requires : tie.Need-followed-requires Inv-loop μ-loop
-followed-requires c κs = tt
-
-add-i : tie.Need-add-i Inv-loop μ-loop
-add-i c = omega arith
-
-loop-less : tie.Need-loop-less Inv-loop μ-loop
-loop-less c = omega arith
-
-loop-again : tie.Need-loop-again Inv-loop μ-loop
-loop-again c = tt
-
-returns : tie.Need-returns Inv-loop μ-loop
-returns c = search needs
-
 pub length-spec : {M : Type 1} → statement M
 length-spec =
     tie.close
     (tie.spec
     Inv-loop
     μ-loop
-    loop-holds
-    element-copy-out-followed
-    followed-requires
-    add-i
-    loop-less
-    loop-again
-    returns)
+    (λ c. tt)
+    (λ c. search needs)
+    (λ c κs. tt)
+    (λ c. omega arith)
+    (λ c. omega arith)
+    (λ c. tt)
+    (λ c. search needs))

@@ -12,61 +12,22 @@ Inv-loop found numbers slice wrong₀ first i₀ i-end wrong i = Unit {0}
 abbrev μ-loop : tie.MeasureT-loop
 μ-loop found numbers slice wrong₀ first i₀ i-end wrong i = i-end - i
 
-result-requires : tie.Need-result-requires Inv-loop μ-loop
-result-requires c κs = tt
-
-first-requires : tie.Need-first-requires Inv-loop μ-loop
-first-requires c κs = tt
-
-lent-requires : tie.Need-lent-requires Inv-loop μ-loop
-lent-requires c κs = tt
-
-add-requires : tie.Need-add-requires Inv-loop μ-loop
-add-requires c κs = tt
-
-loop-holds : tie.Need-loop-holds Inv-loop μ-loop
-loop-holds c = tt
-
-mul-if1 : tie.Need-mul-if1 Inv-loop μ-loop
-mul-if1 c = search needs
-
-element-copy-out-if1 : tie.Need-element-copy-out-if1 Inv-loop μ-loop
-element-copy-out-if1 c = search needs
-
-after-requires : tie.Need-after-requires Inv-loop μ-loop
-after-requires c κs = tt
-
-plus-requires : tie.Need-plus-requires Inv-loop μ-loop
-plus-requires c κs = tt
-
-add-i : tie.Need-add-i Inv-loop μ-loop
-add-i c = omega arith
-
-loop-less : tie.Need-loop-less Inv-loop μ-loop
-loop-less c = omega arith
-
-loop-again : tie.Need-loop-again Inv-loop μ-loop
-loop-again c = tt
-
-returns : tie.Need-returns Inv-loop μ-loop
-returns c = tt
-
 pub wrong64-spec : {M : Type 1} → statement M
 wrong64-spec =
     tie.close
     (tie.spec
     Inv-loop
     μ-loop
-    result-requires
-    first-requires
-    lent-requires
-    add-requires
-    loop-holds
-    mul-if1
-    element-copy-out-if1
-    after-requires
-    plus-requires
-    add-i
-    loop-less
-    loop-again
-    returns)
+    (λ c κs. tt)
+    (λ c κs. tt)
+    (λ c κs. tt)
+    (λ c κs. tt)
+    (λ c. tt)
+    (λ c. search needs)
+    (λ c. search needs)
+    (λ c κs. tt)
+    (λ c κs. tt)
+    (λ c. omega arith)
+    (λ c. omega arith)
+    (λ c. tt)
+    (λ c. tt))

@@ -12,53 +12,20 @@ Inv-loop case₀ list n count i₀ case i = Unit {0}
 abbrev μ-loop : tie.MeasureT-loop
 μ-loop case₀ list n count i₀ case i = count - i
 
-add-requires : tie.Need-add-requires Inv-loop μ-loop
-add-requires c κs = tt
-
-loop-holds : tie.Need-loop-holds Inv-loop μ-loop
-loop-holds c = tt
-
-mul-index64 : tie.Need-mul-index64 Inv-loop μ-loop
-mul-index64 c = search needs
-
-element-copy-out-index64 : tie.Need-element-copy-out-index64 Inv-loop μ-loop
-element-copy-out-index64 c = search needs
-
-index64-requires : tie.Need-index64-requires Inv-loop μ-loop
-index64-requires c κs = tt
-
-set-requires : tie.Need-set-requires Inv-loop μ-loop
-set-requires c κs = tt
-
-add-i : tie.Need-add-i Inv-loop μ-loop
-add-i c = omega arith
-
-loop-less : tie.Need-loop-less Inv-loop μ-loop
-loop-less c = omega arith
-
-loop-again : tie.Need-loop-again Inv-loop μ-loop
-loop-again c = tt
-
-set-length-requires : tie.Need-set-length-requires Inv-loop μ-loop
-set-length-requires c κs = tt
-
-returns : tie.Need-returns Inv-loop μ-loop
-returns c = tt
-
 pub write-starts-spec : {M : Type 1} → statement M
 write-starts-spec =
     tie.close
     (tie.spec
     Inv-loop
     μ-loop
-    add-requires
-    loop-holds
-    mul-index64
-    element-copy-out-index64
-    index64-requires
-    set-requires
-    add-i
-    loop-less
-    loop-again
-    set-length-requires
-    returns)
+    (λ c κs. tt)
+    (λ c. tt)
+    (λ c. search needs)
+    (λ c. search needs)
+    (λ c κs. tt)
+    (λ c κs. tt)
+    (λ c. omega arith)
+    (λ c. omega arith)
+    (λ c. tt)
+    (λ c κs. tt)
+    (λ c. tt))

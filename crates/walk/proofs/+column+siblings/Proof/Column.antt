@@ -1,4 +1,5 @@
--- The task of a column: what is there, with the block that is left stored on top, is the whole. A call for siblings has no more steps than the column.
+-- The task of a column: what is there, with the block that is left stored on top, is the whole. A call for siblings has no more steps than the
+-- column.
 -- Assumes nothing.
 use Prim.Native.Nat.{ℕ}
 use native.Mathlib.Omega.{arith}
@@ -37,34 +38,53 @@ module _ (t : ℕ) where
   on-mul-order c = search needs
 
   on-slice-write-order : on.Need-slice-write-order on-calls (columnAt t) column.Post on-Inv on-μ
-  on-slice-write-order c = let s = down-size (c .before .before .before .before .loop .inv) (c .before .before .if1 .taken) in let l = down-last (c .before .before .before .before .loop .inv) (c .before .before .if1 .taken) in omega arith
+  on-slice-write-order c =
+      let s = down-size (c .before .before .before .before .loop .inv) (c .before .before .if1 .taken) in
+      let l = down-last (c .before .before .before .before .loop .inv) (c .before .before .if1 .taken) in omega arith
 
   on-same-length : on.Need-same-length on-calls (columnAt t) column.Post on-Inv on-μ
   on-same-length c = search needs
 
   on-returns : on.Need-returns on-calls (columnAt t) column.Post on-Inv on-μ
-  on-returns c = down-leaf (c .before .before .before .before .before .before .loop .inv) (c .before .before .before .before .if1 .taken) (c .if2 .taken)
+  on-returns c =
+      down-leaf (c .before .before .before .before .before .before .loop .inv) (c .before .before .before .before .if1 .taken) (c .if2 .taken)
 
   on-mul-child-block : on.Need-mul-child-block on-calls (columnAt t) column.Post on-Inv on-μ
   on-mul-child-block c = search needs
 
   on-shared-slice-read-child-block : on.Need-shared-slice-read-child-block on-calls (columnAt t) column.Post on-Inv on-μ
-  on-shared-slice-read-child-block c = let a = c .before .before .before .before .before .before .before .loop .inv .asks in omega (arith, a .laid .long, a .known)
+  on-shared-slice-read-child-block c =
+      let a = c .before .before .before .before .before .before .before .loop .inv .asks in omega (arith, a .laid .long, a .known)
 
   on-child-block-requires : on.Need-child-block-requires on-calls (columnAt t) column.Post on-Inv on-μ
-  on-child-block-requires c κs = let h = first-child (c .before .before .before .before .before .before .before .loop .inv) (c .before .before .before .before .before .if1 .taken) (c .before .if2 .left) in let f = c .before .before .before .before .before .before .before .before .before .before .before .before .fits in (h .0, h .1, omega arith)
+  on-child-block-requires c κs =
+      let h = first-child (c .before .before .before .before .before .before .before .loop .inv)
+      (c .before .before .before .before .before .if1 .taken) (c .before .if2 .left) in
+      let f = c .before .before .before .before .before .before .before .before .before .before .before .before .fits in (h .0, h .1, omega arith)
 
   on-sub-if3 : on.Need-sub-if3 on-calls (columnAt t) column.Post on-Inv on-μ
-  on-sub-if3 c = let s = down-size (c .before .before .before .before .before .before .before .before .before .loop .inv) (c .before .before .before .before .before .before .before .if1 .taken) in omega arith
+  on-sub-if3 c =
+      let s = down-size (c .before .before .before .before .before .before .before .before .before .loop .inv)
+      (c .before .before .before .before .before .before .before .if1 .taken) in
+      omega arith
 
   on-loop-less : on.Need-loop-less on-calls (columnAt t) column.Post on-Inv on-μ
-  on-loop-less c = only-less (c .before .before .before .before .before .before .before .before .before .before .before .loop .inv) (c .before .before .before .before .before .before .before .before .before .if1 .taken) (c .before .before .before .before .before .if2 .left) (c .before .before .before .child-block .ensures) (c .if3 .taken)
+  on-loop-less c =
+      only-less (c .before .before .before .before .before .before .before .before .before .before .before .loop .inv)
+      (c .before .before .before .before .before .before .before .before .before .if1 .taken)
+      (c .before .before .before .before .before .if2 .left) (c .before .before .before .child-block .ensures) (c .if3 .taken)
 
   on-loop-again : on.Need-loop-again on-calls (columnAt t) column.Post on-Inv on-μ
-  on-loop-again c = only-down (c .before .before .before .before .before .before .before .before .before .before .before .loop .inv) (c .before .before .before .before .before .before .before .before .before .if1 .taken) (c .before .before .before .before .before .if2 .left) (c .before .before .before .child-block .ensures) (c .if3 .taken)
+  on-loop-again c =
+      only-down (c .before .before .before .before .before .before .before .before .before .before .before .loop .inv)
+      (c .before .before .before .before .before .before .before .before .before .if1 .taken)
+      (c .before .before .before .before .before .if2 .left) (c .before .before .before .child-block .ensures) (c .if3 .taken)
 
   on-sub-siblings : on.Need-sub-siblings on-calls (columnAt t) column.Post on-Inv on-μ
-  on-sub-siblings c = let s = down-size (c .before .before .before .before .before .before .before .before .before .before .before .before .loop .inv) (c .before .before .before .before .before .before .before .before .before .before .if1 .taken) in omega arith
+  on-sub-siblings c =
+      let s = down-size (c .before .before .before .before .before .before .before .before .before .before .before .before .loop .inv)
+      (c .before .before .before .before .before .before .before .before .before .before .if1 .taken) in
+      omega arith
 
   on-siblings-requires : on.Need-siblings-requires on-calls (columnAt t) column.Post on-Inv on-μ
   on-siblings-requires c κs =
@@ -72,10 +92,14 @@ module _ (t : ℕ) where
       (omega (arith, c .before .before .before .before .before .before .before .before .before .before .before .before .before .before .before .before .before .before .pre .0, down-levels d), down-asks d (c .before .before .before .before .before .before .before .before .before .before .before .if1 .taken))
 
   on-loop-less-2 : on.Need-loop-less-2 on-calls (columnAt t) column.Post on-Inv on-μ
-  on-loop-less-2 c = let h = c .before .before .before .before .before .before .before .before .before .before .before .before .before .before .if1 .taken in c .before .before .siblings .ensures .1 .0 .1 (omega arith)
+  on-loop-less-2 c =
+      let h = c .before .before .before .before .before .before .before .before .before .before .before .before .before .before .if1 .taken in
+      c .before .before .siblings .ensures .1 .0 .1 (omega arith)
 
   on-loop-again-2 : on.Need-loop-again-2 on-calls (columnAt t) column.Post on-Inv on-μ
-  on-loop-again-2 c = let r = c .before .before .siblings in down-turn (c .before .before .before .before .before .before .before .before .before .before .before .before .before .before .before .before .loop .inv) (c .before .before .before .before .before .before .before .before .before .before .before .before .before .before .if1 .taken) (r .ensures .0) (r .ensures .1 .0 .0) (r .ensures .1 .1) (r .kept .1 .1 .1 .1 .1 .0)
+  on-loop-again-2 c =
+      let r = c .before .before .siblings in
+      down-turn (c .before .before .before .before .before .before .before .before .before .before .before .before .before .before .before .before .loop .inv) (c .before .before .before .before .before .before .before .before .before .before .before .before .before .before .if1 .taken) (r .ensures .0) (r .ensures .1 .0 .0) (r .ensures .1 .1) (omega (arith, r .kept))
 
   on-same-length-2 : on.Need-same-length-2 on-calls (columnAt t) column.Post on-Inv on-μ
   on-same-length-2 c = search needs
@@ -84,4 +108,7 @@ module _ (t : ℕ) where
   on-returns-2 c = down-stop (c .before .before .loop .inv) (c .if1 .left)
 
   pub on-closed : {M : Type 1} → on.Closed on-calls (columnAt t) column.Post M
-  on-closed = on.spec on-calls (columnAt t) column.Post on-Inv on-μ on-loop-holds on-cast-order on-add-order on-sub-order on-mul-order on-slice-write-order on-same-length on-returns on-mul-child-block on-shared-slice-read-child-block on-child-block-requires on-sub-if3 on-loop-less on-loop-again on-sub-siblings on-siblings-requires on-loop-less-2 on-loop-again-2 on-same-length-2 on-returns-2
+  on-closed =
+      on.spec on-calls (columnAt t) column.Post on-Inv on-μ on-loop-holds on-cast-order on-add-order on-sub-order on-mul-order on-slice-write-order
+      on-same-length on-returns on-mul-child-block on-shared-slice-read-child-block on-child-block-requires on-sub-if3 on-loop-less on-loop-again
+      on-sub-siblings on-siblings-requires on-loop-less-2 on-loop-again-2 on-same-length-2 on-returns-2
