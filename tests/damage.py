@@ -1,9 +1,9 @@
 #!/usr/bin/env python3
 """Plans, sound and damaged, each with the answer that a plain reading of the rules gives it.
 
-    python3 tests/damage.py > crates/damage/stdin
+    python3 tests/damage.py > crates/trial_check/stdin
 
-The program `damage` reads them and holds the proved check against every one. The first half of this file is that reading: it goes through
+The program `trial_check` reads them and holds the proved check against every one. The first half of this file is that reading: it goes through
 the refusals in the order in which they are tested, fills by dense elimination, and shares nothing with the product, neither code nor
 definitions. The second half draws jobs and plans from a seed and damages them. A draw depends on the seed alone, so the file comes out the
 same everywhere. How many cases there are of each number goes to standard error.

@@ -1,9 +1,9 @@
 #!/usr/bin/env python3
 """Job texts, each with what a plain reading of the rules has the listing program print for it.
 
-    python3 tests/texts.py > crates/text_trial/stdin
+    python3 tests/texts.py > crates/trial_text/stdin
 
-The program `text_trial` reads them and holds the proved listing against every one. The first half of this file is that reading: it takes a
+The program `trial_text` reads them and holds the proved listing against every one. The first half of this file is that reading: it takes a
 text apart line by line and word by word, fills by dense elimination, sorts siblings by the mark's key and sums up room on a stack. It
 shares neither code nor definitions with the product. It is no second opinion on tests/damage.py, which stood beside it when it was written;
 the draws are taken from there. The second half makes the texts: each refusal that a text can meet, each size met exactly and passed by

@@ -1,4 +1,5 @@
-// What many crates need of machine numbers: a number widened or narrowed, the lesser and the greater of two; and an answer made of its three numbers.
+// What many crates need of machine numbers: a number widened or narrowed, the lesser and the greater of two; and an answer made of its
+// three numbers.
 ghost use mathlib.Core.Path.{_≡_};
 ghost use Prim.Native.Nat.{_<_, _^_, min, max};
 ghost use Rattle.papers.specs.Refusals.{answer};

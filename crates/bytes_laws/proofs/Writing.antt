@@ -1,6 +1,5 @@
 -- Numbers written one after the other into a slice: what is left to write, from the place reached, is on top of what was written the whole. So one
--- number
--- more is one rewriting, and where nothing is left the whole is written.
+-- number more is one rewriting, and where nothing is left the whole is written.
 -- Assumes nothing.
 use Prim.Native.Nat.{ℕ, _+_, _*_, _≤_}
 use mathlib.Core.Path.{_≡_, refl, sym, ap, _∙_}

@@ -1,5 +1,5 @@
-// The entry points for C: a slice is a pointer and a length, the answer's number is the result, its place and count are stored. Each calls its
-// entry point and says what that says.
+// The entry points for C: a slice is a pointer and a length, the answer's number is the result, its place and count are stored. Each
+// calls its entry point and says what that says.
 ghost use mathlib.Core.Path.{_≡_};
 ghost use mathlib.Core.List.{List};
 ghost use Prim.Native.Nat.{ℕ};
@@ -22,7 +22,11 @@ pub extern "C" fn ls_write_key(
     place: &mut u64,
     count: &mut u64,
 ) -> u64
-    ensures { λ r. ⌜ _≡_ {A = Outcome (List ℕ)} (record { answer = answer r (now (place .exit)) (now (count .exit)); lent = now (bytes .exit) }) (keyWritten (record { n = n; starts = now (starts .entry); rows = now (rows .entry); mark = mark; limit = limit }) (now (bytes .entry))) ⌝ }
+    ensures { λ r. ⌜
+        _≡_ {A = Outcome (List ℕ)} (record { answer = answer r (now (place .exit)) (now (count .exit)); lent = now (bytes .exit) })
+        (keyWritten (record { n = n; starts = now (starts .entry); rows = now (rows .entry); mark = mark; limit = limit })
+        (now (bytes .entry)))
+        ⌝ }
 {
     let answered = key::write_key(JobHead { n, mark, limit }, starts, rows, bytes);
     *place = answered.place;
@@ -47,7 +51,17 @@ pub extern "C" fn ls_analyse(
     place: &mut u64,
     count: &mut u64,
 ) -> u64
-    ensures { λ r. ⌜ _≡_ {A = Outcome Lent} (record { answer = answer r (now (place .exit)) (now (count .exit)); lent = six (now (parents .exit)) (now (order .exit)) (now (pops .exit)) (now (fstarts .exit)) (now (frows .exit)) (now (work .exit)) }) (analysed (record { n = n; starts = now (starts .entry); rows = now (rows .entry); mark = mark; limit = limit }) (six (now (parents .entry)) (now (order .entry)) (now (pops .entry)) (now (fstarts .entry)) (now (frows .entry)) (now (work .entry)))) ⌝ }
+    ensures { λ r. ⌜
+        _≡_ {A = Outcome Lent}
+        (record {
+          answer = answer r (now (place .exit)) (now (count .exit));
+          lent = six (now (parents .exit)) (now (order .exit))
+              (now (pops .exit)) (now (fstarts .exit)) (now (frows .exit)) (now (work .exit));
+        })
+        (analysed (record { n = n; starts = now (starts .entry); rows = now (rows .entry); mark = mark; limit = limit })
+        (six (now (parents .entry)) (now (order .entry)) (now (pops .entry)) (now (fstarts .entry)) (now (frows .entry))
+        (now (work .entry))))
+        ⌝ }
 {
     let answered = analysis::analyse(
         JobHead { n, mark, limit },
@@ -83,7 +97,23 @@ pub extern "C" fn ls_write_plan(
     place: &mut u64,
     count: &mut u64,
 ) -> u64
-    ensures { λ r. ⌜ _≡_ {A = Outcome PlanLent} (record { answer = answer r (now (place .exit)) (now (count .exit)); lent = record { analysis = six (now (parents .exit)) (now (order .exit)) (now (pops .exit)) (now (fstarts .exit)) (now (frows .exit)) (now (work .exit)); bytes = now (bytes .exit) } }) (planWritten (record { n = n; starts = now (starts .entry); rows = now (rows .entry); mark = mark; limit = limit }) (record { analysis = six (now (parents .entry)) (now (order .entry)) (now (pops .entry)) (now (fstarts .entry)) (now (frows .entry)) (now (work .entry)); bytes = now (bytes .entry) })) ⌝ }
+    ensures { λ r. ⌜
+        _≡_ {A = Outcome PlanLent}
+        (record {
+          answer = answer r (now (place .exit)) (now (count .exit));
+          lent = record {
+            analysis = six (now (parents .exit)) (now (order .exit)) (now (pops .exit)) (now (fstarts .exit)) (now (frows .exit))
+                (now (work .exit));
+            bytes = now (bytes .exit);
+          };
+        })
+        (planWritten (record { n = n; starts = now (starts .entry); rows = now (rows .entry); mark = mark; limit = limit })
+        (record {
+          analysis = six (now (parents .entry)) (now (order .entry)) (now (pops .entry)) (now (fstarts .entry))
+              (now (frows .entry)) (now (work .entry));
+          bytes = now (bytes .entry);
+        }))
+        ⌝ }
 {
     let answered = plan_bytes::write_plan(
         JobHead { n, mark, limit },
@@ -120,7 +150,17 @@ pub extern "C" fn ls_check_plan(
     place: &mut u64,
     count: &mut u64,
 ) -> u64
-    ensures { λ r. ⌜ _≡_ {A = Outcome Lent} (record { answer = answer r (now (place .exit)) (now (count .exit)); lent = six (now (parents .exit)) (now (order .exit)) (now (pops .exit)) (now (fstarts .exit)) (now (frows .exit)) (now (work .exit)) }) (checked (record { n = n; starts = now (starts .entry); rows = now (rows .entry); mark = mark; limit = limit }) (now (plan .entry)) (six (now (parents .entry)) (now (order .entry)) (now (pops .entry)) (now (fstarts .entry)) (now (frows .entry)) (now (work .entry)))) ⌝ }
+    ensures { λ r. ⌜
+        _≡_ {A = Outcome Lent}
+        (record {
+          answer = answer r (now (place .exit)) (now (count .exit));
+          lent = six (now (parents .exit)) (now (order .exit))
+              (now (pops .exit)) (now (fstarts .exit)) (now (frows .exit)) (now (work .exit));
+        })
+        (checked (record { n = n; starts = now (starts .entry); rows = now (rows .entry); mark = mark; limit = limit })
+        (now (plan .entry)) (six (now (parents .entry)) (now (order .entry)) (now (pops .entry)) (now (fstarts .entry))
+        (now (frows .entry)) (now (work .entry))))
+        ⌝ }
 {
     let answered = checker::check_plan(
         JobHead { n, mark, limit },
@@ -152,7 +192,19 @@ pub extern "C" fn ls_run(
     place: &mut u64,
     count: &mut u64,
 ) -> u64
-    ensures { λ r. ⌜ _≡_ {A = Outcome (List ℕ)} (record { answer = answer r (now (place .exit)) (now (count .exit)); lent = now (stack .exit) }) (ran (record { n = n; starts = now (fstarts .entry); rows = now (frows .entry); columns = now (columns .entry); pops = now (pops .entry); room = room; stack = now (stack .entry) })) ⌝ }
+    ensures { λ r. ⌜
+        _≡_ {A = Outcome (List ℕ)} (record { answer = answer r (now (place .exit)) (now (count .exit)); lent = now (stack .exit) })
+        (ran (record {
+          n = n;
+          starts = now (fstarts .entry);
+          rows = now (frows .entry);
+          columns = now (columns .entry);
+          pops = now
+              (pops .entry);
+          room = room;
+          stack = now (stack .entry);
+        }))
+        ⌝ }
 {
     let answered = stack_run::run(n, fstarts, frows, columns, pops, room, stack);
     *place = answered.place;

@@ -1,14 +1,13 @@
 // The check of a plan's bytes for a job: its entry point.
 use papers::Answer;
 use papers::JobHead;
-ghost use mathlib.Core.Path.{_≡_};
 ghost use Rattle.papers.specs.Job.{jobOf};
-ghost use Rattle.papers.specs.Refusals.{Outcome, Lent};
+ghost use Rattle.papers.specs.Refusals.{EndsAs};
 ghost use Rattle.papers.specs.Check.{checked};
 ghost use Rattle.lent.specs.Six.{six};
 
-// The check of a plan's bytes: 1 to 7, 11 to 15, 8, 16 to 20, 9; done, the slices hold the parents and the plan's order, pops, factor starts and rows,
-// then zeros, and the count is the peak.
+// The check of a plan's bytes: 1 to 7, 11 to 15, 8, 16 to 20, 9; done, the slices hold the parents and the plan's order, pops, factor
+// starts and rows, then zeros, and the count is the peak.
 pub fn check_plan(
     head: JobHead,
     starts: &[u64],
@@ -21,7 +20,12 @@ pub fn check_plan(
     frows: &mut [u32],
     work: &mut [u64],
 ) -> Answer
-    ensures { λ r. ⌜ _≡_ {A = Outcome Lent} (record { answer = r; lent = six (now (parents .exit)) (now (order .exit)) (now (pops .exit)) (now (fstarts .exit)) (now (frows .exit)) (now (work .exit)) }) (checked (jobOf head (now (starts .entry)) (now (rows .entry))) (now (plan .entry)) (six (now (parents .entry)) (now (order .entry)) (now (pops .entry)) (now (fstarts .entry)) (now (frows .entry)) (now (work .entry)))) ⌝ }
+    ensures { λ r. ⌜
+        EndsAs r
+        (six (now (parents .exit)) (now (order .exit)) (now (pops .exit)) (now (fstarts .exit)) (now (frows .exit)) (now (work .exit)))
+        (checked (jobOf head (now (starts .entry)) (now (rows .entry))) (now (plan .entry))
+        (six (now (parents .entry)) (now (order .entry)) (now (pops .entry)) (now (fstarts .entry)) (now (frows .entry)) (now (work .entry))))
+        ⌝ }
 {
     let fault = job::first_fault(head, starts, rows);
     if fault.number != 0 {
@@ -38,7 +42,7 @@ pub fn check_plan(
     ) {
         return basics::answered(7, 0, 0);
     }
-    let answer = bytes_judge::judge_bytes(
+    let answer = check_bytes::judge_bytes(
         head,
         starts,
         rows,

@@ -1,7 +1,7 @@
 -- The loop over a column's children, from its first to its last turn: what is held and the children left make the whole list, what is marked is held,
 -- and only marks change.
 -- Assumes nothing.
-use Prim.Native.Nat.{ℕ, _-_, _≤_}
+use Prim.Native.Nat.{ℕ, _≤_}
 use mathlib.Core.Path.{_≡_, refl, sym, ap, _∙_}
 use mathlib.Core.List.{List}
 use native.Mathlib.Omega.{arith}

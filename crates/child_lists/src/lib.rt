@@ -45,7 +45,9 @@ pub fn covered(n: usize, j: usize, list: &[u32], work: &[u64]) -> bool
 pub fn join_rows(turn: usize, len: usize, more: &[u32], x: &mut [u32], y: &mut [u32]) -> usize
     requires { ⌜ Roomy turn len (now more) (now x) (now y) ⌝ }
     ensures counts { λ r. ⌜ r ≡ length (merge (held turn len (now (x .entry)) (now (y .entry))) (now (more .entry))) ⌝ }
-    ensures holds { λ r. ⌜ held (1 - turn) r (now (x .exit)) (now (y .exit)) ≡ merge (held turn len (now (x .entry)) (now (y .entry))) (now (more .entry)) ⌝ }
+    ensures holds { λ r. ⌜
+        held (1 - turn) r (now (x .exit)) (now (y .exit)) ≡ merge (held turn len (now (x .entry)) (now (y .entry))) (now (more .entry))
+        ⌝ }
 {
     if turn == 0 {
         joiner::unite(&x[..len], more, y)
@@ -68,7 +70,10 @@ pub fn join_children(
     y: &mut [u32],
 ) -> Gathered
     requires { ⌜ Joining n j c len (now fstarts) (now frows) (now work) (now x) (now y) ⌝ }
-    ensures { λ r. ⌜ Joined n j c len (now (fstarts .entry)) (now (frows .entry)) (now (work .entry)) (now (x .entry)) (now (y .entry)) (r .turn) (r .len) (now (work .exit)) (now (x .exit)) (now (y .exit)) ⌝ }
+    ensures { λ r. ⌜
+        Joined n j c len (now (fstarts .entry)) (now (frows .entry)) (now (work .entry)) (now (x .entry)) (now (y .entry)) (r .turn)
+        (r .len) (now (work .exit)) (now (x .exit)) (now (y .exit))
+        ⌝ }
 {
     let mut d = c;
     let mut turn = 0;

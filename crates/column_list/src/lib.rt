@@ -19,8 +19,8 @@ pub fn pattern_rows<'a>(m: usize, starts: &[u64], rows: &'a [u32]) -> &'a [u32]
     &rows[s..e]
 }
 
-// Gathers R(m + 1) in the buffers: the pattern rows joined with those that the longest child hands on, then with those of the other children.
-// Rows are marked only where there is more than one child.
+// Gathers R(m + 1) in the buffers: the pattern rows joined with those that the longest child hands on, then with those of the other
+// children. Rows are marked only where there is more than one child.
 pub fn gather<'a>(
     n: usize,
     m: usize,
@@ -34,7 +34,10 @@ pub fn gather<'a>(
 ) -> Gathered
     requires tested { ⌜ Tested n (now starts) (now rows) ⌝ }
     requires next { ⌜ Next n m (columnOf (now starts) (now rows)) (now fstarts) (now frows) (now work) (now x) (now y) ⌝ }
-    ensures { λ r. ⌜ Gathers n m (columnOf (now (starts .entry)) (now (rows .entry))) (now (work .entry)) (now (work .exit)) (now (x .exit)) (now (y .exit)) (r .turn) (r .len) ⌝ }
+    ensures { λ r. ⌜
+        Gathers n m (columnOf (now (starts .entry)) (now (rows .entry))) (now (work .entry)) (now (work .exit)) (now (x .exit))
+        (now (y .exit)) (r .turn) (r .len)
+        ⌝ }
 {
     let own = pattern_rows(m, starts, rows);
     let c = work[m + 1] as usize;

@@ -18,9 +18,8 @@ fn row_fault(n: u64, j: u64, before: u64, row: u64) -> u64
     0
 }
 
-// 5 and 6: the first row at fault in reading order, at its column.
-// The first fault leaves both loops. The first `done` columns are without fault, and so are the rows of column j before i; `before` is the last
-// of these rows, or j where there is none yet.
+// 5 and 6: the first row at fault in reading order, at its column. The first fault leaves both loops. The first `done` columns are
+// without fault, and so are the rows of column j before i; `before` is the last of these rows, or j where there is none yet.
 pub fn rows_fault(n: u64, starts: &[u64], rows: &[u32]) -> Answer
     requires few { ⌜ n ≤ maxColumns ⌝ }
     requires starts_pass { ⌜ startsTest n (now starts) (now rows) ≡ passed ⌝ }

@@ -20,8 +20,8 @@ use Rattle.bytes_laws.proofs.Writing.{Writes, writes-all, writes-number}
 use Rattle.job_laws.proofs.Firsts.{first-last, over-refuses, over-passes-iff}
 use Rattle.job_laws.proofs.Passed.{Passed}
 use Rattle.job_laws.proofs.Outcomes.{outcome-untouched, outcome-zeroed, outcome-done, job-refuses, job-passes}
-use Rattle.stored_bytes.specs.Stored.{stored}
-use Rattle.stored_bytes.proofs.Stores.{short-is, whole-is}
+use Rattle.write_stored.specs.Stored.{stored}
+use Rattle.write_stored.proofs.Stores.{short-is, whole-is}
 
 -- ---- its numbers
 

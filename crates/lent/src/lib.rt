@@ -41,7 +41,12 @@ pub fn clear_all(
     rows: &mut [u32],
     work: &mut [u64],
 )
-    ensures { λ _. ⌜ _≡_ {A = Lent} (six (now (parents .exit)) (now (order .exit)) (now (pops .exit)) (now (starts .exit)) (now (rows .exit)) (now (work .exit))) (allZero (six (now (parents .entry)) (now (order .entry)) (now (pops .entry)) (now (starts .entry)) (now (rows .entry)) (now (work .entry)))) ⌝ }
+    ensures { λ _. ⌜
+        _≡_ {A = Lent} (six (now (parents .exit)) (now (order .exit)) (now (pops .exit)) (now (starts .exit)) (now (rows .exit))
+        (now (work .exit)))
+        (allZero (six (now (parents .entry)) (now (order .entry)) (now (pops .entry)) (now (starts .entry)) (now (rows .entry))
+        (now (work .entry))))
+        ⌝ }
 {
     slices::clear32(parents);
     slices::clear32(order);

@@ -1,6 +1,5 @@
 -- The lists and the order that were made in the lent slices are those of the job's plan. A list in front of what is cleared behind it is the result,
--- then
--- zeros; the tree and the rows that the order was made from are the pattern's (Ties).
+-- then zeros; the tree and the rows that the order was made from are the pattern's (Ties).
 -- Assumes nothing.
 use Prim.Native.Nat.{ℕ, suc, _+_, _<_, _≤_}
 use mathlib.Core.Path.{_≡_, refl, sym, ap, _∙_}
@@ -22,10 +21,10 @@ use Rattle.column_laws.proofs.Families.{length-grows}
 use Rattle.order_laws.proofs.Patterns.{order-length}
 use Rattle.lent.specs.Six.{six, LongEnough}
 use Rattle.lent.proofs.Sixes.{sixes}
-use Rattle.lent_lists.specs.Listing.{AllListed, Listing}
+use Rattle.lent_plan.specs.Listing.{AllListed, Listing}
 use Rattle.lent.proofs.Alike.{Alike}
-use Rattle.lent_order.specs.Ordering.{Orderable, Ordering}
-use Rattle.stored_tree.proofs.Ties.{parentsOf, startsOf, length-parents, same-order, same-pops, same-peak, rowed}
+use Rattle.lent_plan.specs.Ordering.{Orderable, Ordering}
+use Rattle.order.proofs.Ties.{parentsOf, startsOf, length-parents, same-order, same-pops, same-peak, rowed}
 use Rattle.lent_plan.specs.Made.{Made}
 use Rattle.lent_plan.proofs.Made.{made-refused}
 use Rattle.lent_plan.proofs.Ways.{needed, peakIn, way-rows, way-peak, way-done}

@@ -1,1 +1,3 @@
+pub mod Ordering
+pub mod Listing
 pub mod Made

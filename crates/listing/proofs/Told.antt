@@ -1,6 +1,5 @@
 -- What is read of a text is the job that is printed: its lists lie in the fronts of the buffers, its rows as they are kept, and neither the analysis
--- nor what
--- is printed of it sees the difference.
+-- nor what is printed of it sees the difference.
 -- Assumes nothing.
 use Prim.Native.Nat.{ℕ, _+_, _≤_}
 use mathlib.Core.Path.{_≡_, sym, ap, _∙_}
@@ -16,7 +15,7 @@ use Rattle.papers.specs.Analysis.{analysed}
 use Rattle.papers.specs.Text.{Input, textJob, textTests, refusalLine, buffers, jobPrinted, programPrints}
 use Rattle.lent.specs.Six.{zeroes}
 use Rattle.column_laws.proofs.Parts.{front-stored}
-use Rattle.kept_rows.specs.Narrowed.{narrowed}
+use Rattle.text_lines.specs.Narrowed.{narrowed}
 use Rattle.text_reader.specs.declared.JobRead.{JobRead}
 use Rattle.text_reader.specs.declared.JobRead.the-variants as read
 use Rattle.text_reader.specs.Reading.{JobTold, job-read, text-refused, keptJob}

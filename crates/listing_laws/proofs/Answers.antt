@@ -1,6 +1,5 @@
 -- The answers that a listing may print of a job are refusals of numbers that are not large: places are columns, and counts the rows needed or a peak,
--- which
--- a job that passes its tests keeps small.
+-- which a job that passes its tests keeps small.
 -- Assumes nothing.
 use Prim.Native.Nat.{ℕ, zero, suc, _+_, _*_, _^_, _<_, _≤_}
 use mathlib.Core.Path.{_≡_, refl, _∙_}

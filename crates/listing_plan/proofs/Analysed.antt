@@ -19,8 +19,8 @@ use Rattle.papers.specs.Text.{refusalLine, listingOf, jobPrinted}
 use Rattle.job_laws.specs.Parts.{Parts}
 use Rattle.job_laws.proofs.Passed.{Passed, passes-iff, passed-below}
 use Rattle.plan_laws.proofs.Analysed.{done-valid, done-parts}
-use Rattle.stored_tree.proofs.Ties.{startsOf}
-use Rattle.step_lines.specs.Steps.{Printable}
+use Rattle.order.proofs.Ties.{startsOf}
+use Rattle.listing_steps.specs.Steps.{Printable}
 use Rattle.listing_plan.specs.PlanLines.{planLines}
 use Rattle.listing_plan.proofs.Steps.{lines-same, steps-printable}
 

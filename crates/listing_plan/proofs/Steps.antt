@@ -27,8 +27,8 @@ use Rattle.room.specs.Rows.{rowsIn}
 use Rattle.room.proofs.BySteps.{pops-here, held-by-steps}
 use Rattle.order.specs.Given.{Given}
 use Rattle.order.proofs.Peaks.{peak-asked}
-use Rattle.stored_tree.proofs.Ties.{parentsOf, startsOf, length-parents, rows-tie, same-order, same-pops, rowed}
-use Rattle.step_lines.specs.Steps.{lineBehind, linesTo, Printable}
+use Rattle.order.proofs.Ties.{parentsOf, startsOf, length-parents, rows-tie, same-order, same-pops, rowed}
+use Rattle.listing_steps.specs.Steps.{lineBehind, linesTo, Printable}
 
 -- ---- lines of steps
 

@@ -4,7 +4,7 @@ use Prim.Native.Nat.{ℕ}
 use mathlib.Core.List.{List, [], _∷_, _++_}
 use lib.ListN.{length}
 use Rattle.papers.specs.Text.{wordPlan, printed}
-use Rattle.step_lines.specs.Steps.{linesTo}
+use Rattle.listing_steps.specs.Steps.{linesTo}
 
 -- a header, then the lines of the steps
 abbrev pub planLines : ℕ → ℕ → ℕ → List ℕ → List ℕ → List ℕ → List ℕ → List ℕ

@@ -7,7 +7,7 @@ ghost use Rattle.papers.specs.Job.{jobOf};
 ghost use Rattle.papers.specs.Analysis.{analysed};
 ghost use Rattle.papers.specs.Text.{jobPrinted};
 ghost use Rattle.lent.specs.Six.{six};
-ghost use Rattle.step_lines.specs.Steps.{Printable};
+ghost use Rattle.listing_steps.specs.Steps.{Printable};
 ghost use Rattle.listing_plan.specs.PlanLines.{planLines};
 use papers::JobHead;
 
@@ -24,15 +24,25 @@ fn print_plan(
 ) -> usize
     requires steps { ⌜ Printable (now order) (now pops) (now fstarts) (now frows) ⌝ }
     requires room { ⌜ length (now order) < length (now below) ⌝ }
-    requires fits { ⌜ length (planLines (head .n) (head .mark) peak (now order) (now pops) (now fstarts) (now frows)) ≤ length (now bytes) ⌝ }
-    ensures place { λ r. ⌜ r ≡ length (planLines (head .n) (head .mark) peak (now (order .entry)) (now (pops .entry)) (now (fstarts .entry)) (now (frows .entry))) ⌝ }
-    ensures writes { λ r. ⌜ now (bytes .exit) ≡ sets (now (bytes .entry)) 0 (planLines (head .n) (head .mark) peak (now (order .entry)) (now (pops .entry)) (now (fstarts .entry)) (now (frows .entry))) ⌝ }
+    requires fits { ⌜
+        length (planLines (head .n) (head .mark) peak (now order) (now pops) (now fstarts) (now frows)) ≤ length (now bytes)
+        ⌝ }
+    ensures place { λ r. ⌜
+        r ≡ length (planLines (head .n) (head .mark) peak (now (order .entry)) (now (pops .entry)) (now (fstarts .entry))
+        (now (frows .entry)))
+        ⌝ }
+    ensures writes { λ r. ⌜
+        now (bytes .exit)
+        ≡ sets (now (bytes .entry)) 0 (planLines (head .n) (head .mark) peak (now (order .entry)) (now (pops .entry))
+        (now (fstarts .entry)) (now (frows .entry)))
+        ⌝ }
 {
-    let first = printer::write_header(head.n, head.mark, peak, bytes);
-    step_lines::write_steps(order, pops, fstarts, frows, below, bytes, first)
+    let first = listing_lines::write_header(head.n, head.mark, peak, bytes);
+    listing_steps::write_steps(order, pops, fstarts, frows, below, bytes, first)
 }
 
-// Analyses a job in lent slices and writes what is printed of it, its listing or the line of its refusal, to the front of bytes; answers its length.
+// Analyses a job in lent slices and writes what is printed of it, its listing or the line of its refusal, to the front of bytes;
+// answers its length.
 pub fn print_analysis(
     head: JobHead,
     starts: &[u64],
@@ -46,9 +56,24 @@ pub fn print_analysis(
     bytes: &mut [u8],
 ) -> usize
     requires room { ⌜ head .n < length (now work) ⌝ }
-    requires fits { ⌜ length (jobPrinted (jobOf head (now starts) (now rows)) (analysed (jobOf head (now starts) (now rows)) (six (now parents) (now order) (now pops) (now fstarts) (now frows) (now work)) .answer)) ≤ length (now bytes) ⌝ }
-    ensures place { λ r. ⌜ r ≡ length (jobPrinted (jobOf head (now (starts .entry)) (now (rows .entry))) (analysed (jobOf head (now (starts .entry)) (now (rows .entry))) (six (now (parents .entry)) (now (order .entry)) (now (pops .entry)) (now (fstarts .entry)) (now (frows .entry)) (now (work .entry))) .answer)) ⌝ }
-    ensures writes { λ r. ⌜ now (bytes .exit) ≡ sets (now (bytes .entry)) 0 (jobPrinted (jobOf head (now (starts .entry)) (now (rows .entry))) (analysed (jobOf head (now (starts .entry)) (now (rows .entry))) (six (now (parents .entry)) (now (order .entry)) (now (pops .entry)) (now (fstarts .entry)) (now (frows .entry)) (now (work .entry))) .answer)) ⌝ }
+    requires fits { ⌜
+        length (jobPrinted (jobOf head (now starts) (now rows))
+        (analysed (jobOf head (now starts) (now rows)) (six (now parents) (now order) (now pops) (now fstarts) (now frows)
+        (now work)) .answer)) ≤ length (now bytes)
+        ⌝ }
+    ensures place { λ r. ⌜
+        r ≡ length (jobPrinted (jobOf head (now (starts .entry)) (now (rows .entry)))
+        (analysed (jobOf head (now (starts .entry)) (now (rows .entry)))
+        (six (now (parents .entry)) (now (order .entry)) (now (pops .entry)) (now (fstarts .entry)) (now (frows .entry))
+        (now (work .entry))) .answer))
+        ⌝ }
+    ensures writes { λ r. ⌜
+        now (bytes .exit)
+        ≡ sets (now (bytes .entry)) 0 (jobPrinted (jobOf head (now (starts .entry)) (now (rows .entry)))
+        (analysed (jobOf head (now (starts .entry)) (now (rows .entry)))
+        (six (now (parents .entry)) (now (order .entry)) (now (pops .entry)) (now (fstarts .entry)) (now (frows .entry))
+        (now (work .entry))) .answer))
+        ⌝ }
 {
     let answer = analysis::analyse(
         head,
@@ -62,7 +87,7 @@ pub fn print_analysis(
         work,
     );
     if answer.number != 0 {
-        return printer::write_refusal(answer, bytes);
+        return listing_lines::write_refusal(answer, bytes);
     }
     let n = head.n as usize;
     let last = fstarts[n] as usize;

@@ -1,3 +1,4 @@
+pub mod Ties
 pub mod Marked
 pub mod Families
 pub mod Walked

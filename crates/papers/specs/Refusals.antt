@@ -48,6 +48,10 @@ pub record Outcome (S : Type 0) : Type 0 where
   pub answer : Answer
   pub lent : S
 
+-- what an entry point promises: its answer, with what its lent slices hold at the end, is this outcome
+abbrev pub EndsAs : {S : Type 0} → Answer → S → Outcome S → Type 0
+EndsAs r lent whole = record { answer = r; lent = lent } ≡ whole
+
 -- by the first test that refuses, or by what is done where none does
 unfoldable pub outcome : {C S : Type 0} → List (C → Verdict) → (C → Outcome S) → (S → S) → C → S → Outcome S
 outcome tests done zeroing call lent =

@@ -23,7 +23,8 @@ pub enum Number {
     NotShortest,
 }
 
-// The greatest n, sibling mark, room limit and declared peak, and the most groups of a number. The definitions have the same in specs/Bounds.antt.
+// The greatest n, sibling mark, room limit and declared peak, and the most groups of a number. The definitions have the same in
+// specs/Bounds.antt.
 pub const MAX_COLUMNS: u64 = 4096;
 
 pub const MAX_MARK: u64 = 2;

@@ -1,6 +1,5 @@
 -- The parts of the slices of an analysis that is done are the steps and the lists of the job's plan, so they can be written, and what is written is
--- that
--- plan.
+-- that plan.
 -- Assumes nothing.
 use mathlib.Core.Path.{_≡_, refl}
 use Rattle.papers.specs.declared.Answer.{Answer}
@@ -15,10 +14,10 @@ use Rattle.job_laws.proofs.Laid.{laid-lists}
 use Rattle.job_laws.proofs.Readable.{laid-pass}
 use Rattle.job_laws.proofs.Parts.{length-columns, length-pops}
 use Rattle.plan_laws.proofs.Analysed.{analysis-done, done-valid, done-peak, done-fit, done-parts}
-use Rattle.plan_writer.proofs.Steps.{steps-again}
+use Rattle.write_plan.proofs.Steps.{steps-again}
 use Rattle.lent.proofs.Alike.{Alike, zeros-alike}
-use Rattle.plan_store.specs.InFront.{InFront}
-use Rattle.plan_store.specs.Beside.{storedBeside}
+use Rattle.plan_bytes.specs.InFront.{InFront}
+use Rattle.plan_bytes.specs.Beside.{storedBeside}
 use Rattle.plan_bytes.proofs.Ways.{way-stored}
 
 module _ (job : Job) (lent : Lent) {r : Answer} {after : Lent} (e : _≡_ {A = Outcome Lent} (record { answer = r; lent = after }) (analysed job lent))

@@ -1,2 +1,3 @@
+pub mod Besides
 pub mod Ways
 pub mod Handed

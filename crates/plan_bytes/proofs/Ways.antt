@@ -1,6 +1,5 @@
 -- The outcome of writing a plan by the outcome of the analysis: what that refuses is refused here, with the same answer; where it is done, the room
--- for
--- the bytes decides.
+-- for the bytes decides.
 -- Assumes nothing.
 use Prim.Native.Nat.{ℕ, _<_, _≤_}
 use mathlib.Core.Path.{_≡_, refl, sym, _∙_}
@@ -20,8 +19,8 @@ use Rattle.job_laws.proofs.Outcomes.{outcome-untouched, outcome-zeroed, outcome
 use Rattle.refusal_laws.proofs.Exactly.{Leaving}
 use Rattle.refusal_laws.proofs.Analysis.{analysis-leaving}
 use Rattle.plan_laws.proofs.Analysed.{same-answers, same-numbers, same-lent}
-use Rattle.plan_store.specs.Beside.{storedBeside}
-use Rattle.plan_store.proofs.Besides.{beside-short, beside-whole}
+use Rattle.plan_bytes.specs.Beside.{storedBeside}
+use Rattle.plan_bytes.proofs.Besides.{beside-short, beside-whole}
 
 abbrev analysisOf : PlanCall → AnalysisCall
 analysisOf call = record { job = call .job; lent = call .slices .analysis }

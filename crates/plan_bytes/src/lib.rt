@@ -1,14 +1,67 @@
 // The plan of a job written into a lent slice: its entry point.
-ghost use mathlib.Core.Path.{_≡_};
-ghost use Rattle.papers.specs.Job.{jobOf};
-ghost use Rattle.papers.specs.Refusals.{Outcome};
-ghost use Rattle.papers.specs.Analysis.{PlanLent, planWritten};
-ghost use Rattle.lent.specs.Six.{six};
 use papers::Answer;
 use papers::JobHead;
+ghost use Rattle.papers.specs.Job.{jobOf};
+ghost use Rattle.papers.specs.Plan.{planOf, planBytes};
+ghost use Rattle.papers.specs.Refusals.{EndsAs};
+ghost use Rattle.papers.specs.Analysis.{planWritten};
+ghost use Rattle.lent.specs.Six.{six};
+ghost use Rattle.plan_bytes.specs.InFront.{InFront};
+ghost use Rattle.plan_bytes.specs.Beside.{storedBeside};
 
-// The analysis of a job, and its plan in a lent slice: 1 to 9 as the analysis has them, then 10 with the bytes needed. Done, the slices hold the analysis
-// and the plan, then zeros, and the count is the plan's bytes.
+// The plan of a job that lies in front of the slices of its analysis, stored beside them; 10 with the bytes needed where it does not
+// fit, and all slices zero.
+fn store_beside(
+    head: JobHead,
+    starts: &[u64],
+    rows: &[u32],
+    parents: &mut [u32],
+    order: &mut [u32],
+    pops: &mut [u32],
+    fstarts: &mut [u64],
+    frows: &mut [u32],
+    work: &mut [u64],
+    peak: u64,
+    bytes: &mut [u8],
+) -> Answer
+    requires { ⌜ InFront (jobOf head (now starts) (now rows)) (now order) (now pops) (now fstarts) (now frows) peak ⌝ }
+    ensures { λ r. ⌜
+        EndsAs r (record {
+          analysis = six (now (parents .exit)) (now (order .exit)) (now (pops .exit)) (now (fstarts .exit))
+              (now (frows .exit)) (now (work .exit));
+          bytes = now (bytes .exit);
+        })
+        (storedBeside (planBytes (jobOf head (now (starts .entry)) (now (rows .entry)))
+        (planOf (jobOf head (now (starts .entry)) (now (rows .entry)))))
+        (record {
+          analysis = six (now (parents .entry)) (now (order .entry)) (now (pops .entry)) (now (fstarts .entry))
+              (now (frows .entry)) (now (work .entry));
+          bytes = now (bytes .entry);
+        }))
+        ⌝ }
+{
+    let n = head.n as usize;
+    let last = fstarts[n] as usize;
+    let stored = write_plan::store_plan(
+        head,
+        starts,
+        rows,
+        &order[..n],
+        &pops[..n],
+        &fstarts[..n + 1],
+        &frows[..last],
+        peak,
+        bytes,
+    );
+    if stored.number != 0 {
+        lent::clear_all(parents, order, pops, fstarts, frows, work);
+        return stored;
+    }
+    stored
+}
+
+// The analysis of a job, and its plan in a lent slice: 1 to 9 as the analysis has them, then 10 with the bytes needed. Done, the slices
+// hold the analysis and the plan, then zeros, and the count is the plan's bytes.
 pub fn write_plan(
     head: JobHead,
     starts: &[u64],
@@ -21,7 +74,19 @@ pub fn write_plan(
     work: &mut [u64],
     bytes: &mut [u8],
 ) -> Answer
-    ensures { λ r. ⌜ _≡_ {A = Outcome PlanLent} (record { answer = r; lent = record { analysis = six (now (parents .exit)) (now (order .exit)) (now (pops .exit)) (now (fstarts .exit)) (now (frows .exit)) (now (work .exit)); bytes = now (bytes .exit) } }) (planWritten (jobOf head (now (starts .entry)) (now (rows .entry))) (record { analysis = six (now (parents .entry)) (now (order .entry)) (now (pops .entry)) (now (fstarts .entry)) (now (frows .entry)) (now (work .entry)); bytes = now (bytes .entry) })) ⌝ }
+    ensures { λ r. ⌜
+        EndsAs r (record {
+          analysis = six (now (parents .exit)) (now (order .exit)) (now (pops .exit)) (now (fstarts .exit))
+              (now (frows .exit)) (now (work .exit));
+          bytes = now (bytes .exit);
+        })
+        (planWritten (jobOf head (now (starts .entry)) (now (rows .entry)))
+        (record {
+          analysis = six (now (parents .entry)) (now (order .entry)) (now (pops .entry)) (now (fstarts .entry))
+              (now (frows .entry)) (now (work .entry));
+          bytes = now (bytes .entry);
+        }))
+        ⌝ }
 {
     let analysed = analysis::analyse(
         head,
@@ -35,10 +100,10 @@ pub fn write_plan(
         work,
     );
     if analysed.number != 0 {
-        stored_bytes::clear_late(analysed.number, bytes);
+        write_stored::clear_late(analysed.number, bytes);
         return analysed;
     }
-    plan_store::store_beside(
+    store_beside(
         head,
         starts,
         rows,

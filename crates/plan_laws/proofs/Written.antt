@@ -1,6 +1,5 @@
 -- Every plan that the planner writes passes: it is the plan of a valid job, in the order of the job's mark, so it is sound, and its peak is within
--- the
--- limit. So what is written and then checked gives back the same lists.
+-- the limit. So what is written and then checked gives back the same lists.
 -- Assumes nothing.
 use Prim.Native.Nat.{_≤_}
 use mathlib.Core.Path.{_≡_, refl, ap}

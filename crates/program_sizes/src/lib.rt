@@ -1,4 +1,5 @@
-// The sizes of the listing program, of which the solver's call has those of its buffers. The definitions have the same in the Bounds of papers.
+// The sizes of the listing program, of which the solver's call has those of its buffers. The definitions have the same in the Bounds of
+// papers.
 
 // Bytes of a job text, digits of a decimal, and the sibling mark of a text that gives none.
 pub const INPUT_BYTES: usize = 8192;

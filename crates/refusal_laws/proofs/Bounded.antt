@@ -1,6 +1,5 @@
 -- The answer of a check is a small number with a place that n and the rows bound, however long the plan: each condition says its number and its
--- place, a
--- column or a step of 1 to n, a byte that the key reaches, or one that the reading behind it can reach.
+-- place, a column or a step of 1 to n, a byte that the key reaches, or one that the reading behind it can reach.
 -- Assumes nothing.
 use Prim.Native.Nat.{ℕ, zero, suc, _+_, _*_, _≤_}
 use mathlib.Core.Path.{_≡_, refl}

@@ -1,6 +1,5 @@
 -- The tests of the solver's call (27 and 26) against their conditions. A key of bytes is readable just where it reads through, and then it is the key
--- of one
--- job only. So the tests, which go by the reading, agree with conditions that speak of any job whose key it is.
+-- of one job only. So the tests, which go by the reading, agree with conditions that speak of any job whose key it is.
 -- Assumes nothing.
 use Prim.Native.Nat.{ℕ, _<_}
 use mathlib.Core.Path.{_≡_, refl, _∙_}

@@ -1,6 +1,5 @@
 -- The solver's call by what its key reads as, and its one number taken apart: the number is at most 27, and the sizes keep the place below 2^32, so
--- it is
--- what is left over.
+-- it is what is left over.
 -- Assumes nothing.
 use Prim.Native.Nat.{ℕ, _/_, _%_, _^_, _<_, _≤_}
 use mathlib.Core.Path.{_≡_, refl, _∙_}

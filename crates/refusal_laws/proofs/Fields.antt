@@ -1,6 +1,5 @@
 -- Reading field by field: from a field at a place reading leads on while each number is there, in shortest form and in its range, and there is one
--- way
--- only. So where reading comes to a halt, at a number at fault or behind the peak, is determined.
+-- way only. So where reading comes to a halt, at a number at fault or behind the peak, is determined.
 -- Assumes nothing.
 use Prim.Native.Nat.{ℕ, _+_, _<_, _≤_}
 use mathlib.Core.Path.{_≡_, refl, sym, _∙_}

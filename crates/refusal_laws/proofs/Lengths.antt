@@ -1,6 +1,5 @@
 -- How far a key goes, and how far the reading of a plan: each number has at most as many groups as it may have. A key has four numbers, a count for
--- each column and a gap for
--- each row. Of a plan's numbers fewer are still to come with each that is read, and what can come is bounded by n.
+-- each column and a gap for each row. Of a plan's numbers fewer are still to come with each that is read, and what can come is bounded by n.
 -- Assumes nothing.
 use Prim.Native.Nat.{ℕ, zero, suc, _+_, _-_, _*_, _<_, _≤_}
 use mathlib.Core.Path.{_≡_, refl, ap}

@@ -1,6 +1,5 @@
 -- The tests of a plan that was read (16 to 20) against their conditions. A repeat is found among the steps before it; without repeats the steps are
--- an order
--- of all columns, which the test of subtrees asks for.
+-- an order of all columns, which the test of subtrees asks for.
 -- Assumes nothing.
 use Prim.Native.Nat.{ℕ, zero, suc, _-_, _≤_}
 use mathlib.Core.Path.{_≡_, sym, _∙_}

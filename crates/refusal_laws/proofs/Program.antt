@@ -1,6 +1,5 @@
 -- The listing program prints the line of a refusal exactly where its conditions give that refusal, and else the listing: text and analysis are tested
--- one
--- after the other, and no two of these outcomes print the same.
+-- one after the other, and no two of these outcomes print the same.
 -- Assumes nothing.
 use Prim.Native.Nat.{ℕ, zero, suc, _<_}
 use mathlib.Core.Path.{_≡_, refl, sym, ap, _∙_}

@@ -9,8 +9,7 @@ use Rattle.papers.specs.Refusals.{Outcome}
 use Rattle.papers.specs.Conditions.{Condition, Answered, Unrefused}
 
 -- `found` is the outcome of a call by its conditions: `lent` stood in the lent slices, `zero` is all of them zero, `done` is the outcome where
--- nothing
--- is refused.
+-- nothing is refused.
 pub record Exactly {C S : Type 0} (conditions : List (Condition C)) (call : C) (lent zero : S) (done found : Outcome S) : Type 0 where
   -- a number, with its place and count, is answered exactly when its condition gives it and no condition tested earlier gives anything
   pub refused-iff : (a : Answer) → 0 < a .number → (found .answer ≡ a) ↔ Answered conditions call a

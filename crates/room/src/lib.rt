@@ -46,8 +46,8 @@ pub fn count_pops(starts: &[u64], order: &[u32], pops: &mut [u32])
     }
 }
 
-// The room in use at a step of so many pops and rows. below[d] has the entries of the lowest d of the depth updates held, so a front that lies over
-// the top one begins at below[depth - 1].
+// The room in use at a step of so many pops and rows. below[d] has the entries of the lowest d of the depth updates held, so a front
+// that lies over the top one begins at below[depth - 1].
 pub fn in_use(below: &[u64], depth: usize, pops: usize, rows: u64) -> u64
     requires { ⌜ Over (now below) depth pops rows ⌝ }
     ensures { λ r. ⌜ r ≡ getD (now (below .entry)) (depth - min pops 1) 0 + t (rows + 1) ⌝ }
@@ -59,18 +59,23 @@ pub fn in_use(below: &[u64], depth: usize, pops: usize, rows: u64) -> u64
 pub fn hold(below: &mut [u64], depth: usize, pops: usize, rows: u64) -> usize
     requires { ⌜ Over (now below) depth pops rows ⌝ }
     ensures count { λ r. ⌜ r ≡ depth - pops + min rows 1 ⌝ }
-    ensures sums { λ r. ⌜ now (below .exit) ≡ set (now (below .entry)) (depth - pops + 1) (getD (now (below .entry)) (depth - pops) 0 + t rows) ⌝ }
+    ensures sums { λ r. ⌜
+        now (below .exit) ≡ set (now (below .entry)) (depth - pops + 1) (getD (now (below .entry)) (depth - pops) 0 + t rows)
+        ⌝ }
 {
     let left = depth - pops;
     below[left + 1] = below[left] + triangle::entries(rows);
     left + at_most_one(rows)
 }
 
-// The peak: the greatest room in use of the steps, each of its column's rows and its pops. The first k steps are done, and depth updates are held.
+// The peak: the greatest room in use of the steps, each of its column's rows and its pops. The first k steps are done, and depth
+// updates are held.
 pub fn peak(factor: &[u64], order: &[u32], pops: &[u32], below: &mut [u64]) -> u64
     requires { ⌜ Stepped (now factor) (now order) (now pops) ⌝ }
     requires room { ⌜ length (now order) < length (now below) ⌝ }
-    ensures { λ r. ⌜ r ≡ peakOf (rowsAt (now (factor .entry)) (now (order .entry))) (popsAt (now (pops .entry))) (upTo (length (now (order .entry)))) ⌝ }
+    ensures { λ r. ⌜
+        r ≡ peakOf (rowsAt (now (factor .entry)) (now (order .entry))) (popsAt (now (pops .entry))) (upTo (length (now (order .entry))))
+        ⌝ }
 {
     below[0] = 0;
     let mut depth = 0;

@@ -11,8 +11,8 @@ use Rattle.papers.specs.Key.{listsOf}
 use Rattle.list_laws.proofs.Tests.{Compare, below, level, above, compare}
 use Rattle.list_laws.proofs.Ascending.{asc-above}
 use Rattle.column_laws.proofs.Families.{length-more}
-use Rattle.row_climb.specs.Sums.{sumTo, under}
-use Rattle.row_climb.proofs.Sums.{under-lt, under-ge}
+use Rattle.needed_climb.specs.Sums.{sumTo, under}
+use Rattle.needed_climb.proofs.Sums.{under-lt, under-ge}
 
 pub sum-none : (n : ℕ) → sumTo n (λ c. 0) ≡ 0
 unfolding sumTo

@@ -18,9 +18,9 @@ use Rattle.fill_laws.proofs.Fill.{R-asc, R-range}
 use Rattle.fill_laws.proofs.Parents.{parent-mem, parent-above}
 use Rattle.fill_laws.proofs.Subtrees.{under-le, row-subtree}
 use Rattle.column_laws.proofs.Places.{same-or}
-use Rattle.row_climb.specs.Sums.{sumTo, under}
-use Rattle.row_climb.specs.Row.{tally, Row}
-use Rattle.row_climb.proofs.Sums.{hit-yes, hit-no, sum-same, sum-bump}
+use Rattle.needed_climb.specs.Sums.{sumTo, under}
+use Rattle.needed_climb.specs.Row.{tally, Row}
+use Rattle.needed_climb.proofs.Sums.{hit-yes, hit-no, sum-same, sum-bump}
 use Rattle.rows_needed.specs.Walk.{Between}
 use Rattle.rows_needed.proofs.Counts.{sum-none, sum-lengths, under-none, under-all, under-miss, under-hit}
 

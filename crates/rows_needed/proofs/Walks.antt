@@ -12,10 +12,10 @@ use Rattle.papers.specs.Job.{columnOf, Below}
 use Rattle.fill_laws.proofs.Fill.{R-pattern}
 use Rattle.column_laws.proofs.Places.{same-or}
 use Rattle.column_laws.proofs.Columns.{tested-below, starts-long, starts-fit, row-range, rows-rise}
-use Rattle.row_climb.specs.Sums.{sumTo}
-use Rattle.row_climb.specs.Row.{Start, Climbing, Climbed}
-use Rattle.row_climb.proofs.Sums.{sum-bump}
-use Rattle.row_climb.proofs.Marking.{row-ext}
+use Rattle.needed_climb.specs.Sums.{sumTo}
+use Rattle.needed_climb.specs.Row.{Start, Climbing, Climbed}
+use Rattle.needed_climb.proofs.Sums.{sum-bump}
+use Rattle.needed_climb.proofs.Marking.{row-ext}
 use Rattle.rows_needed.specs.Buckets.{cursor, Points, UpTo, filed}
 use Rattle.rows_needed.specs.Walk.{Filing, Walk}
 use Rattle.rows_needed.proofs.Buckets.{points-ext, buckets-ext, But, Taken, take-out}

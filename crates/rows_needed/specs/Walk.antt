@@ -9,8 +9,8 @@ use Rattle.papers.specs.Lists.{_∈_}
 use Rattle.papers.specs.Job.{Pattern, columnOf}
 use Rattle.papers.specs.Fill.{R}
 use Rattle.column_laws.specs.Tested.{Tested}
-use Rattle.row_climb.specs.Sums.{sumTo, under}
-use Rattle.row_climb.specs.Row.{Known, Row}
+use Rattle.needed_climb.specs.Sums.{sumTo, under}
+use Rattle.needed_climb.specs.Row.{Known, Row}
 use Rattle.rows_needed.specs.Buckets.{Points, UpTo, Buckets}
 
 -- column c can be filed with q as the place of its next row

@@ -42,7 +42,7 @@ pub fn walk(
     let mut t = count;
     while c != 0 {
         let next = work[n + n + c] as usize;
-        t = row_climb::climb(i, c, t, parents, work);
+        t = needed_climb::climb(i, c, t, parents, work);
         let q = work[n + n + n + c] + 1;
         file(n, c, q, starts, rows, work);
         c = next;

@@ -1,7 +1,7 @@
 -- The loop over the steps: after `done` steps without fault the stack list and the record hold the state after them. What a step makes of a state
 -- does not depend on the room or on what the stack slice held at first.
 -- Assumes nothing.
-use Prim.Native.Nat.{ℕ, suc, _+_, _-_, _<_, _≤_}
+use Prim.Native.Nat.{ℕ, suc, _+_, _<_, _≤_}
 use mathlib.Core.Path.{_≡_, refl, ap, _∙_, sym}
 use mathlib.Core.Logic.{_≢_}
 use mathlib.Core.List.{List, []}
@@ -12,13 +12,13 @@ use Rattle.papers.specs.Lists.{least}
 use Rattle.papers.specs.Run.{RunCall, State, rowsIn, popsAt, entries, roomIn, fits, stepFault, pushed, stepped, stateAfter, faultAt}
 use Rattle.papers.specs.Refusals.{answer}
 use Rattle.job_laws.proofs.Faults.{faulty, faults-next}
-use Rattle.held.specs.declared.Held.{Held}
-use Rattle.front.specs.Factor.{Factor}
-use Rattle.held_updates.specs.Kept.{stateOf, callOf, Kept}
-use Rattle.held_updates.proofs.Stack.{held-none, held-length}
-use Rattle.held_updates.proofs.Entries.{total-none}
-use Rattle.step_faults.proofs.Faults.{fault-zero}
-use Rattle.step_taken.specs.Ready.{Ready}
+use Rattle.run_held.specs.declared.Held.{Held}
+use Rattle.run_front.specs.Factor.{Factor}
+use Rattle.run_updates.specs.Kept.{stateOf, callOf, Kept}
+use Rattle.run_updates.proofs.Stack.{held-none, held-length}
+use Rattle.run_updates.proofs.Entries.{total-none}
+use Rattle.run_steps.proofs.Faults.{fault-zero}
+use Rattle.run_steps.specs.Ready.{Ready}
 use Rattle.run_steps.specs.Steps.{stepsAnswer}
 use Rattle.run_steps.proofs.Answers.{answer-fault, answer-left, answer-done}
 

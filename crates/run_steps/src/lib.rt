@@ -1,15 +1,93 @@
 // What a run answers from its first step on: the loop over its steps.
-use held::Held;
 use papers::Answer;
+use run_held::Held;
 ghost use mathlib.Core.Path.{_≡_};
-ghost use Prim.Native.Nat.{_≤_};
+ghost use mathlib.Core.List.{[]};
+ghost use Prim.Native.Nat.{suc, _+_, _≤_, _<_};
+ghost use Rattle.papers.specs.Run.{State, stepped, stepFault};
+ghost use Rattle.run_updates.specs.Kept.{callOf, stateOf, Kept};
+ghost use Rattle.run_steps.specs.Ready.{Ready};
 ghost use lib.ListN.{length};
-ghost use Rattle.front.specs.Factor.{Factor};
-ghost use Rattle.held_updates.specs.Kept.{callOf};
+ghost use Rattle.run_front.specs.Factor.{Factor};
 ghost use Rattle.run_steps.specs.Steps.{stepsAnswer};
 
-// The steps one after the other: the first fault, 14, 21, 22 or 23; else 24 where updates are left; else done. The count is the greatest room in
-// use of the steps fully done. The stack list has the columns held after `done` steps, bottom first.
+// Takes a step without fault, the `done` steps before it taken: pops its updates and puts its own column on the stack list, unless it
+// is a root.
+fn take_step(
+    n: u64,
+    starts: &[u64],
+    rows: &[u32],
+    columns: &[u32],
+    pops: &[u32],
+    stack: &mut [u32],
+    held: Held,
+    done: u64,
+) -> Held
+    requires ready { ⌜ Ready n (now starts) (now rows) (now columns) (now pops) (now stack) held done ⌝ }
+    ensures kept { λ r. ⌜ Kept n (now (starts .entry)) (now (rows .entry)) (now (stack .exit)) r ⌝ }
+    ensures grows { λ r. ⌜ r .count ≤ held .count + 1 ⌝ }
+    ensures state { λ r. ⌜
+        _≡_ {A = State} (stateOf r (now (stack .exit)))
+        (stepped (callOf n (now (starts .entry)) (now (rows .entry)) (now (columns .entry)) (now (pops .entry)) 0 []) (suc done)
+        (stateOf held (now (stack .entry))))
+        ⌝ }
+{
+    let column = columns[done as usize];
+    let off = pops[done as usize] as u64;
+    let popped = run_updates::popped_entries(n, starts, rows, stack, held, off);
+    let room = run_updates::room_in_use(n, starts, rows, stack, held, off, column as u64);
+    let update = run_front::entries_of(n, starts, rows, column as u64);
+    let next = run_held::advance(held, off, popped, update, room);
+    if update == 0 {
+        return next;
+    }
+    stack[next.count as usize - 1] = column;
+    next
+}
+
+// The fault of a step, the `done` steps before it taken: 14 its column is not in 1..n; 21 it pops more than is held; 22 a popped row is
+// outside its front; 23 its room in use is over the room given; 0 for none.
+fn step_fault(
+    n: u64,
+    starts: &[u64],
+    rows: &[u32],
+    columns: &[u32],
+    pops: &[u32],
+    room: u64,
+    stack: &[u32],
+    held: Held,
+    done: u64,
+) -> u64
+    requires factor { ⌜ Factor n (now starts) (now rows) ⌝ }
+    requires kept { ⌜ Kept n (now starts) (now rows) (now stack) held ⌝ }
+    requires listed { ⌜ (done < length (now columns)) × (done < length (now pops)) ⌝ }
+    ensures { λ r. ⌜
+        r ≡ stepFault (callOf n (now (starts .entry)) (now (rows .entry)) (now (columns .entry)) (now (pops .entry)) room []) (suc done)
+        (stateOf held (now (stack .entry)))
+        ⌝ }
+{
+    let column = columns[done as usize] as u64;
+    let off = pops[done as usize] as u64;
+    if column < 1 {
+        return 14;
+    }
+    if n < column {
+        return 14;
+    }
+    if held.count < off {
+        return 21;
+    }
+    if !run_updates::popped_fit(n, starts, rows, stack, held, off, column) {
+        return 22;
+    }
+    if room < run_updates::room_in_use(n, starts, rows, stack, held, off, column) {
+        return 23;
+    }
+    0
+}
+
+// The steps one after the other: the first fault, 14, 21, 22 or 23; else 24 where updates are left; else done. The count is the
+// greatest room in use of the steps fully done. The stack list has the columns held after `done` steps, bottom first.
 pub fn steps(
     n: u64,
     starts: &[u64],
@@ -23,7 +101,10 @@ pub fn steps(
     requires columns_listed { ⌜ n ≤ length (now columns) ⌝ }
     requires pops_listed { ⌜ n ≤ length (now pops) ⌝ }
     requires stack_long { ⌜ n ≤ length (now stack) ⌝ }
-    ensures { λ r. ⌜ r ≡ stepsAnswer (callOf n (now (starts .entry)) (now (rows .entry)) (now (columns .entry)) (now (pops .entry)) room (now (stack .entry))) ⌝ }
+    ensures { λ r. ⌜
+        r ≡ stepsAnswer (callOf n (now (starts .entry)) (now (rows .entry)) (now (columns .entry)) (now (pops .entry)) room
+        (now (stack .entry)))
+        ⌝ }
 {
     let mut held = Held {
         count: 0,
@@ -32,21 +113,11 @@ pub fn steps(
     };
     let mut done = 0;
     while done < n {
-        let fault = step_faults::step_fault(
-            n,
-            starts,
-            rows,
-            columns,
-            pops,
-            room,
-            stack,
-            held,
-            done,
-        );
+        let fault = step_fault(n, starts, rows, columns, pops, room, stack, held, done);
         if fault != 0 {
             return basics::answered(fault, done + 1, held.greatest);
         }
-        held = step_taken::take_step(n, starts, rows, columns, pops, stack, held, done);
+        held = take_step(n, starts, rows, columns, pops, stack, held, done);
         done += 1;
     }
     if held.count != 0 {

@@ -37,7 +37,10 @@ pub fn store_keys(
 )
     requires kids { ⌜ Kids (now factor) (part w k (now work)) (now kids) j ⌝ }
     requires room { ⌜ (w ≤ k) × (k + (k - w) ≤ length (now work)) ⌝ }
-    ensures { λ _. ⌜ Keyed k (keyAt mark (now (factor .entry)) (part w k (now (work .entry))) j) (now (kids .entry)) (now (work .entry)) (now (work .exit)) ⌝ }
+    ensures { λ _. ⌜
+        Keyed k (keyAt mark (now (factor .entry)) (part w k (now (work .entry))) j) (now (kids .entry)) (now (work .entry))
+        (now (work .exit))
+        ⌝ }
 {
     let above = room::rows_of(factor, j);
     let mut i = 0;

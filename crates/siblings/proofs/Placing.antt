@@ -9,7 +9,7 @@ use lib.Seq.{sets, take-take, take-set-le}
 use Rattle.papers.specs.Lists.{_∈_, sort}
 use Rattle.list_laws.proofs.Sorts.{sort-elements, sort-length}
 use Rattle.list_laws.proofs.SortOrder.{sort-same}
-use Rattle.sibling_join.specs.Joining.{keyIn}
+use Rattle.sibling_sort.specs.Joining.{keyIn}
 use Rattle.tree.specs.Laid.{part}
 use Rattle.sibling_keys.specs.Kids.{keyAt, needAt, Kids, Keyed}
 use Rattle.siblings.specs.Arranged.{Sortable, sortedBy, Sorted, siblingsAt, Placed, Arranged}

@@ -14,7 +14,9 @@ fn sort_kids(
     k: usize,
 )
     requires { ⌜ Sortable (now factor) (now kids) (now work) (length (now scratch)) j w k ⌝ }
-    ensures { λ _. ⌜ Sorted mark (now (factor .entry)) (now (kids .entry)) (now (work .entry)) (now (kids .exit)) (now (work .exit)) j w k ⌝ }
+    ensures { λ _. ⌜
+        Sorted mark (now (factor .entry)) (now (kids .entry)) (now (work .entry)) (now (kids .exit)) (now (work .exit)) j w k
+        ⌝ }
 {
     sibling_keys::store_keys(mark, factor, kids, j, work, w, k);
     sibling_sort::sort_columns(&work[k..], kids, scratch);
@@ -33,7 +35,9 @@ fn arrange_at(
     k: usize,
 )
     requires { ⌜ Placed (now factor) (now list) (now work) (length (now scratch)) j w k ⌝ }
-    ensures { λ _. ⌜ Arranged mark (now (factor .entry)) (now (list .entry)) (now (work .entry)) (now (list .exit)) (now (work .exit)) j w k ⌝ }
+    ensures { λ _. ⌜
+        Arranged mark (now (factor .entry)) (now (list .entry)) (now (work .entry)) (now (list .exit)) (now (work .exit)) j w k
+        ⌝ }
 {
     let a = work[j] as usize;
     let e = work[j + 1] as usize;
@@ -52,7 +56,9 @@ pub fn arrange(
     k: usize,
 )
     requires { ⌜ Arrangeable mark (now factor) (now list) (now work) (length (now scratch)) w k ⌝ }
-    ensures { λ _. ⌜ AllArranged mark (now (factor .entry)) (now (list .entry)) (now (work .entry)) (now (list .exit)) (now (work .exit)) w ⌝ }
+    ensures { λ _. ⌜
+        AllArranged mark (now (factor .entry)) (now (list .entry)) (now (work .entry)) (now (list .exit)) (now (work .exit)) w
+        ⌝ }
 {
     if mark == 0 {
         return;

@@ -1,6 +1,5 @@
 -- The number that is answered for each way out: 27 for a key that does not read through, 26 for one over the sizes, else that of the check's answer,
--- whose
--- number and place together fit 64 bits.
+-- whose number and place together fit 64 bits.
 -- Assumes nothing.
 use Prim.Native.Nat.{ℕ, _+_, _*_, _^_, _<_}
 use mathlib.Core.Path.{_≡_, sym, ap}
@@ -13,7 +12,7 @@ use Rattle.papers.specs.declared.Answer.{Answer}
 use Rattle.papers.specs.declared.JobHead.{JobHead}
 use Rattle.refusal_laws.proofs.Bounded.{Within}
 use Rattle.refusal_laws.proofs.Called.{call-unreadable, call-over, call-bounded}
-use Rattle.key_reader.specs.Keys.{KeyParts}
+use Rattle.read_key.specs.Keys.{KeyParts}
 
 module _ (key plan : List ℕ) where
   -- the number that is answered, by the answer

@@ -17,7 +17,7 @@ use Rattle.list_laws.proofs.Tests.{below-or, true-false}
 use Rattle.job_laws.proofs.Firsts.{first-passes, first-refuses, refused-if, passed-if, over-refuses, over-passes-iff}
 use Rattle.job_laws.proofs.Untouched.{Early, starts-early, rows-early, early-zero}
 use Rattle.job_laws.proofs.Outcomes.{outcome-untouched}
-use Rattle.front.specs.Factor.{Factor}
+use Rattle.run_front.specs.Factor.{Factor}
 use Rattle.run_steps.specs.Steps.{stepsAnswer}
 use Rattle.run_steps.proofs.Answers.{from-steps}
 

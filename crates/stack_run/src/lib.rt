@@ -2,16 +2,16 @@
 use papers::Answer;
 ghost use mathlib.Core.Path.{_≡_};
 ghost use mathlib.Core.Bool.{_||_};
-ghost use mathlib.Core.List.{List};
-ghost use Prim.Native.Nat.{ℕ};
 ghost use lib.Dec.{ltb};
 ghost use lib.ListN.{length};
-ghost use Rattle.papers.specs.Refusals.{Outcome};
+ghost use Rattle.papers.specs.Refusals.{EndsAs};
 ghost use Rattle.papers.specs.Run.{ran};
 
 // 7: whether columns, pops or stack list are shorter than n.
 fn too_short(n: u64, columns: &[u32], pops: &[u32], stack: &[u32]) -> bool
-    ensures { λ r. ⌜ r ≡ (ltb (length (now (columns .entry))) n || ltb (length (now (pops .entry))) n || ltb (length (now (stack .entry))) n) ⌝ }
+    ensures { λ r. ⌜
+        r ≡ (ltb (length (now (columns .entry))) n || ltb (length (now (pops .entry))) n || ltb (length (now (stack .entry))) n)
+        ⌝ }
 {
     if (columns.len() as u64) < n {
         return true;
@@ -22,8 +22,8 @@ fn too_short(n: u64, columns: &[u32], pops: &[u32], stack: &[u32]) -> bool
     (stack.len() as u64) < n
 }
 
-// Runs n steps, each a column and its pops, on a factor's lists within a room. Refuses 1, 4, 5, 6, 7 before the first step, with the stack list
-// as it was, and from the steps on 14, 21, 22, 23 and 24; then, and when done, the stack list is zero.
+// Runs n steps, each a column and its pops, on a factor's lists within a room. Refuses 1, 4, 5, 6, 7 before the first step, with the
+// stack list as it was, and from the steps on 14, 21, 22, 23 and 24; then, and when done, the stack list is zero.
 pub fn run(
     n: u64,
     starts: &[u64],
@@ -33,7 +33,18 @@ pub fn run(
     room: u64,
     stack: &mut [u32],
 ) -> Answer
-    ensures { λ r. ⌜ _≡_ {A = Outcome (List ℕ)} (record { answer = r; lent = now (stack .exit) }) (ran (record { n = n; starts = now (starts .entry); rows = now (rows .entry); columns = now (columns .entry); pops = now (pops .entry); room = room; stack = now (stack .entry) })) ⌝ }
+    ensures { λ r. ⌜
+        EndsAs r (now (stack .exit))
+        (ran (record {
+          n = n;
+          starts = now (starts .entry);
+          rows = now (rows .entry);
+          columns = now (columns .entry);
+          pops = now (pops .entry);
+          room = room;
+          stack = now (stack .entry);
+        }))
+        ⌝ }
 {
     if papers::MAX_COLUMNS < n {
         return basics::answered(1, 0, 0);

@@ -30,7 +30,10 @@ pub fn store(
     work: &mut [u64],
 )
     requires { ⌜ Storable n m (now list) (now parents) (now fstarts) (now frows) (now work) ⌝ }
-    ensures { λ _. ⌜ Stores n m (now (list .entry)) (now (parents .entry)) (now (fstarts .entry)) (now (frows .entry)) (now (work .entry)) (now (parents .exit)) (now (fstarts .exit)) (now (frows .exit)) (now (work .exit)) ⌝ }
+    ensures { λ _. ⌜
+        Stores n m (now (list .entry)) (now (parents .entry)) (now (fstarts .entry)) (now (frows .entry)) (now (work .entry))
+        (now (parents .exit)) (now (fstarts .exit)) (now (frows .exit)) (now (work .exit))
+        ⌝ }
 {
     let at = fstarts[m] as usize;
     joiner::copy_at(frows, at, list);
@@ -64,7 +67,10 @@ pub fn column_lists(
 ) -> usize
     requires tested { ⌜ Tested n (now starts) (now rows) ⌝ }
     requires lengths { ⌜ Lengths n (now parents) (now fstarts) (now x) (now y) (now work) ⌝ }
-    ensures { λ r. ⌜ Listed n r (columnOf (now (starts .entry)) (now (rows .entry))) (now (parents .entry)) (now (fstarts .entry)) (now (frows .entry)) (now (parents .exit)) (now (fstarts .exit)) (now (frows .exit)) ⌝ }
+    ensures { λ r. ⌜
+        Listed n r (columnOf (now (starts .entry)) (now (rows .entry))) (now (parents .entry)) (now (fstarts .entry))
+        (now (frows .entry)) (now (parents .exit)) (now (fstarts .exit)) (now (frows .exit))
+        ⌝ }
 {
     slices::clear64(work);
     fstarts[0] = 0;

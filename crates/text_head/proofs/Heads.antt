@@ -1,6 +1,5 @@
 -- Line 1 number by number: behind those read, one more in front of a space leaves the rest of the line to say what it is; in front of a newline two
--- or three
--- numbers are a head, any other count is none.
+-- or three numbers are a head, any other count is none.
 -- Assumes nothing.
 use Prim.Native.Nat.{ℕ}
 use mathlib.Core.Path.{_≡_, refl, ap, _∙_}

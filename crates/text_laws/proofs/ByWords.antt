@@ -1,6 +1,5 @@
 -- A line read word by word: behind a number and a space come the numbers of the rest of the line, behind a number and a newline no more, and a line
--- that
--- begins with neither has none. All of it by the printed form, whose first word is fixed.
+-- that begins with neither has none. All of it by the printed form, whose first word is fixed.
 -- Assumes nothing.
 use Prim.Native.Nat.{ℕ}
 use mathlib.Core.Path.{_≡_, refl, sym, ap, _∙_}

@@ -1,6 +1,5 @@
 -- Rows read one by one to the end of the line: those read, and behind them the rest of the line, are the line's numbers. Each takes a byte at least,
--- so
--- their count stays within the place.
+-- so their count stays within the place.
 -- Assumes nothing.
 use Prim.Native.Nat.{ℕ, _+_, _<_, _≤_}
 use mathlib.Core.Path.{_≡_, refl, sym, ap, _∙_}
@@ -16,7 +15,7 @@ use Rattle.text_laws.specs.Grammar.{behind}
 use Rattle.text_laws.proofs.ByWords.{behind-none, behind-more}
 use Rattle.text_words.specs.Words.{Number}
 use Rattle.text_words.proofs.Told.{more-numbers, more-after, line-behind, last-numbers, line-ends}
-use Rattle.kept_rows.specs.Narrowed.{narrowed}
+use Rattle.text_lines.specs.Narrowed.{narrowed}
 use Rattle.text_lines.specs.declared.Line.{Line}
 use Rattle.text_lines.specs.declared.Line.the-variants.{Rows, Bad}
 use Rattle.text_lines.specs.Lines.{RowsTold, all-rows, no-rows, LineTold, row-line, bad-line}

@@ -1,6 +1,5 @@
 -- What is read of a line of rows, and what is kept of it. A store past the end of a slice stores nothing, so what is kept of rows is the same whether
--- or not all
--- find room. Of a bad line nothing is said to be kept.
+-- or not all find room. Of a bad line nothing is said to be kept.
 -- Assumes nothing.
 use Prim.Native.Nat.{ℕ, _+_, _<_, _≤_}
 use mathlib.Core.Path.{_≡_}
@@ -10,7 +9,7 @@ use lib.ListN.{length, drop}
 use lib.Seq.{sets}
 use Rattle.papers.specs.Text.{numbersAt, isRowLine}
 use Rattle.text_words.specs.Words.{LineTo}
-use Rattle.kept_rows.specs.Narrowed.{narrowed}
+use Rattle.text_lines.specs.Narrowed.{narrowed}
 use Rattle.text_lines.specs.declared.Line.{Line}
 use Rattle.text_lines.specs.declared.Line.the-variants.{Rows, Bad}
 

@@ -18,7 +18,7 @@ use Rattle.job_laws.proofs.Laid.{lists-none, lists-more, rows-laid}
 use Rattle.job_laws.proofs.Outcomes.{outcome-untouched, job-refuses}
 use Rattle.job_laws.proofs.Untouched.{job-untouched}
 use Rattle.job_laws.proofs.Passed.{PassedLists, passes-iff}
-use Rattle.kept_rows.specs.Narrowed.{narrowed}
+use Rattle.text_lines.specs.Narrowed.{narrowed}
 use Rattle.text_reader.specs.Reading.{keptJob}
 use Rattle.text_reader.proofs.Narrow.{kept-tests}
 

@@ -1,6 +1,5 @@
 -- The lines of rows read one by one: each line is the next one's beginning, its rows stand behind those before it, and the starts with them. No line
--- so far
--- has a fault, so the first that has one is the first of all.
+-- so far has a fault, so the first that has one is the first of all.
 -- Assumes nothing.
 use Prim.Native.Nat.{ℕ, suc, _+_, _-_, _<_, _≤_}
 use mathlib.Core.Path.{_≡_, refl, sym, ap, _∙_}
@@ -19,7 +18,7 @@ use Rattle.job_laws.proofs.Faults.{faulty, faults-next}
 use Rattle.text_laws.proofs.Lines.{after-next}
 use Rattle.text_laws.proofs.Numbers.{numbers-later}
 use Rattle.text_words.specs.Words.{LineTo}
-use Rattle.kept_rows.specs.Narrowed.{narrowed}
+use Rattle.text_lines.specs.Narrowed.{narrowed}
 use Rattle.text_lines.specs.declared.Line.the-variants.{Rows}
 use Rattle.text_reader.specs.declared.Lines.{Lines}
 use Rattle.text_reader.specs.declared.Lines.the-variants as lines

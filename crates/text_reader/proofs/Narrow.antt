@@ -17,7 +17,7 @@ use Rattle.list_laws.proofs.Leasts.{least-found-iff, least-same}
 use Rattle.list_laws.proofs.Tests.{below-or, Test, passes, fails, test}
 use Rattle.job_laws.proofs.Firsts.{first-passes, first-refuses, over-refuses}
 use Rattle.job_laws.proofs.Rows.{row-over, rows-fault, rows-next}
-use Rattle.kept_rows.specs.Narrowed.{narrowed}
+use Rattle.text_lines.specs.Narrowed.{narrowed}
 use Rattle.text_reader.specs.Reading.{keptJob}
 
 -- ---- the rows of a column

@@ -1,6 +1,6 @@
 -- A line of rows, from the answer of its reading: its rows are kept, or it is bad text.
 -- Assumes nothing.
-use Prim.Native.Nat.{ℕ, _+_, _-_, _≤_}
+use Prim.Native.Nat.{ℕ, _+_, _≤_}
 use mathlib.Core.Path.{_≡_, sym}
 use mathlib.Core.Bool.{false}
 use mathlib.Core.List.{List, _∷_, map}
@@ -9,7 +9,7 @@ use lib.ListN.{length, drop}
 use lib.Seq.{sets}
 use Rattle.papers.specs.Text.{numbersAt, isRowLine}
 use Rattle.text_words.specs.Words.{LineTo}
-use Rattle.kept_rows.specs.Narrowed.{narrowed}
+use Rattle.text_lines.specs.Narrowed.{narrowed}
 use Rattle.text_lines.specs.declared.Line.{Line}
 use Rattle.text_lines.specs.declared.Line.the-variants.{Rows, Bad}
 use Rattle.text_lines.specs.Lines.{LineTold, row-line, bad-line}

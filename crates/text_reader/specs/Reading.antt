@@ -1,6 +1,5 @@
 -- What is read of a job text, and what is kept of it. Rows are kept narrowed, as kept_rows does it; that the job's tests do not see the difference is
--- a
--- theorem. After a refusal nothing is said of the slices.
+-- a theorem. After a refusal nothing is said of the slices.
 -- Assumes nothing.
 use Prim.Native.Nat.{ℕ}
 use mathlib.Core.Path.{_≡_}
@@ -12,7 +11,7 @@ use Rattle.papers.specs.Lists.{flat, startsFrom}
 use Rattle.papers.specs.Job.{Job}
 use Rattle.papers.specs.Refusals.{answer, untouched, passed, refused, first}
 use Rattle.papers.specs.Text.{Input, textHead, textLists, textJob, rowLinesTest, endTest, textTests}
-use Rattle.kept_rows.specs.Narrowed.{narrowed}
+use Rattle.text_lines.specs.Narrowed.{narrowed}
 use Rattle.text_reader.specs.declared.Lines.{Lines}
 use Rattle.text_reader.specs.declared.Lines.the-variants as lines
 use Rattle.text_reader.specs.declared.JobRead.{JobRead}

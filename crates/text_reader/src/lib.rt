@@ -65,7 +65,10 @@ fn read_lines(text: &[u8], at: usize, n: u64, starts: &mut [u64], rows: &mut [u3
 // The job of a text, of which `more` says whether it goes on behind what is lent: its starts and rows at the front of the lent slices.
 pub fn read_job(text: &[u8], more: bool, starts: &mut [u64], rows: &mut [u32]) -> JobRead
     requires { ⌜ programColumns < length (now starts) ⌝ }
-    ensures { λ r. ⌜ JobTold (record { text = now (text .entry); more = more }) (now (starts .entry)) (now (rows .entry)) (now (starts .exit)) (now (rows .exit)) r ⌝ }
+    ensures { λ r. ⌜
+        JobTold (record { text = now (text .entry); more = more }) (now (starts .entry)) (now (rows .entry)) (now (starts .exit))
+        (now (rows .exit)) r
+        ⌝ }
 {
     if more {
         return JobRead::Refused {

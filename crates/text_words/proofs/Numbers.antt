@@ -1,6 +1,5 @@
 -- The number that digits make with the byte behind them. If a line that begins there has numbers, then its first is those digits, since no more of
--- them
--- follow, and a byte that ends it stands behind. So where one of the two fails the line has none.
+-- them follow, and a byte that ends it stands behind. So where one of the two fails the line has none.
 -- Assumes nothing.
 use Prim.Native.Nat.{ℕ, _+_, _<_, _≤_}
 use mathlib.Core.Path.{_≡_, refl, sym, ap, _∙_}

@@ -15,8 +15,13 @@ pub struct Block {
 
 // The block of the child at place i of the lists, which begins at step `at`.
 fn child_block(list: &[u32], counts: &[u64], i: usize, at: usize) -> Block
-    requires { ⌜ (i < length (now list)) × (getD (now list) i 0 < length (now counts)) × (getD (now counts) (getD (now list) i 0) 0 + 1 < 2 ^ 64) ⌝ }
-    ensures { λ r. ⌜ (r .column ≡ getD (now (list .entry)) i 0) × (r .size ≡ getD (now (counts .entry)) (getD (now (list .entry)) i 0) 0 + 1) × (r .at ≡ at) ⌝ }
+    requires { ⌜
+        (i < length (now list)) × (getD (now list) i 0 < length (now counts)) × (getD (now counts) (getD (now list) i 0) 0 + 1 < 2 ^ 64)
+        ⌝ }
+    ensures { λ r. ⌜
+        (r .column ≡ getD (now (list .entry)) i 0) × (r .size ≡ getD (now (counts .entry)) (getD (now (list .entry)) i 0) 0 + 1)
+        × (r .at ≡ at)
+        ⌝ }
 {
     let column = list[i] as usize;
     let size = counts[column] as usize + 1;
@@ -58,8 +63,8 @@ pub fn column(
     }
 }
 
-// Writes the steps of j's children, `left` of them, from `at` on, but for those of the largest child, whose block it hands back. The largest
-// so far is held; a child that is no larger is done at once, and a larger one takes its place.
+// Writes the steps of j's children, `left` of them, from `at` on, but for those of the largest child, whose block it hands back. The
+// largest so far is held; a child that is no larger is done at once, and a larger one takes its place.
 pub fn siblings(
     starts: &[u64],
     list: &[u32],
@@ -70,9 +75,15 @@ pub fn siblings(
     at: usize,
 ) -> Block
     requires { ⌜ Asked (now starts) (now list) (now counts) j left at (length (now order)) (kidsSteps (now starts) (now list) j) ⌝ }
-    ensures asks { λ r. ⌜ Asked (now (starts .entry)) (now (list .entry)) (now (counts .entry)) (r .column) (r .size) (r .at) (at + left) (ownSteps (now (starts .entry)) (now (list .entry)) (r .column)) ⌝ }
+    ensures asks { λ r. ⌜
+        Asked (now (starts .entry)) (now (list .entry)) (now (counts .entry)) (r .column) (r .size) (r .at) (at + left)
+        (ownSteps (now (starts .entry)) (now (list .entry)) (r .column))
+        ⌝ }
     ensures within { λ r. ⌜ (at ≤ r .at) × (0 < j → r .column < j) ⌝ }
-    ensures writes { λ r. ⌜ sets (now (order .exit)) (r .at) (ownSteps (now (starts .entry)) (now (list .entry)) (r .column)) ≡ sets (now (order .entry)) at (kidsSteps (now (starts .entry)) (now (list .entry)) j) ⌝ }
+    ensures writes { λ r. ⌜
+        sets (now (order .exit)) (r .at) (ownSteps (now (starts .entry)) (now (list .entry)) (r .column))
+        ≡ sets (now (order .entry)) at (kidsSteps (now (starts .entry)) (now (list .entry)) j)
+        ⌝ }
 {
     let end = at + left;
     let mut i = starts[j] as usize;

@@ -1,8 +1,6 @@
 -- A refused job and a short slice are ways of their own; every other way is a ruling, after which the slices are cleared, or work alone.
 -- Assumes nothing.
-use Prim.Native.Nat.{ℕ}
-use mathlib.Core.Path.{sym, ap, _∙_}
-use lib.ListN.{replicate}
+use mathlib.Core.Path.{sym, _∙_}
 use borrow.Author.Needs.{needs}
 use native.Mathlib.Omega.{arith}
 use Rattle.job_laws.proofs.Outcomes.{job-answered}
@@ -10,7 +8,7 @@ use Rattle.lent.proofs.Alike.{zeros-alike}
 use Rattle.lent.proofs.Longs.{not-short}
 use Rattle.column_laws.proofs.Testing.{tested}
 use Rattle.slices.proofs.Zeroed.{zeros-as-long}
-use Rattle.bytes_judge.proofs.Ways.{way-job, way-short, way-refused, way-done}
+use Rattle.check_bytes.proofs.Ways.{way-job, way-short, way-refused, way-done}
 use Rattle.checker.proofs.check_plan.Statement.{statement}
 use Rattle.checker.proofs.check_plan.Tie as tie
 

@@ -1,6 +1,6 @@
 -- `column_list::gather` meets its contract: no child, one child, or several, of which the longest is joined first.
 -- Assumes nothing.
-use mathlib.Core.Path.{refl, sym, _∙_}
+use mathlib.Core.Path.{refl, sym}
 use native.Mathlib.Omega.{arith}
 use lib.Seq.{length-take-le}
 use Rattle.column_laws.proofs.Columns.{tested-below}

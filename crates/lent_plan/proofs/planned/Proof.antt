@@ -1,6 +1,5 @@
 -- A law for each way out: the rows needed exceed the slice, the peak is over the limit, or the plan is held. Every call keeps the lengths.
 -- Assumes nothing.
-use mathlib.Core.Path.{_∙_}
 use native.Mathlib.Omega.{arith}
 use Rattle.column_laws.proofs.Testing.{tested}
 use Rattle.lent_plan.proofs.Plans.{made-rows, orderable, made-peak, made-done}

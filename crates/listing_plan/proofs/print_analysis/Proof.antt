@@ -1,6 +1,6 @@
 -- A refusal prints its line; an analysis that is done has the plan of the job in parts of its slices, and what is printed of them is its listing.
 -- Assumes nothing.
-use mathlib.Core.Path.{sym, ap, _∙_}
+use mathlib.Core.Path.{sym, ap}
 use native.Mathlib.Omega.{arith}
 use lib.ListN.{length}
 use lib.Seq.{length-take-le}

@@ -4,7 +4,7 @@ use mathlib.Core.List.{[], _∷_}
 use lib.ListN.{length}
 use borrow.Author.Needs.{needs}
 use Rattle.papers.specs.Text.{wordPlan, printed}
-use Rattle.step_lines.specs.Steps.{linesTo}
+use Rattle.listing_steps.specs.Steps.{linesTo}
 use Rattle.listing_plan.proofs.Parts.{header-fits, lines-fit, both-written}
 use Rattle.listing_plan.proofs.print_plan.Statement.{statement}
 use Rattle.listing_plan.proofs.print_plan.Tie as tie

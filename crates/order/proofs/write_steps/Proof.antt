@@ -1,6 +1,6 @@
 -- The lists laid out are what arranging asks for, and arranged they are what the walk asks for.
 -- Assumes nothing.
-use mathlib.Core.Path.{sym, _∙_}
+use mathlib.Core.Path.{sym}
 use native.Mathlib.Omega.{arith}
 use lib.Seq.{length-take-le}
 use borrow.Author.Needs.{needs}

@@ -1,6 +1,5 @@
 -- Where the analysis refuses, its answer is the answer; where it is done, what is stored beside it is the outcome.
 -- Assumes nothing.
-use mathlib.Core.Path.{_∙_}
 use native.Mathlib.Omega.{arith}
 use Rattle.plan_bytes.proofs.Ways.{way-refused}
 use Rattle.plan_bytes.proofs.Handed.{done-in-front, done-stored}

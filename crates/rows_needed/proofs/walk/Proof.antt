@@ -1,6 +1,6 @@
 -- `rows_needed::walk` meets its contract: the columns from c on are still to do. The measure is the number of rows ahead in all columns.
 -- Assumes nothing.
-use mathlib.Core.Path.{_≡_, refl, _∙_}
+use mathlib.Core.Path.{_≡_, refl}
 use native.Mathlib.Omega.{arith}
 use lib.ListN.{length}
 use Rattle.rows_needed.specs.Walk.{Walk}

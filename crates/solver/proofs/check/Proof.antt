@@ -4,7 +4,7 @@
 use mathlib.Core.Logic.{inl, inr, ⊎-elim}
 use borrow.Author.Needs.{needs}
 use borrow.Author.Tests.{ltb-true, ltb-false}
-use Rattle.key_reader.proofs.Wholes.{told-whole, told-unreadable}
+use Rattle.read_key.proofs.Wholes.{told-whole, told-unreadable}
 use Rattle.solver.proofs.Calls.{unreadable-is-27, over-is-26, answer-bounded, answer-called}
 use Rattle.solver.proofs.check.Statement.{statement}
 use Rattle.solver.proofs.check.Tie as tie

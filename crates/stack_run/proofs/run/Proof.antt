@@ -1,10 +1,8 @@
 -- A law for each way out: 1, 4, 5 and 6, 7, and the steps, after which the stack list is cleared.
 -- Assumes nothing.
-use mathlib.Core.Path.{ap, _∙_}
-use lib.ListN.{replicate}
 use borrow.Author.Needs.{needs}
 use native.Mathlib.Omega.{arith}
-use Rattle.held_updates.specs.Kept.{callOf}
+use Rattle.run_updates.specs.Kept.{callOf}
 use Rattle.slices.proofs.Zeroed.{zeros-as-long}
 use Rattle.stack_run.proofs.Outcomes.{run-many, run-starts, starts-pass, run-rows, factor-is, all-long, run-short, run-steps}
 use Rattle.stack_run.proofs.run.Statement.{statement}

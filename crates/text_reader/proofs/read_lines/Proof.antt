@@ -1,6 +1,5 @@
 -- The loop's invariant: the lines of the first j columns are read and without fault, and the rest of the text begins with the next. The measure is
--- the
--- columns left.
+-- the columns left.
 -- Assumes nothing.
 use Prim.Native.Nat.{_-_}
 use mathlib.Core.Path.{refl, _∙_}

@@ -1,6 +1,5 @@
 -- The loop's invariant of the siblings' task: what is there, with the block that is held stored on top, is the whole. The measure of the two tasks is
--- the depth:
--- a call for a column has at most half of the siblings' steps, and a call for siblings no more steps than the column (Column).
+-- the depth: a call for a column has at most half of the siblings' steps, and a call for siblings no more steps than the column (Column).
 -- Assumes nothing.
 mod Column
 use Prim.Native.Nat.{_+_, _-_, ℕ}

@@ -1,0 +1,43 @@
+-- What is known of a check once its tests are made, before the slices are cleared.
+-- Assumes nothing.
+use Prim.Native.Nat.{ℕ, _<_, _≤_}
+use mathlib.Core.Path.{_≡_}
+use mathlib.Core.Logic.{_≢_}
+use mathlib.Core.List.{List, map}
+use lib.ListN.{length}
+use lib.Seq.{sets}
+use Rattle.papers.specs.declared.Answer.{Answer}
+use Rattle.papers.specs.Lists.{upTo, zeros}
+use Rattle.papers.specs.Job.{Job, pattern}
+use Rattle.papers.specs.Tree.{parent}
+use Rattle.papers.specs.Refusals.{answer, zeroed, passed, refused, first, Outcome, Lent}
+use Rattle.papers.specs.Check.{CheckCall, checkTests, checkDone}
+use Rattle.lent.specs.Six.{six}
+use Rattle.read_plan.specs.declared.PlanReading.{PlanReading}
+use Rattle.read_plan.specs.declared.PlanReading.the-variants.{Whole, Faulty}
+use Rattle.check_judge.specs.Judged.{HoldPlan, Judged}
+
+abbrev pub callOf : Job → List ℕ → Lent → CheckCall
+callOf job plan lent = record { job = job; plan = plan; lent = lent }
+
+-- a refusal that is to leave zeros; or a plan that passes and stands in the slices, and work is still to be cleared
+pub data Ruled (call : CheckCall) (parents order pops starts rows : List ℕ) (r : Answer) : Type 0 where
+  refuses : first checkTests call ≡ refused r zeroed → r .number ≢ 0 → Ruled call parents order pops starts rows r
+  passes : first checkTests call ≡ passed → r .number ≡ 0
+      → _≡_ {A = Outcome Lent} (record { answer = r; lent = six parents order pops starts rows (zeros (call .lent .work)) }) (checkDone call)
+      → Ruled call parents order pops starts rows r
+
+-- a plan that was read whole, and whose rows found room, stands at the front of the slices
+abbrev pub HeldIfWhole : ℕ → PlanReading → List ℕ → List ℕ → List ℕ → List ℕ → Type 0
+HeldIfWhole n reading order pops starts rows =
+    (peak count : ℕ) → reading ≡ Whole peak count → count ≤ length rows → HoldPlan n peak order pops starts rows
+
+-- what becomes of an answer of the reading: its fault, or rows without room, or the judgement on the plan, which stores the parents where it passes
+pub data Followed (job : Job) (reading : PlanReading) (parents₀ order pops starts rows parents : List ℕ) (r : Answer) : Type 0 where
+  fault : (number place : ℕ) → reading ≡ Faulty number place → r ≡ answer number place 0
+      → Followed job reading parents₀ order pops starts rows parents r
+  over : (peak count : ℕ) → reading ≡ Whole peak count → length rows < count → r ≡ answer 8 0 count
+      → Followed job reading parents₀ order pops starts rows parents r
+  judged : (peak count : ℕ) → reading ≡ Whole peak count → count ≤ length rows → Judged job peak order pops starts rows r
+      → (r .number ≡ 0 → parents ≡ sets parents₀ 0 (map (parent (pattern job)) (upTo (job .n))))
+      → Followed job reading parents₀ order pops starts rows parents r

@@ -1,0 +1,101 @@
+// The judgement on a plan's bytes: held against the key, read into the slices, and judged there.
+use check_key::KeyMatch;
+use papers::Answer;
+use papers::JobHead;
+use read_plan::PlanReading;
+ghost use mathlib.Core.Path.{_≡_};
+ghost use Rattle.papers.specs.Job.{jobOf};
+ghost use Rattle.papers.specs.Refusals.{passed, first, jobTests};
+ghost use Rattle.lent.specs.Six.{six, LongEnough};
+ghost use Rattle.check_bytes.specs.Ruled.{callOf, Ruled, HeldIfWhole, Followed};
+
+// A fault that the reading found, or 8, or 16 to 20 and 9 of the plan that was read.
+fn judge_reading(
+    reading: PlanReading,
+    head: JobHead,
+    starts: &[u64],
+    rows: &[u32],
+    parents: &mut [u32],
+    order: &[u32],
+    pops: &[u32],
+    fstarts: &[u64],
+    frows: &[u32],
+    work: &mut [u64],
+) -> Answer
+    requires passes { ⌜ first jobTests (jobOf head (now starts) (now rows)) ≡ passed ⌝ }
+    requires held { ⌜ HeldIfWhole (head .n) reading (now order) (now pops) (now fstarts) (now frows) ⌝ }
+    requires long { ⌜ LongEnough (head .n) (six (now parents) (now order) (now pops) (now fstarts) (now frows) (now work)) ⌝ }
+    ensures { λ r. ⌜
+        Followed (jobOf head (now (starts .entry)) (now (rows .entry))) reading (now (parents .entry)) (now (order .entry))
+        (now (pops .entry)) (now (fstarts .entry)) (now (frows .entry)) (now (parents .exit)) r
+        ⌝ }
+{
+    match reading {
+        PlanReading::Faulty { number, place } => {
+            return basics::answered(number, place, 0);
+        }
+        PlanReading::Whole { peak, rows: count } => {
+            if (frows.len() as u64) < count {
+                return basics::answered(8, 0, count);
+            }
+            return check_judge::judge(
+                head,
+                peak,
+                starts,
+                rows,
+                parents,
+                order,
+                pops,
+                fstarts,
+                frows,
+                work,
+            );
+        }
+    }
+}
+
+// 11 to 15, 8, 16 to 20 and 9 for a job that passed its tests, in slices that are long enough. A plan that passes is left in them, with
+// zeros behind it; work, and after a refusal all of each slice, is still to be cleared.
+pub fn judge_bytes(
+    head: JobHead,
+    starts: &[u64],
+    rows: &[u32],
+    plan: &[u8],
+    parents: &mut [u32],
+    order: &mut [u32],
+    pops: &mut [u32],
+    fstarts: &mut [u64],
+    frows: &mut [u32],
+    work: &mut [u64],
+) -> Answer
+    requires passes { ⌜ first jobTests (jobOf head (now starts) (now rows)) ≡ passed ⌝ }
+    requires long { ⌜ LongEnough (head .n) (six (now parents) (now order) (now pops) (now fstarts) (now frows) (now work)) ⌝ }
+    ensures { λ r. ⌜
+        Ruled (callOf (jobOf head (now (starts .entry)) (now (rows .entry))) (now (plan .entry))
+        (six (now (parents .entry)) (now (order .entry)) (now (pops .entry)) (now (fstarts .entry)) (now (frows .entry))
+        (now (work .entry)))) (now (parents .exit)) (now (order .exit)) (now (pops .exit)) (now (fstarts .exit)) (now (frows .exit))
+        r
+        ⌝ }
+{
+    match check_key::match_key(head, starts, rows, plan) {
+        KeyMatch::Differs { place } => {
+            return basics::answered(11, place, 0);
+        }
+        KeyMatch::Begins { next } => {
+            lent::clear_all(parents, order, pops, fstarts, frows, work);
+            let reading = read_plan::read_plan(head.n, plan, next, order, pops, fstarts, frows);
+            return judge_reading(
+                reading,
+                head,
+                starts,
+                rows,
+                parents,
+                order,
+                pops,
+                fstarts,
+                frows,
+                work,
+            );
+        }
+    }
+}

@@ -1,0 +1,50 @@
+-- A plan as slices hold it: its steps are of known columns, and the test of repeats is made on them.
+-- Assumes nothing.
+use Prim.Native.Nat.{ℕ, _≤_}
+use mathlib.Core.Path.{_≡_, ap, _∙_}
+use mathlib.Core.Logic.{_≢_}
+use mathlib.Core.List.{List, []}
+use lib.ListN.{length, getD}
+use Rattle.papers.specs.declared.Answer.{Answer}
+use Rattle.papers.specs.Lists.{_∈_, least}
+use Rattle.papers.specs.Job.{Job}
+use Rattle.papers.specs.Plan.{Plan, columnsIn}
+use Rattle.papers.specs.Refusals.{answer, passed, first}
+use Rattle.papers.specs.Check.{repeated, repeatTest}
+use Rattle.list_laws.proofs.Members.{at-place}
+use Rattle.job_laws.proofs.Parts.{length-columns, length-pops}
+use Rattle.refusal_laws.proofs.PlanSteps.{Steps}
+use Rattle.plan_laws.proofs.Steps.{columns-within}
+use Rattle.check_steps.specs.Steps.{Within}
+use Rattle.check_judge.specs.Judged.{PlanHeld, judgeTests, ruling}
+use Rattle.check_judge.proofs.Rulings.{ruling-refused, decides, at-refuses, at-passes}
+
+module _ {n peak : ℕ} {plan : Plan} {order pops fstarts : List ℕ} (held : PlanHeld n plan peak order pops fstarts) where
+  pub read : Steps n n (columnsIn (plan .steps))
+  read = (length-columns (held .fit), columns-within n (plan .steps) (held .fit .steps))
+
+  pub order-length : length order ≡ n
+  order-length = ap length (held .columns) ∙ read .0
+
+  pub pops-length : length pops ≡ n
+  pops-length = ap length (held .popped) ∙ length-pops (held .fit)
+
+  pub in-range : (j : ℕ) → j ∈ order → (1 ≤ j) × (j ≤ n)
+  in-range j m = read .1 j (rw (held .columns) at m)
+
+  pub within : Within (length order) order
+  within k h = rw order-length (in-range (getD order k 0) (at-place order k h))
+
+-- ---- 16
+module _ (job : Job) (plan : Plan) {peak : ℕ} {order pops fstarts : List ℕ} (held : PlanHeld (job .n) plan peak order pops fstarts) {p : ℕ}
+    (e : p ≡ least (repeated order) (length order)) where
+  found : p ≡ least (repeated (columnsIn (plan .steps))) (job .n)
+  found = rw (order-length held, held .columns) at e
+
+  pub refuses-16 : p ≢ 0 → {r : Answer} → r ≡ answer 16 p 0 → r ≡ ruling (first (judgeTests job) plan) peak
+  unfolding judgeTests repeatTest
+  refuses-16 z q = ruling-refused peak (decides [] (repeatTest job) _ plan tt (at-refuses 16 p found z)) q
+
+  pub passes-16 : p ≡ 0 → repeatTest job plan ≡ passed
+  unfolding repeatTest
+  passes-16 z = at-passes 16 found z

@@ -1,0 +1,70 @@
+-- The test of a plan's lists as slices hold them; where it passes, the parents that it has stored are the job's, and the tests of the tree are left.
+-- Assumes nothing.
+use Prim.Native.Nat.{ℕ, _+_, _≤_}
+use mathlib.Core.Path.{_≡_, sym, ap, _∙_}
+use mathlib.Core.Logic.{_≢_}
+use mathlib.Core.List.{List, [], _∷_, map}
+use native.Mathlib.Omega.{arith}
+use lib.ListN.{length, take, length-map}
+use lib.Seq.{sets, sets-eq, take-at}
+use Rattle.papers.specs.declared.Answer.{Answer}
+use Rattle.papers.specs.Lists.{upTo}
+use Rattle.papers.specs.Job.{Job, pattern}
+use Rattle.papers.specs.Tree.{parent}
+use Rattle.papers.specs.Plan.{Plan}
+use Rattle.papers.specs.Refusals.{answer, passed, first, jobTests}
+use Rattle.papers.specs.Check.{repeatTest, listTest}
+use Rattle.list_laws.proofs.UpTo.{length-upTo}
+use Rattle.job_laws.proofs.Firsts.{first-passes}
+use Rattle.check_lists.specs.Lists.{PlanLists, HoldLists, FirstWrong}
+use Rattle.check_judge.specs.Judged.{InFront, OnTree, SomeOnTree, treeTests, judgeTests, ruling}
+use Rattle.check_judge.proofs.Rulings.{ruling-refused, decides, at-refuses, at-passes}
+
+module _ (job : Job) (valid : first jobTests job ≡ passed) (plan : Plan) {peak : ℕ} {order pops fstarts frows : List ℕ}
+    (front : InFront (job .n) plan peak order pops fstarts frows) where
+  plan-lists : PlanLists (job .n) (plan .lists) fstarts frows
+  plan-lists =
+      record { count = front .held .fit .all-lists; fit = front .held .fit .lists; starts-are = front .held .begins; rows-are = front .listed }
+
+  pub lists-held : HoldLists (job .n) fstarts frows
+  lists-held = record { lists = plan .lists; are = plan-lists }
+
+  module _ (unrepeated : repeatTest job plan ≡ passed) where
+    -- ---- 17
+    module _ {p : ℕ} (e : FirstWrong (job .n) (pattern job) fstarts frows p) where
+      pub refuses-17 : p ≢ 0 → {r : Answer} → r ≡ answer 17 p 0 → r ≡ ruling (first (judgeTests job) plan) peak
+      unfolding judgeTests listTest
+      refuses-17 z q =
+          ruling-refused peak (decides (repeatTest job ∷ []) (listTest job) _ plan (unrepeated, tt) (at-refuses 17 p (e (plan .lists) plan-lists) z))
+          q
+
+      pub passes-17 : p ≡ 0 → listTest job plan ≡ passed
+      unfolding listTest
+      passes-17 z = at-passes 17 (e (plan .lists) plan-lists) z
+
+    module _ (right : listTest job plan ≡ passed) where
+      -- the tests of the tree are left, of a plan on the job's tree
+      pub left-to-tree : {r : Answer} → r ≡ ruling (first (treeTests job) plan) peak → r ≡ ruling (first (judgeTests job) plan) peak
+      unfolding judgeTests
+      left-to-tree q = q ∙ sym (ap (λ v. ruling v peak) (first-passes _ _ plan unrepeated ∙ first-passes _ _ plan right))
+
+      pub on-tree : {limit : ℕ} {parents : List ℕ} → job .limit ≡ limit → parents ≡ map (parent (pattern job)) (upTo (job .n))
+          → OnTree job plan limit peak parents (take (job .n) order) (take (job .n) pops) (take (job .n + 1) fstarts)
+      on-tree l e = record { valid = valid; limited = l; held = front .held; unrepeated = unrepeated; right = right; parents-are = e }
+
+      pub some-on-tree : {limit : ℕ} {parents : List ℕ} → job .limit ≡ limit → parents ≡ map (parent (pattern job)) (upTo (job .n))
+          → SomeOnTree limit peak parents (take (job .n) order) (take (job .n) pops) (take (job .n + 1) fstarts)
+      some-on-tree l e = record { job = job; plan = plan; on = on-tree l e }
+
+length-family : (f : ℕ → ℕ) (n : ℕ) → length (map f (upTo n)) ≡ n
+length-family f n = length-map (upTo n) f ∙ length-upTo n
+
+pub parents-count : (f : ℕ → ℕ) (n : ℕ) {parents : List ℕ} → parents ≡ map f (upTo n) → length parents ≡ n
+parents-count f n e = ap length e ∙ length-family f n
+
+-- the front of a slice in which the parents are stored
+pub parents-in-front : (f : ℕ → ℕ) (n : ℕ) (parents : List ℕ) {after : List ℕ} → n ≤ length parents → after ≡ sets parents 0 (map f (upTo n))
+    → take n after ≡ map f (upTo n)
+parents-in-front f n parents h e =
+    let long = length-family f n in
+    rw (e, sets-eq (map f (upTo n)) parents 0 (omega arith)) (take-at (map f (upTo n)) _ n long)

@@ -1,0 +1,55 @@
+-- A plan whose lists are R: the parents and the starts in the slices name the pattern's tree and its rows.
+-- Assumes nothing.
+use Prim.Native.Nat.{ℕ, _≤_}
+use mathlib.Core.Path.{_≡_, sym, ap, _∙_}
+use mathlib.Core.List.{List}
+use native.Mathlib.Omega.{arith}
+use lib.ListN.{length}
+use Rattle.papers.specs.Bounds.{maxColumns}
+use Rattle.papers.specs.Lists.{Distinct}
+use Rattle.papers.specs.Job.{Job, Below, pattern}
+use Rattle.papers.specs.Tree.{parent}
+use Rattle.papers.specs.Plan.{Plan, columnsIn}
+use Rattle.job_laws.proofs.Passed.{passes-iff, passed-below}
+use Rattle.plan_laws.proofs.PlanSound.{repeat-iff}
+use Rattle.tree.specs.Parents.{parentIn, TreeIn}
+use Rattle.order.proofs.Ties.{length-parents, parents-tie, rowed}
+use Rattle.check_steps.specs.Steps.{Within}
+use Rattle.check_subtrees.specs.Steps.{EachOnce}
+use Rattle.check_judge.specs.Judged.{OnTree}
+use Rattle.check_judge.proofs.Helds.{order-length, pops-length, in-range, within}
+
+module _ {job : Job} {plan : Plan} {limit greatest : ℕ} {parents order pops fstarts : List ℕ} (on : OnTree job plan limit greatest parents order pops
+    fstarts) where
+  pub below : Below (job .n) (pattern job)
+  below = passed-below job (passes-iff job .0 (on .valid))
+
+  pub columns-few : job .n ≤ maxColumns
+  columns-few = passes-iff job .0 (on .valid) .few
+
+  pub parents-length : length parents ≡ job .n
+  parents-length = ap length (on .parents-are) ∙ length-parents below
+
+  pub same-parents : parentIn parents ≡ parent (pattern job)
+  same-parents = rw (on .parents-are) (λ i j. parents-tie below j i)
+
+  pub tree-in : TreeIn parents
+  tree-in = rw (on .parents-are) (rowed below columns-few .tree)
+
+  pub as-long : length order ≡ length parents
+  as-long = order-length (on .held) ∙ sym parents-length
+
+  pub pops-as-long : length pops ≡ length parents
+  pops-as-long = pops-length (on .held) ∙ sym parents-length
+
+  pub once : Distinct (columnsIn (plan .steps))
+  once = repeat-iff job plan (on .held .fit) .0 (on .unrepeated)
+
+  pub each-once : EachOnce (length parents) order
+  each-once = record { range = λ j m. rw parents-length (in-range (on .held) j m); once = rw (on .held .columns) once }
+
+  pub few : length parents ≤ maxColumns
+  few = omega (arith, parents-length, columns-few)
+
+  pub within-order : Within (length order) order
+  within-order = within (on .held)

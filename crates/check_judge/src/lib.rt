@@ -1,0 +1,94 @@
+// The judgement on a plan that was read: tests 16 to 20 and 9.
+use papers::Answer;
+use papers::JobHead;
+ghost use mathlib.Core.Path.{_≡_};
+ghost use mathlib.Core.List.{map};
+ghost use Prim.Native.Nat.{_≤_};
+ghost use lib.ListN.{length};
+ghost use lib.Seq.{sets};
+ghost use Rattle.papers.specs.Bounds.{workLength};
+ghost use Rattle.papers.specs.Lists.{upTo};
+ghost use Rattle.papers.specs.Job.{jobOf, columnOf};
+ghost use Rattle.papers.specs.Tree.{parent};
+ghost use Rattle.papers.specs.Refusals.{passed, first, jobTests};
+ghost use Rattle.lent.specs.Six.{six, LongEnough};
+ghost use Rattle.check_judge.specs.Judged.{HoldPlan, SomeOnTree, TreeJudged, Judged};
+
+// 18, 19, 20 and 9 of a plan whose lists are right; done, the count is the peak. parents are those of the lists.
+fn judge_tree(
+    limit: u64,
+    peak: u64,
+    parents: &[u32],
+    order: &[u32],
+    pops: &[u32],
+    fstarts: &[u64],
+    work: &mut [u64],
+) -> Answer
+    requires plan { ⌜ SomeOnTree limit peak (now parents) (now order) (now pops) (now fstarts) ⌝ }
+    requires room { ⌜ workLength (length (now parents)) ≤ length (now work) ⌝ }
+    ensures { λ r. ⌜ TreeJudged limit peak (now (parents .entry)) (now (order .entry)) (now (pops .entry)) (now (fstarts .entry)) r ⌝ }
+{
+    let top = check_subtrees::first_scattered(parents, order, work);
+    if top != 0 {
+        return basics::answered(18, top, 0);
+    }
+    let step = check_steps::first_wrong_pops(parents, order, pops, work);
+    if step != 0 {
+        return basics::answered(19, step, 0);
+    }
+    let greatest = room::peak(fstarts, order, pops, work);
+    if greatest != peak {
+        return basics::answered(20, 0, greatest);
+    }
+    if limit < greatest {
+        return basics::answered(9, 0, greatest);
+    }
+    basics::answered(0, 0, greatest)
+}
+
+// 16 to 20 and 9 of a plan that was read, at the front of the slices; peak is what it declares. Where it passes, the job's parents are
+// stored, and the count is the peak.
+pub fn judge(
+    head: JobHead,
+    peak: u64,
+    starts: &[u64],
+    rows: &[u32],
+    parents: &mut [u32],
+    order: &[u32],
+    pops: &[u32],
+    fstarts: &[u64],
+    frows: &[u32],
+    work: &mut [u64],
+) -> Answer
+    requires valid { ⌜ first jobTests (jobOf head (now starts) (now rows)) ≡ passed ⌝ }
+    requires plan { ⌜ HoldPlan (head .n) peak (now order) (now pops) (now fstarts) (now frows) ⌝ }
+    requires long { ⌜ LongEnough (head .n) (six (now parents) (now order) (now pops) (now fstarts) (now frows) (now work)) ⌝ }
+    ensures answers { λ r. ⌜
+        Judged (jobOf head (now (starts .entry)) (now (rows .entry))) peak (now (order .entry)) (now (pops .entry))
+        (now (fstarts .entry)) (now (frows .entry)) r
+        ⌝ }
+    ensures stores { λ r. ⌜
+        (r .number ≡ 0 → now (parents .exit)
+        ≡ sets (now (parents .entry)) 0 (map (parent (columnOf (now (starts .entry)) (now (rows .entry)))) (upTo (head .n))))
+        ⌝ }
+{
+    let n = head.n as usize;
+    let steps = &order[..n];
+    let step = check_steps::first_repeat(steps, work);
+    if step != 0 {
+        return basics::answered(16, step, 0);
+    }
+    let column = check_lists::first_wrong_list(n, starts, rows, fstarts, frows, parents, work);
+    if column != 0 {
+        return basics::answered(17, column, 0);
+    }
+    judge_tree(
+        head.limit,
+        peak,
+        &parents[..n],
+        steps,
+        &pops[..n],
+        &fstarts[..n + 1],
+        work,
+    )
+}

@@ -1,0 +1,22 @@
+-- A number below 128 is one byte, which is there; anything else is left to the comparison of all its bytes.
+-- Assumes nothing.
+use mathlib.Core.Path.{sym, _∙_}
+use borrow.Author.Needs.{needs}
+use Rattle.check_key.proofs.Bytes.{one-byte}
+use Rattle.check_key.proofs.match_number.Statement.{statement}
+use Rattle.check_key.proofs.match_number.Tie as tie
+
+-- The places that the answers look back to: `then1 (search)` is the one behind the answer at hand.
+abbrev then1 : tie.Then1 → tie.Then1
+then1 c = c
+
+abbrev then2 : tie.Then2 → tie.Then2
+then2 c = c
+
+returns : tie.Need-returns
+returns c = one-byte _ _ _ (then2 (search) .if2 .taken) (then1 (search) .if1 .taken) (sym (c .before .wide8 .ensures .0) ∙ c .if3 .taken)
+
+pub match-number-spec : {M : Type 1} → statement M
+match-number-spec =
+    tie.close
+    (tie.spec (λ c. search needs) (λ c κs. search needs) (λ c. search needs) returns (λ c κs. search needs) (λ c. search needs))

@@ -1,0 +1,169 @@
+// A plan's bytes held against the job's key, number by number: the bytes of each number are made and compared where they should stand.
+ghost use mathlib.Core.Path.{_≡_};
+ghost use mathlib.Core.List.{[], _∷_};
+ghost use Prim.Native.Nat.{_≤_};
+ghost use lib.ListN.{length};
+ghost use lib.Seq.{slice};
+ghost use Rattle.papers.specs.Bounds.{maxColumns};
+ghost use Rattle.papers.specs.Numbers.{bytesOf, encode};
+ghost use Rattle.papers.specs.Job.{jobOf, columnOf};
+ghost use Rattle.papers.specs.Key.{gapsOf, listNumbers, listsNumbers, listsOf, keyOf};
+ghost use Rattle.papers.specs.Refusals.{passed, first, startsTest, rowsTest, jobTests};
+ghost use Rattle.groups.specs.Fits.{Fits};
+ghost use Rattle.write_gaps.specs.ListAt.{ListAt};
+ghost use Rattle.check_key.specs.Matches.{matchFrom, keyMatch};
+use papers::JobHead;
+
+// What the comparison finds: the plan begins with the key, and next is the place behind it; or the first byte, counted from 1, that is
+// not the key's, or that the plan has not.
+pub enum KeyMatch {
+    Begins { next: usize },
+    Differs { place: u64 },
+}
+
+// Holds the bytes of x against the plan from `at` on. The first i are there.
+fn match_groups(plan: &[u8], at: usize, x: u64) -> KeyMatch
+    requires { ⌜ Fits x × (at ≤ length (now plan)) ⌝ }
+    ensures { λ r. ⌜ r ≡ matchFrom (bytesOf x) (now (plan .entry)) at ⌝ }
+{
+    let groups = groups::number(x);
+    let bytes = groups.bytes;
+    let count = groups.count;
+    let mut i = 0;
+    while i < count {
+        let k = at + i;
+        let place = k as u64 + 1;
+        if plan.len() <= k {
+            return KeyMatch::Differs { place };
+        }
+        if plan[k] != bytes[i] {
+            return KeyMatch::Differs { place };
+        }
+        i += 1;
+    }
+    KeyMatch::Begins { next: at + i }
+}
+
+// The same. Most numbers have one group, which is compared without the little array.
+fn match_number(plan: &[u8], at: usize, x: u64) -> KeyMatch
+    requires { ⌜ Fits x × (at ≤ length (now plan)) ⌝ }
+    ensures { λ r. ⌜ r ≡ matchFrom (bytesOf x) (now (plan .entry)) at ⌝ }
+{
+    if at < plan.len() {
+        if x < 128 {
+            if basics::wide8(plan[at]) == x {
+                return KeyMatch::Begins { next: at + 1 };
+            }
+        }
+    }
+    match_groups(plan, at, x)
+}
+
+// Two numbers, one behind the other.
+fn match_two(plan: &[u8], at: usize, x: u64, y: u64) -> KeyMatch
+    requires { ⌜ Fits x × Fits y × (at ≤ length (now plan)) ⌝ }
+    ensures { λ r. ⌜ r ≡ matchFrom (encode (x ∷ y ∷ [])) (now (plan .entry)) at ⌝ }
+{
+    match match_number(plan, at, x) {
+        KeyMatch::Differs { place } => {
+            return KeyMatch::Differs { place };
+        }
+        KeyMatch::Begins { next } => {
+            return match_number(plan, next, y);
+        }
+    }
+}
+
+// The gaps of the rows of column j, which stand from `from` up to `to`. Those before i are there, up to k; `before` is the last of
+// them, or j.
+fn match_gaps(plan: &[u8], at: usize, rows: &[u32], from: usize, to: usize, j: u64) -> KeyMatch
+    requires { ⌜ (at ≤ length (now plan)) × ListAt j (now rows) from to ⌝ }
+    ensures { λ r. ⌜ r ≡ matchFrom (encode (gapsOf j (slice from to (now (rows .entry))))) (now (plan .entry)) at ⌝ }
+{
+    let mut k = at;
+    let mut before = j;
+    let mut i = from;
+    while i < to {
+        let row = basics::wide32(rows[i]);
+        match match_number(plan, k, row - before) {
+            KeyMatch::Differs { place } => {
+                return KeyMatch::Differs { place };
+            }
+            KeyMatch::Begins { next } => {
+                k = next;
+                before = row;
+                i += 1;
+            }
+        }
+    }
+    KeyMatch::Begins { next: k }
+}
+
+// The list of column j, its count and its gaps.
+fn match_list(plan: &[u8], at: usize, rows: &[u32], from: usize, to: usize, j: u64) -> KeyMatch
+    requires { ⌜ (at ≤ length (now plan)) × ListAt j (now rows) from to ⌝ }
+    ensures { λ r. ⌜ r ≡ matchFrom (encode (listNumbers j (slice from to (now (rows .entry))))) (now (plan .entry)) at ⌝ }
+{
+    match match_number(plan, at, (to - from) as u64) {
+        KeyMatch::Differs { place } => {
+            return KeyMatch::Differs { place };
+        }
+        KeyMatch::Begins { next } => {
+            return match_gaps(plan, next, rows, from, to, j);
+        }
+    }
+}
+
+// The lists of the columns 1 to n. Those of the first `done` are there, up to k.
+fn match_lists(n: u64, starts: &[u64], rows: &[u32], plan: &[u8], at: usize) -> KeyMatch
+    requires inside { ⌜ at ≤ length (now plan) ⌝ }
+    requires few { ⌜ n ≤ maxColumns ⌝ }
+    requires starts_pass { ⌜ startsTest n (now starts) (now rows) ≡ passed ⌝ }
+    requires rows_pass { ⌜ rowsTest n (now starts) (now rows) ≡ passed ⌝ }
+    ensures { λ r. ⌜
+        r ≡ matchFrom (encode (listsNumbers 1 (listsOf n (columnOf (now (starts .entry)) (now (rows .entry)))))) (now (plan .entry)) at
+        ⌝ }
+{
+    let mut k = at;
+    let mut done = 0;
+    while done < n {
+        let c = done as usize;
+        match match_list(
+            plan,
+            k,
+            rows,
+            starts[c] as usize,
+            starts[c + 1] as usize,
+            done + 1,
+        ) {
+            KeyMatch::Differs { place } => {
+                return KeyMatch::Differs { place };
+            }
+            KeyMatch::Begins { next } => {
+                k = next;
+                done += 1;
+            }
+        }
+    }
+    KeyMatch::Begins { next: k }
+}
+
+// Holds the key of a job that passes its tests against the beginning of the plan.
+pub fn match_key(head: JobHead, starts: &[u64], rows: &[u32], plan: &[u8]) -> KeyMatch
+    requires { ⌜ first jobTests (jobOf head (now starts) (now rows)) ≡ passed ⌝ }
+    ensures { λ r. ⌜ r ≡ keyMatch (keyOf (jobOf head (now (starts .entry)) (now (rows .entry)))) (now (plan .entry)) ⌝ }
+{
+    match match_two(plan, 0, papers::EDITION, head.n) {
+        KeyMatch::Differs { place } => {
+            return KeyMatch::Differs { place };
+        }
+        KeyMatch::Begins { next: middle } => match match_two(plan, middle, head.mark, head.limit) {
+            KeyMatch::Differs { place } => {
+                return KeyMatch::Differs { place };
+            }
+            KeyMatch::Begins { next } => {
+                return match_lists(head.n, starts, rows, plan, next);
+            }
+        },
+    }
+}

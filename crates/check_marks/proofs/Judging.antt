@@ -1,0 +1,66 @@
+-- A list held against R(m + 1): an ascending list that has as many rows, each of them a row of it, is R(m + 1).
+-- Assumes nothing.
+use Prim.Native.Nat.{ℕ, _+_}
+use mathlib.Core.Path.{_≡_, sym, ap, _∙_}
+use mathlib.Core.Logic.{_⊎_, inl, inr, _≢_}
+use mathlib.Core.Bool.{true, false}
+use mathlib.Core.List.{List, _∷_, List·Memᴰ·cases-cons}
+use native.Mathlib.Omega.{arith}
+use lib.ListN.{length, getD}
+use borrow.Author.Tests.{eqb-true, eq-eqb}
+use Rattle.papers.specs.Lists.{_∈_, Asc, member, same, every}
+use Rattle.papers.specs.Job.{Pattern, Below}
+use Rattle.papers.specs.Fill.{R}
+use Rattle.list_laws.proofs.Tests.{Test, passes, fails, test, true-false}
+use Rattle.list_laws.proofs.Ascending.{asc-above, asc-distinct, asc-ext}
+use Rattle.list_laws.proofs.Counts.{distinct-length}
+use Rattle.list_laws.proofs.Members.{member-true, member-into, same-true, same-refl}
+use Rattle.bytes_laws.proofs.Gaps.{RowsFit}
+use Rattle.fill_laws.proofs.Fill.{R-asc}
+use Rattle.order_laws.proofs.TogetherTest.{every-all}
+use Rattle.child_lists.specs.Marks.{isMarked}
+use Rattle.check_marks.specs.Marked.{Counted}
+
+-- as many rows of an ascending list as it has, ascending, are all of it
+pub asc-whole : (b : ℕ) (xs ys : List ℕ) → Asc b xs → Asc b ys → ((i : ℕ) → i ∈ xs → i ∈ ys) → length xs ≡ length ys → xs ≡ ys
+asc-whole b xs ys s t into many = asc-ext b xs ys s t into (λ i m. there i m (test (member i xs)))
+  where
+    there : (i : ℕ) → i ∈ ys → Test (member i xs) → i ∈ xs
+    there i m (passes e) = member-true i xs e
+    there i m (fails e) =
+        absurd (omega (
+          arith,
+          distinct-length (i ∷ xs) ys ((λ k. true-false (member-into i xs k) e), asc-distinct b xs s)
+              (λ k t. pick k (List·Memᴰ·cases-cons t)),
+        ))
+      where
+        pick : (k : ℕ) → (k ≡ i) ⊎ (k ∈ xs) → k ∈ ys
+        pick k (inl q) = rw q m
+        pick k (inr t) = into k t
+
+module _ {n m : ℕ} {A : Pattern} {w₀ w : List ℕ} {count : ℕ} (c : Counted n m A w₀ w count) (l : List ℕ) where
+  -- a list with more rows or fewer
+  pub not-as-many : length l ≢ count → false ≡ same l (R A (m + 1))
+  not-as-many h = go (test (same l (R A (m + 1))))
+    where
+      go : Test (same l (R A (m + 1))) → false ≡ same l (R A (m + 1))
+      go (passes e) = absurd (h (ap length (same-true l (R A (m + 1)) e) ∙ sym (c .counts)))
+      go (fails e) = sym e
+
+  -- one with as many: just where all are marked
+  pub as-many : Below n A → RowsFit n (m + 1) l → length l ≡ count → every (isMarked n (m + 1) w) l ≡ same l (R A (m + 1))
+  as-many good f h = go (test (every (isMarked n (m + 1) w) l)) (test (same l (R A (m + 1))))
+    where
+      marked-in : every (isMarked n (m + 1) w) l ≡ true → (i : ℕ) → i ∈ l → i ∈ R A (m + 1)
+      marked-in e i t =
+          c .marks .sound i (omega (arith, asc-above (m + 1) l (f .0) t)) (eqb-true (getD w (n + n + i) 0) (m + 1)
+          (every-all (isMarked n (m + 1) w) l .0 e i t))
+
+      go : Test (every (isMarked n (m + 1) w) l) → Test (same l (R A (m + 1))) → every (isMarked n (m + 1) w) l ≡ same l (R A (m + 1))
+      go (passes e) t =
+          let is = asc-whole (m + 1) l (R A (m + 1)) (f .0) (R-asc good (m + 1)) (marked-in e) (h ∙ c .counts) in
+          e ∙ sym (ap (λ x. same x (R A (m + 1))) is ∙ same-refl (R A (m + 1)))
+      go (fails e) (passes q) =
+          let is = same-true l (R A (m + 1)) q in
+          absurd (true-false (every-all (isMarked n (m + 1) w) l .1 (λ i t. eq-eqb (getD w (n + n + i) 0) (m + 1) (c .marks .all i (rw is at t)))) e)
+      go (fails e) (fails q) = e ∙ sym q

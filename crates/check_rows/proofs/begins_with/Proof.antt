@@ -1,0 +1,26 @@
+-- `check_rows::begins_with` meets its contract: the front of the list is as long as the other list and the same.
+-- Assumes nothing.
+use mathlib.Core.Path.{refl, sym, _∙_}
+use lib.Seq.{length-take-le}
+use borrow.Author.Needs.{needs}
+use Rattle.list_laws.proofs.Tests.{true-false}
+use Rattle.list_laws.proofs.Members.{same-true}
+use Rattle.check_rows.proofs.begins_with.Statement.{statement}
+use Rattle.check_rows.proofs.begins_with.Tie as tie
+
+-- The places that the answers look back to: `else1 (search)` is the one behind the answer at hand.
+abbrev else1 : tie.Else1 → tie.Else1
+else1 c = c
+
+returns : tie.Need-returns
+returns c = λ e. absurd (true-false e refl)
+
+slice-aggregate-same-rows : tie.Need-slice-aggregate-same-rows
+slice-aggregate-same-rows c = sym (length-take-le _ _ (c .before .if1 .left))
+
+returns-2 : tie.Need-returns-2
+returns-2 c = λ e. (else1 (search) .if1 .left, same-true _ _ (sym (c .same-rows .ensures) ∙ e))
+
+pub begins-with-spec : {M : Type 1} → statement M
+begins-with-spec =
+    tie.close (tie.spec returns slice-aggregate-same-rows (λ c κs. search needs) returns-2)

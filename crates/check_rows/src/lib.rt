@@ -1,0 +1,76 @@
+// Tests of a list of rows: whether it is another, whether it begins with another, and whether what it has besides are just the pattern
+// rows. In work the mark of row i stands at n + n + i.
+ghost use mathlib.Core.Path.{_≡_};
+ghost use mathlib.Core.Bool.{true};
+ghost use Prim.Native.Nat.{_≤_};
+ghost use lib.ListN.{length, take};
+ghost use Rattle.papers.specs.Lists.{keep, same};
+ghost use Rattle.child_lists.specs.Marks.{marked, isMarked, Markable};
+ghost use Rattle.check_rows.specs.Added.{addsOwn};
+
+// Whether two lists are the same. Those before k are alike, or a difference was seen; the loop goes on all the same, so that many rows
+// are compared at once.
+pub fn same_rows(a: &[u32], b: &[u32]) -> bool
+    ensures { λ r. ⌜ r ≡ same (now (a .entry)) (now (b .entry)) ⌝ }
+{
+    if a.len() != b.len() {
+        return false;
+    }
+    let mut alike = true;
+    let mut k = 0;
+    while k < a.len() {
+        if a[k] == b[k] {
+            k += 1;
+        } else {
+            alike = false;
+            k += 1;
+        }
+    }
+    alike
+}
+
+// Whether a list begins with the rows of another.
+pub fn begins_with(list: &[u32], more: &[u32]) -> bool
+    ensures { λ r. ⌜
+        (r ≡ true → (length (now (more .entry)) ≤ length (now (list .entry)))
+        × (take (length (now (more .entry))) (now (list .entry)) ≡ now (more .entry)))
+        ⌝ }
+{
+    if list.len() < more.len() {
+        return false;
+    }
+    same_rows(&list[..more.len()], more)
+}
+
+// How many rows of a list are marked for column j. Of those before k it is count.
+fn count_marked(n: usize, j: usize, list: &[u32], work: &[u64]) -> usize
+    requires { ⌜ Markable n (now list) (now work) ⌝ }
+    ensures { λ r. ⌜ r ≡ length (keep (isMarked n j (now (work .entry))) (now (list .entry))) ⌝ }
+{
+    let mut count = 0;
+    let mut k = 0;
+    while k < list.len() {
+        if work[n + n + list[k] as usize] == j as u64 {
+            count += 1;
+            k += 1;
+        } else {
+            k += 1;
+        }
+    }
+    count
+}
+
+// Whether a list whose first rows, up to place p, are given otherwise has the pattern rows as well, and behind p nothing else. Marks
+// the pattern rows.
+pub fn adds_own(n: usize, j: usize, list: &[u32], p: usize, own: &[u32], work: &mut [u64]) -> bool
+    requires own { ⌜ Markable n (now own) (now work) ⌝ }
+    requires list { ⌜ Markable n (now list) (now work) × (p ≤ length (now list)) ⌝ }
+    ensures answers { λ r. ⌜ r ≡ addsOwn n j (now (list .entry)) p (now (own .entry)) (now (work .exit)) ⌝ }
+    ensures marks { λ _. ⌜ now (work .exit) ≡ marked n j (now (own .entry)) (now (work .entry)) ⌝ }
+{
+    child_lists::mark(n, j, own, work);
+    if count_marked(n, j, list, work) != own.len() {
+        return false;
+    }
+    child_lists::covered(n, j, &list[p..], work)
+}

@@ -1,0 +1,16 @@
+-- A column of the list is at most as high as the list is long.
+-- Assumes nothing.
+use mathlib.Core.Path.{refl}
+use native.Mathlib.Omega.{arith}
+use borrow.Author.Needs.{needs}
+use Rattle.check_steps.proofs.column_at.Statement.{statement}
+use Rattle.check_steps.proofs.column_at.Tie as tie
+
+cast-result : tie.Need-cast-result
+cast-result c = omega (arith, c .shared-slice-known .given (c .before .args .i))
+
+returns : tie.Need-returns
+returns c = (refl, c .before .pre .0 (c .before .args .i) (c .before .pre .1) .1)
+
+pub column-at-spec : {M : Type 1} → statement M
+column-at-spec = tie.close (tie.spec (λ c. search needs) (λ c. search needs) cast-result returns)

@@ -1,0 +1,78 @@
+-- Each way out is a case of the definition; steps and counts are at most as many as there may be columns, so no sum is too great.
+-- Assumes nothing.
+use mathlib.Core.Logic.{⊎-elim}
+use native.Mathlib.Omega.{arith}
+use denote.Ref.{now}
+use borrow.Author.Tests.{leb-true, leb-false}
+use borrow.Author.Needs.{needs}
+use Rattle.check_subtrees.proofs.Placing.{root-judged, late-judged, early-judged, none-judged, sums-fit}
+use Rattle.check_subtrees.proofs.stray_step.Statement.{statement}
+use Rattle.check_subtrees.proofs.stray_step.Tie as tie
+
+-- The places that the answers look back to: `entry (search)` is the one behind the answer at hand.
+abbrev entry : tie.Start → tie.Start
+entry c = c
+
+abbrev else1 : tie.Else1 → tie.Else1
+else1 c = c
+
+abbrev then2 : tie.Then2 → tie.Then2
+then2 c = c
+
+cast-p : tie.Need-cast-p
+cast-p c = omega (arith, c .shared-slice-known .given (c .before .args .i))
+
+returns : tie.Need-returns
+returns c = root-judged _ (now (entry (search) .args .steps)) (now (entry (search) .args .below)) _ (c .if1 .taken)
+
+mul-top : tie.Need-mul-top
+mul-top c = let h = sums-fit _ _ _ _ (entry (search) .pre .0) (entry (search) .pre .1) (c .if1 .left) in search needs
+
+shared-slice-read-top : tie.Need-shared-slice-read-top
+shared-slice-read-top c = sums-fit _ _ _ _ (entry (search) .pre .0) (entry (search) .pre .1) (c .before .if1 .left) .0
+
+add-if3-2 : tie.Need-add-if3-2
+add-if3-2 c = let h = sums-fit _ _ _ _ (entry (search) .pre .0) (entry (search) .pre .1) (else1 (search) .if1 .left) in search needs
+
+mul-if3-2 : tie.Need-mul-if3-2
+mul-if3-2 c = let h = sums-fit _ _ _ _ (entry (search) .pre .0) (entry (search) .pre .1) (else1 (search) .if1 .left) in search needs
+
+shared-slice-read-if3-2 : tie.Need-shared-slice-read-if3-2
+shared-slice-read-if3-2 c = sums-fit _ _ _ _ (entry (search) .pre .0) (entry (search) .pre .1) (else1 (search) .if1 .left) .1
+
+add-if3-3 : tie.Need-add-if3-3
+add-if3-3 c = let h = sums-fit _ _ _ _ (entry (search) .pre .0) (entry (search) .pre .1) (else1 (search) .if1 .left) in search needs
+
+returns-2 : tie.Need-returns-2
+returns-2 c =
+    let args = entry (search) .args in
+    none-judged _ (now (args .steps)) (now (args .below)) _ (else1 (search) .if1 .left) (then2 (search) .if2 .taken) (leb-true _ _ (c .if3 .taken))
+
+returns-3 : tie.Need-returns-3
+returns-3 c =
+    let args = entry (search) .args in
+    ⊎-elim (λ w. early-judged _ (now (args .steps)) (now (args .below)) _ (else1 (search) .if1 .left) (w .0 .taken) (leb-false _ _ (w .3 .left)))
+    (λ w. late-judged _ (now (args .steps)) (now (args .below)) _ (else1 (search) .if1 .left) (w .left)) (c .if2 .came)
+
+pub stray-step-spec : {M : Type 1} → statement M
+stray-step-spec =
+    tie.close
+    (tie.spec
+    (λ c. search needs)
+    (λ c. search needs)
+    cast-p
+    returns
+    mul-top
+    shared-slice-read-top
+    (λ c. search needs)
+    (λ c. search needs)
+    (λ c. search needs)
+    (λ c. search needs)
+    (λ c. search needs)
+    (λ c. search needs)
+    add-if3-2
+    mul-if3-2
+    shared-slice-read-if3-2
+    add-if3-3
+    returns-2
+    returns-3)

@@ -1,0 +1,39 @@
+-- Columns that stray from their parents. A subtree of b + 1 columns whose top is done at step s should take the steps from s - b to s; so a
+-- column's steps should lie within its parent's.
+-- Assumes nothing.
+use Prim.Native.Nat.{ℕ, zero, suc, _+_, _≤_, min}
+use mathlib.Core.Path.{_≡_}
+use mathlib.Core.Bool.{true, false, _&&_}
+use mathlib.Core.List.{List}
+use lib.Dec.{leb, eqb}
+use lib.ListN.{length}
+use Rattle.papers.specs.Bounds.{maxColumns}
+use Rattle.tree.specs.Parents.{TreeIn}
+use Rattle.check_subtrees.specs.Steps.{listed}
+
+-- 0 where c's steps lie within its parent's, and for a root; else the parent's step
+unfoldable pub strayStep : (ℕ → ℕ) → (ℕ → ℕ) → (ℕ → ℕ) → ℕ → ℕ
+strayStep par step below c =
+    elim (eqb (par c) 0) [
+      | true ↦ 0
+      | false ↦ elim (leb (step c) (step (par c)) && leb (step (par c) + below c) (step c + below (par c))) [ true ↦ 0 | false ↦ step (par c) ]
+    ]
+
+-- the lesser of two steps; 0 stands for none
+unfoldable pub earlier : ℕ → ℕ → ℕ
+earlier zero b = b
+earlier (suc a) zero = suc a
+earlier (suc a) (suc b) = min (suc a) (suc b)
+
+-- the least of f 1 to f n, leaving out 0; 0 where nothing is left
+unfoldable pub earliest : (ℕ → ℕ) → ℕ → ℕ
+earliest f zero = 0
+earliest f (suc n) = earlier (earliest f n) (f (suc n))
+
+-- lists of steps and of counts of descendants for the columns of a tree
+pub record Placed (parents steps below : List ℕ) : Type 0 where
+  pub tree : TreeIn parents
+  pub steps-length : length steps ≡ length parents + 1
+  pub below-length : length below ≡ length parents + 1
+  pub steps-low : (c : ℕ) → 1 ≤ c → c ≤ length parents → listed steps c ≤ maxColumns
+  pub below-low : (c : ℕ) → 1 ≤ c → c ≤ length parents → listed below c ≤ maxColumns

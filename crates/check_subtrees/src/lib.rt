@@ -1,0 +1,95 @@
+// The test of refusal 18: the first step whose column's subtree does not take consecutive steps that end there.
+// A subtree of w columns whose top is done at step s should take the w steps that end at s. It does just where every column under its top
+// lies in that window, and that is seen from child to parent: a column strays if it is done after its parent, or if its own window begins
+// before its parent's. The least step of a parent that a child strays from is the answer: at every step before it all is well.
+ghost use mathlib.Core.Path.{_≡_};
+ghost use Prim.Native.Nat.{_+_, _<_, _≤_};
+ghost use lib.ListN.{length};
+ghost use Rattle.papers.specs.Bounds.{maxColumns, workLength};
+ghost use Rattle.papers.specs.Lists.{least};
+ghost use Rattle.papers.specs.Check.{scattered};
+ghost use Rattle.tree.specs.Parents.{parentIn, TreeIn};
+ghost use Rattle.check_subtrees.specs.Steps.{EachOnce, listed, StepsIn};
+ghost use Rattle.check_subtrees.specs.Strays.{strayStep, earlier, earliest, Placed};
+
+// The step of each column. The first k steps are written.
+fn write_steps(order: &[u32], steps: &mut [u64])
+    requires { ⌜ EachOnce (length (now order)) (now order) × (length (now steps) ≡ length (now order) + 1) ⌝ }
+    ensures { λ _. ⌜ StepsIn (now (order .entry)) (now (steps .exit)) ⌝ }
+{
+    let mut k = 0;
+    while k < order.len() {
+        steps[order[k] as usize] = (k + 1) as u64;
+        k += 1;
+    }
+}
+
+// The step of the parent of the column at place i, if the column strays from it; else 0. Its window begins at own less its count of
+// descendants, its parent's at top less the parent's; the counts change sides, so that nothing falls below 0.
+fn stray_step(parents: &[u32], steps: &[u64], below: &[u64], i: usize) -> u64
+    requires { ⌜ Placed (now parents) (now steps) (now below) × (i < length (now parents)) ⌝ }
+    ensures { λ r. ⌜ r ≡ strayStep (parentIn (now (parents .entry))) (listed (now (steps .entry))) (listed (now (below .entry))) (i + 1) ⌝ }
+{
+    let p = parents[i] as usize;
+    if p == 0 {
+        return 0;
+    }
+    let top = steps[p];
+    let own = steps[i + 1];
+    if own <= top && top + below[i + 1] <= own + below[p] {
+        return 0;
+    }
+    top
+}
+
+// The lesser of two steps; 0 stands for none.
+fn earlier(a: u64, b: u64) -> u64
+    ensures { λ r. ⌜ r ≡ earlier a b ⌝ }
+{
+    if a == 0 {
+        return b;
+    }
+    if b == 0 {
+        return a;
+    }
+    if a < b {
+        return a;
+    }
+    b
+}
+
+// The least step of a parent that a child strays from, 0 if none does. The first i columns are judged.
+fn first_stray(parents: &[u32], steps: &[u64], below: &[u64]) -> u64
+    requires { ⌜ Placed (now parents) (now steps) (now below) ⌝ }
+    ensures { λ r. ⌜
+        r ≡ earliest (strayStep (parentIn (now (parents .entry))) (listed (now (steps .entry))) (listed (now (below .entry))))
+        (length (now (parents .entry)))
+        ⌝ }
+{
+    let mut first = 0;
+    let mut i = 0;
+    while i < parents.len() {
+        first = earlier(first, stray_step(parents, steps, below, i));
+        i += 1;
+    }
+    first
+}
+
+// The first step whose column's subtree is scattered, 0 if none is. In work stand the steps of the columns, and behind them the counts of
+// their descendants.
+pub fn first_scattered(parents: &[u32], order: &[u32], work: &mut [u64]) -> u64
+    requires tree { ⌜ TreeIn (now parents) × (length (now parents) ≤ maxColumns) ⌝ }
+    requires order { ⌜ EachOnce (length (now parents)) (now order) × (length (now order) ≡ length (now parents)) ⌝ }
+    requires room { ⌜ workLength (length (now parents)) ≤ length (now work) ⌝ }
+    ensures { λ r. ⌜
+        r ≡ least (scattered (parentIn (now (parents .entry))) (length (now (parents .entry))) (now (order .entry)))
+        (length (now (parents .entry)))
+        ⌝ }
+{
+    let m = parents.len() + 1;
+    let e = m + m;
+    write_steps(order, &mut work[..m]);
+    tree::count_descendants(parents, &mut work[m..e]);
+    let listed = &work[..];
+    first_stray(parents, &listed[..m], &listed[m..e])
+}

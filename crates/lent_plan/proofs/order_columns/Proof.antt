@@ -1,0 +1,52 @@
+-- The order works in the front of order and pops; work is cleared after it.
+-- Assumes nothing.
+use mathlib.Core.Path.{sym}
+use lib.Seq.{length-take-le}
+use native.Mathlib.Omega.{arith}
+use Rattle.lent_plan.proofs.Orderings.{order-given, ordering-made}
+use borrow.Author.Needs.{needs}
+use Rattle.lent_plan.proofs.order_columns.Statement.{statement}
+use Rattle.lent_plan.proofs.order_columns.Tie as tie
+
+-- The places that the answers look back to: `entry (search)` is the one behind the answer at hand.
+abbrev entry : tie.Start → tie.Start
+entry c = c
+
+abbrev ordered : tie.After-order-of → tie.After-order-of
+ordered c = c
+
+abbrev cleared : tie.After-clear64 → tie.After-clear64
+cleared c = c
+
+slice-aggregate-order-of-3 : tie.Need-slice-aggregate-order-of-3
+slice-aggregate-order-of-3 c = sym (length-take-le _ _ (entry (search) .pre .order-long))
+
+slice-aggregate-order-of-4 : tie.Need-slice-aggregate-order-of-4
+slice-aggregate-order-of-4 c = sym (length-take-le _ _ (entry (search) .pre .pops-long))
+
+order-of-requires : tie.Need-order-of-requires
+order-of-requires c κs = order-given (entry (search) .pre)
+
+returns : tie.Need-returns
+returns c =
+    ordering-made (entry (search) .pre) (ordered (search) .order-of .last .1 .1 .1 .1 .1 .0) (ordered (search) .order-of .ensures .0)
+    (ordered (search) .order-of .ensures .1 .0) (ordered (search) .order-of .ensures .1 .1) (omega (arith, ordered (search) .order-of .kept))
+    (cleared (search) .clear64 .ensures)
+
+pub order-columns-spec : {M : Type 1} → statement M
+order-columns-spec =
+    tie.close
+    (tie.spec
+    (λ c. search needs)
+    (λ c. search needs)
+    (λ c. search needs)
+    (λ c. search needs)
+    slice-aggregate-order-of-3
+    (λ c. search needs)
+    slice-aggregate-order-of-4
+    order-of-requires
+    (λ c κs. search needs)
+    (λ c. search needs)
+    (λ c. search needs)
+    (λ c. search needs)
+    returns)

@@ -1,0 +1,89 @@
+-- One digit, or the last digit behind those of the tenth, which is smaller: the measure is the number itself.
+-- Assumes nothing.
+use Prim.Native.Nat.{ℕ, _<_}
+use native.Mathlib.Omega.{arith}
+use borrow.Author.Needs.{needs}
+use Rattle.listing_lines.proofs.Digits.{one-fits, one-written, last-fits, last-written}
+use borrow.Fn.Kinds.{In}
+use borrow.Fn.PlainCycle.{Measures, is, falls, and}
+use Rattle.listing_lines.proofs.write_decimal.Reads as write-decimal
+use Rattle.listing_lines.proofs.write_decimal.Kinds as write-decimal-kinds
+use Rattle.listing_lines.proofs.+write_decimal.Lts-write_decimal as lts
+use Rattle.listing_lines.proofs.+write_decimal.{statement}
+use Rattle.listing_lines.proofs.+write_decimal.Tie.{close}
+
+abbrev μ-write-decimal : Measures 1 write-decimal-kinds.ps ℕ
+μ-write-decimal κs a = a .0
+
+module _ (t : ℕ) where
+  abbrev here : In 1 write-decimal-kinds.ps
+  here = and 1 write-decimal-kinds.ps (is 1 write-decimal-kinds.ps μ-write-decimal t) write-decimal.Pre
+
+  abbrev below : In 1 write-decimal-kinds.ps
+  below = and 1 write-decimal-kinds.ps (falls 1 write-decimal-kinds.ps _<_ μ-write-decimal t) write-decimal.Pre
+
+  abbrev calls : lts.Claims
+  calls = (below, write-decimal.Post)
+
+  -- The places that the answers look back to: `entry (search)` is the one behind the answer at hand.
+  abbrev entry : lts.Start calls here write-decimal.Post → lts.Start calls here write-decimal.Post
+  entry c = c
+
+  abbrev else1 : lts.Else1 calls here write-decimal.Post → lts.Else1 calls here write-decimal.Post
+  else1 c = c
+
+  abbrev written : lts.After-write-decimal calls here write-decimal.Post → lts.After-write-decimal calls here write-decimal.Post
+  written c = c
+
+  slice-write-bytes : lts.Need-slice-write-bytes calls here write-decimal.Post
+  slice-write-bytes c =
+      let e = entry (search) in one-fits (e .args .x) (e .args .at) (e .args .bytes .now) (c .if1 .taken) (e .pre .1)
+
+  returns : lts.Need-returns calls here write-decimal.Post
+  returns c = let e = entry (search) in one-written (e .args .x) (e .args .at) (e .args .bytes .now) (c .if1 .taken)
+
+  write-decimal-requires : lts.Need-write-decimal-requires calls here write-decimal.Post
+  write-decimal-requires c κs =
+      let e = entry (search) in
+      let l = else1 (search) .if1 .left in (
+        omega (arith, e .pre .0),
+        omega (arith, last-fits (e .args .x) (e .args .at) (e .args .bytes .now) l (e .pre .1)),
+      )
+
+  slice-write-bytes-2 : lts.Need-slice-write-bytes-2 calls here write-decimal.Post
+  slice-write-bytes-2 c =
+      let e = entry (search) in
+      let h = last-fits (e .args .x) (e .args .at) (e .args .bytes .now) (else1 (search) .if1 .left) (e .pre .1) in
+      omega (arith, written (search) .write-decimal .ensures .0, written (search) .write-decimal .kept)
+
+  add-result-2 : lts.Need-add-result-2 calls here write-decimal.Post
+  add-result-2 c =
+      let e = entry (search) in
+      let h = last-fits (e .args .x) (e .args .at) (e .args .bytes .now) (else1 (search) .if1 .left) (e .pre .1) in
+      let p = written (search) .write-decimal .ensures .0 in search needs
+
+  returns-2 : lts.Need-returns-2 calls here write-decimal.Post
+  returns-2 c =
+      let e = entry (search) in
+      last-written (e .args .x) (e .args .at) (e .args .bytes .now) (else1 (search) .if1 .left)
+      (written (search) .write-decimal .ensures .0) (written (search) .write-decimal .ensures .1)
+
+  closed : {M : Type 1} → lts.Closed calls here write-decimal.Post M
+  closed =
+      lts.spec calls here write-decimal.Post
+      (λ c. search needs)
+      (λ c. search needs)
+      slice-write-bytes
+      (λ c. search needs)
+      (λ c. search needs)
+      returns
+      write-decimal-requires
+      (λ c. search needs)
+      (λ c. search needs)
+      slice-write-bytes-2
+      add-result-2
+      (λ c. search needs)
+      returns-2
+
+pub +write-decimal-spec : {M : Type 1} → statement M
++write-decimal-spec = close μ-write-decimal (λ t. closed t)

@@ -1,0 +1,79 @@
+-- Bytes that were stored in their slice, or refused there, are stored or refused beside the others.
+-- Assumes nothing.
+use Prim.Native.Nat.{ℕ, _<_, _≤_}
+use mathlib.Core.Path.{_≡_, sym, ap, _∙_}
+use mathlib.Core.Logic.{_≢_, _⊎_, inl, inr}
+use mathlib.Core.List.{List}
+use native.Mathlib.Omega.{arith}
+use lib.ListN.{length}
+use Rattle.papers.specs.declared.Answer.{Answer}
+use Rattle.papers.specs.Lists.{zeros, thenZeros}
+use Rattle.papers.specs.Refusals.{answer, zeroed, Outcome, Lent, allZero, bytesTest}
+use Rattle.papers.specs.Analysis.{PlanLent, planZero}
+use Rattle.list_laws.proofs.Tests.{below-or}
+use Rattle.job_laws.proofs.Firsts.{first-last, over-refuses, over-passes-iff}
+use Rattle.job_laws.proofs.Outcomes.{outcome-zeroed, outcome-done}
+use Rattle.write_stored.specs.Stored.{stored}
+use Rattle.write_stored.proofs.Stores.{short-is, whole-is}
+use Rattle.plan_bytes.specs.Beside.{storedBeside}
+
+module _ (written : List ℕ) (slices : PlanLent) where
+  pub beside-short : length (slices .bytes) < length written
+      → storedBeside written slices ≡ record {
+        answer = answer 10 0 (length written);
+        lent = record {
+          analysis = allZero (slices .analysis);
+          bytes = zeros (slices .bytes);
+        };
+      }
+  unfolding storedBeside bytesTest planZero
+  beside-short h =
+      outcome-zeroed _ _ planZero slices slices
+      (first-last (λ lent. bytesTest written (lent .bytes)) slices ∙ over-refuses (length (slices .bytes)) (length written)
+      (answer 10 0 (length written)) zeroed h)
+
+  pub beside-whole : length written ≤ length (slices .bytes)
+      → storedBeside written slices ≡ record {
+        answer = answer 0 0 (length written);
+        lent = record {
+          analysis = slices .analysis;
+          bytes = thenZeros written (slices .bytes);
+        };
+      }
+  unfolding storedBeside bytesTest
+  beside-whole h =
+      outcome-done _ _ planZero slices slices
+      (first-last (λ lent. bytesTest written (lent .bytes)) slices ∙ over-passes-iff (length (slices .bytes)) (length written)
+      (answer 10 0 (length written)) zeroed .1 h)
+
+  module _ {r : Answer} {bytes : List ℕ} (e : _≡_ {A = Outcome (List ℕ)} (record { answer = r; lent = bytes }) (stored written (slices .bytes))) where
+    answered : {b : Answer} {l : List ℕ} → stored written (slices .bytes) ≡ record { answer = b; lent = l } → r ≡ b
+    answered f = ap (λ (o : Outcome (List ℕ)). o .answer) (e ∙ f)
+
+    left : {b : Answer} {l : List ℕ} → stored written (slices .bytes) ≡ record { answer = b; lent = l } → bytes ≡ l
+    left f = ap (λ (o : Outcome (List ℕ)). o .lent) (e ∙ f)
+
+    numbered : {b : Answer} → r ≡ b → r .number ≡ b .number
+    numbered f = ap (λ (a : Answer). a .number) f
+
+    -- 10
+    pub refused-beside : {after : Lent} → r .number ≢ 0 → after ≡ allZero (slices .analysis)
+        → _≡_ {A = Outcome PlanLent} (record { answer = r; lent = record { analysis = after; bytes = bytes } }) (storedBeside written slices)
+    refused-beside {after} z a = go (below-or (length (slices .bytes)) (length written))
+      where
+        go : (length (slices .bytes) < length written) ⊎ (length written ≤ length (slices .bytes))
+            → _≡_ {A = Outcome PlanLent} (record { answer = r; lent = record { analysis = after; bytes = bytes } }) (storedBeside written slices)
+        go (inl h) = let f = short-is written (slices .bytes) h in rw (a, answered f, left f) (sym (beside-short h))
+        go (inr h) = absurd (z (numbered (answered (whole-is written (slices .bytes) h))))
+
+    -- done
+    pub done-beside : r .number ≡ 0
+        → _≡_ {A = Outcome PlanLent} (record { answer = r; lent = record { analysis = slices .analysis; bytes = bytes } })
+        (storedBeside written slices)
+    done-beside z = go (below-or (length (slices .bytes)) (length written))
+      where
+        go : (length (slices .bytes) < length written) ⊎ (length written ≤ length (slices .bytes))
+            → _≡_ {A = Outcome PlanLent} (record { answer = r; lent = record { analysis = slices .analysis; bytes = bytes } })
+            (storedBeside written slices)
+        go (inl h) = absurd (omega (arith, numbered (answered (short-is written (slices .bytes) h))))
+        go (inr h) = let f = whole-is written (slices .bytes) h in rw (answered f, left f) (sym (beside-whole h))

@@ -1,0 +1,81 @@
+-- The list of a column is its count and the rows behind it: the first number at fault is the list's fault, and rows read to the end are the list.
+-- Where the quick reader of rows leaves off, the other keeps its rows over those kept.
+-- Assumes nothing.
+use Prim.Native.Nat.{zero, suc, ℕ, _+_, _-_, _*_, _^_, _<_, _≤_}
+use mathlib.Core.List.{List}
+use mathlib.Core.Path.{_≡_, sym, ap, _∙_}
+use mathlib.Core.Logic.{_≢_}
+use native.Mathlib.Omega.{arith}
+use lib.ListN.{length}
+use lib.Seq.{sets}
+use mir.Facts.{fits-of-lt}
+use mir.Syntax.{w64}
+use mir.Val.{Fits}
+use Rattle.papers.specs.Bounds.{maxColumns}
+use Rattle.papers.specs.Plan.{readList, got, bad, field, readRows}
+use Rattle.list_laws.proofs.Stores.{sets-over}
+use Rattle.bytes_laws.proofs.Fields as fields
+use Rattle.bytes_laws.proofs.Fields.{then-got, then-bad}
+use Rattle.bytes_laws.proofs.Reaches.{rows-reach}
+use Rattle.read_fields.proofs.Onto.{fails, ends}
+use Rattle.read_fields.specs.Reading.{Told, finds, refuses}
+use Rattle.read_fields.specs.declared.Reading.{Reading}
+use Rattle.read_fields.specs.declared.Reading.the-variants.{Found}
+use Rattle.read_rows.specs.Rows.{RowsRead, QuickRead}
+use Rattle.read_rows.proofs.Rows.{rows-none}
+use Rattle.read_lists.specs.Lists.{RowsIn}
+
+-- ---- the count and the rows behind it
+
+module _ (n j : ℕ) (s : List ℕ) (at : ℕ) where
+  pub list-bad : {c p : ℕ} → field 0 (n - j) s at ≡ bad c p → readList n j s at ≡ bad c p
+  unfolding readList
+  list-bad e = then-bad _ e
+
+  pub list-got : {count m : ℕ} → field 0 (n - j) s at ≡ got count m → readList n j s at ≡ readRows n j count s m
+  unfolding readList
+  list-got e = then-got _ e
+
+-- a count that is found, behind which rows are to be kept from place t on, no further on than it is read
+module _ {n at count next : ℕ} {s : List ℕ} (j t : ℕ) (few : n ≤ maxColumns) (before : t ≤ at) (found : fields.Found 0 (n - j) s at count next) where
+  pub place-behind : t ≤ next
+  place-behind = let on = found .on in omega arith
+
+  pub count-few : count ≤ maxColumns
+  count-few = let high = found .high in omega arith
+
+  pub total-fits : at ≤ length s → length s * 1 < 2 ^ 63 → Fits w64 (t + count)
+  total-fits inside room = let e : t + count < 2 ^ 64 = let h = count-few in omega arith in fits-of-lt e
+
+-- ---- rows read one by one
+
+module _ (n b : ℕ) (s : List ℕ) (at : ℕ) where
+  rows-bad : (k : ℕ) {c p : ℕ} → 0 < k → field 1 (n - b) s at ≡ bad c p → readRows n b k s at ≡ bad c p
+  unfolding readRows
+  rows-bad zero z e = absurd (omega arith)
+  rows-bad (suc k) z e = then-bad _ e
+
+module _ {n : ℕ} {s : List ℕ} {j count at t : ℕ} {rows₀ rows : List ℕ} {k last left total : ℕ} (x : RowsRead n s j count at t rows₀ rows k last left
+    total) where
+  pub rows-fault : {number place : ℕ} → 0 < left → field 1 (n - last) s k ≡ bad number place → readRows n j count s at ≡ bad number place
+  rows-fault h e = fails (x .list) (x .whole) (rows-bad n last s k left h e)
+
+  pub rows-stop : left ≡ 0 → Told (λ list. t + length list) (RowsIn t rows₀ rows) (readRows n j count s at) (Found total k)
+  rows-stop z = finds (x .list) k (ends (x .list) (x .whole) (rows-none n last s k left z)) (ap (λ (v : ℕ). Found v k) (x .placed)) (x .kept)
+
+-- ---- rows read quickly
+
+module _ {n : ℕ} {s : List ℕ} {j count at t : ℕ} {rows₀ rows : List ℕ} {r : ℕ} (q : QuickRead n s j count at t rows₀ rows r) where
+  pub quick-told : r ≢ 0 → Told (λ list. t + length list) (RowsIn t rows₀ rows) (readRows n j count s at) (Found (t + count) r)
+  quick-told h =
+      let (e, l) = q .whole h in
+      finds (q .list) r e (ap (λ (v : ℕ). Found (t + v) r) (sym l)) (q .kept)
+
+  -- what the other reader keeps covers what was kept
+  pub quick-again : {rows′ : List ℕ} {a : Reading} → Told (λ list. t + length list) (RowsIn t rows rows′) (readRows n j count s at) a
+      → Told (λ list. t + length list) (RowsIn t rows₀ rows′) (readRows n j count s at) a
+  quick-again (refuses number place e g) = refuses number place e g
+  quick-again (finds list next e g k) =
+      let l = rows-reach n s j count at list next e .0 in
+      let f = q .few in
+      finds list next e g (k ∙ ap (λ (m : List ℕ). sets m t list) (q .kept) ∙ sets-over (q .list) list rows₀ t (omega arith))

@@ -1,0 +1,83 @@
+-- A list is its count and, behind it, its rows. Where the quick reader leaves off, the other one begins again and keeps its rows over those kept.
+-- Assumes nothing.
+use mathlib.Core.Path.{refl}
+use borrow.Author.Needs.{needs}
+use native.Mathlib.Omega.{arith}
+use Rattle.read_fields.specs.Reading.{refuses}
+use Rattle.read_fields.proofs.Answers.{field-refused, field-found, told-of}
+use Rattle.read_lists.proofs.Lists.{list-bad, list-got, place-behind, count-few, total-fits, quick-told, quick-again}
+use Rattle.read_lists.proofs.read_list.Statement.{statement}
+use Rattle.read_lists.proofs.read_list.Tie as tie
+
+-- The places that the answers look back to: `entry (search)` is the one behind the answer at hand.
+abbrev entry : tie.Start → tie.Start
+entry c = c
+
+abbrev after-read-field : tie.After-read-field → tie.After-read-field
+after-read-field c = c
+
+abbrev after-count : tie.After-count → tie.After-count
+after-count c = c
+
+abbrev after-quick-rows : tie.After-quick-rows → tie.After-quick-rows
+after-quick-rows c = c
+
+abbrev after-read-rows : tie.After-read-rows → tie.After-read-rows
+after-read-rows c = c
+
+sub-read-field : tie.Need-sub-read-field
+sub-read-field c = entry (search) .pre .2
+
+returns : tie.Need-returns
+returns c = refuses _ _ (list-bad _ _ _ _ (field-refused _ _ _ _ (after-read-field (search) .read-field .ensures) (c .before .number .given .1))) refl
+
+quick-rows-requires : tie.Need-quick-rows-requires
+quick-rows-requires c κs =
+    let (inside, few, low, before) = entry (search) .pre in
+    let found = field-found _ _ _ _ (after-read-field (search) .read-field .ensures) (after-count (search) .count .given .1) .1 in
+    (found .inside, few, low, place-behind _ _ few before found, count-few _ _ few before found)
+
+add-t18 : tie.Need-add-t18
+add-t18 c =
+    let (inside, few, low, before) = entry (search) .pre in
+    total-fits _ _ few before (field-found _ _ _ _ (after-read-field (search) .read-field .ensures) (after-count (search) .count .given .1) .1) inside
+    (omega (arith, entry (search) .good))
+
+same-length : tie.Need-same-length
+same-length c = omega (arith, after-quick-rows (search) .quick-rows .kept)
+
+returns-2 : tie.Need-returns-2
+returns-2 c =
+    let found = field-found _ _ _ _ (after-read-field (search) .read-field .ensures) (after-count (search) .count .given .1) .0 in
+    told-of (list-got _ _ _ _ found) (quick-told (after-quick-rows (search) .quick-rows .ensures) (c .if1 .taken))
+
+read-rows-requires : tie.Need-read-rows-requires
+read-rows-requires c κs =
+    let (inside, few, low, before) = entry (search) .pre in
+    let found = field-found _ _ _ _ (after-read-field (search) .read-field .ensures) (after-count (search) .count .given .1) .1 in
+    (found .inside, few, low, place-behind _ _ few before found)
+
+same-length-2 : tie.Need-same-length-2
+same-length-2 c = omega (arith, after-read-rows (search) .read-rows .kept, after-quick-rows (search) .quick-rows .kept)
+
+returns-3 : tie.Need-returns-3
+returns-3 c =
+    let found = field-found _ _ _ _ (after-read-field (search) .read-field .ensures) (after-count (search) .count .given .1) .0 in
+    told-of (list-got _ _ _ _ found) (quick-again (after-quick-rows (search) .quick-rows .ensures) (after-read-rows (search) .read-rows .ensures))
+
+pub read-list-spec : {M : Type 1} → statement M
+read-list-spec =
+    tie.close
+    (tie.spec
+    sub-read-field
+    (λ c κs. search needs)
+    (λ c. search needs)
+    returns
+    (λ c. search needs)
+    quick-rows-requires
+    add-t18
+    same-length
+    returns-2
+    read-rows-requires
+    same-length-2
+    returns-3)

@@ -1,0 +1,84 @@
+// The list of a column read from any bytes. A row that finds no room is counted all the same.
+ghost use mathlib.Core.Path.{_≡_};
+ghost use Prim.Native.Nat.{_+_, _^_, _≤_, _<_};
+ghost use lib.ListN.{length, set};
+ghost use Rattle.papers.specs.Bounds.{maxColumns};
+ghost use Rattle.papers.specs.Plan.{readRows, readList};
+ghost use Rattle.read_fields.specs.Reading.{Told};
+ghost use Rattle.read_lists.specs.Lists.{RowsIn};
+use read_fields::Reading;
+
+// Keeps a row at place i, if the slice has that place.
+fn keep_row(rows: &mut [u32], i: usize, row: u64)
+    requires { ⌜ row < 2 ^ 32 ⌝ }
+    ensures { λ _. ⌜ now (rows .exit) ≡ set (now (rows .entry)) i row ⌝ }
+{
+    if i < rows.len() {
+        rows[i] = basics::narrow32(row);
+    }
+}
+
+// The rows of column j by their gaps, `count` of them from `at` on: keeps them from place t on while there is room, answers the place
+// behind them, kept or not. The rows before place `total` are read, `row` is the last of them, or j, and `left` are to come, the next
+// at k.
+fn read_rows(
+    plan: &[u8],
+    at: usize,
+    n: u64,
+    j: u64,
+    count: u64,
+    t: usize,
+    rows: &mut [u32],
+) -> Reading
+    requires { ⌜ (at ≤ length (now plan)) × (n ≤ maxColumns) × (j ≤ n) × (t ≤ at) ⌝ }
+    ensures { λ r. ⌜
+        Told (λ list. t + length list) (RowsIn t (now (rows .entry)) (now (rows .exit))) (readRows n j count (now (plan .entry)) at) r
+        ⌝ }
+{
+    let mut k = at;
+    let mut row = j;
+    let mut left = count;
+    let mut total = t;
+    while 0 < left {
+        match read_fields::read_field(plan, k, 1, n - row) {
+            Reading::Refused { number, place } => {
+                return Reading::Refused { number, place };
+            }
+            Reading::Found { value: gap, next } => {
+                row += gap;
+                keep_row(rows, total, row);
+                total += 1;
+                k = next;
+                left -= 1;
+            }
+        }
+    }
+    Reading::Found {
+        value: total as u64,
+        next: k,
+    }
+}
+
+// The list of column j, its count and its gaps: keeps and answers as read_rows does.
+pub fn read_list(plan: &[u8], at: usize, n: u64, j: u64, t: usize, rows: &mut [u32]) -> Reading
+    requires { ⌜ (at ≤ length (now plan)) × (n ≤ maxColumns) × (j ≤ n) × (t ≤ at) ⌝ }
+    ensures { λ r. ⌜
+        Told (λ list. t + length list) (RowsIn t (now (rows .entry)) (now (rows .exit))) (readList n j (now (plan .entry)) at) r
+        ⌝ }
+{
+    match read_fields::read_field(plan, at, 0, n - j) {
+        Reading::Refused { number, place } => {
+            return Reading::Refused { number, place };
+        }
+        Reading::Found { value: count, next } => {
+            let behind = read_rows::quick_rows(plan, next, n, j, count, t, rows);
+            if behind != 0 {
+                return Reading::Found {
+                    value: t as u64 + count,
+                    next: behind,
+                };
+            }
+            return read_rows(plan, next, n, j, count, t, rows);
+        }
+    }
+}

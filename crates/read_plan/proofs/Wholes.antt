@@ -1,0 +1,95 @@
+-- The whole plan: its parts one behind the other. The first part at fault is the plan's fault; of a plan that is read the answer is that of its last
+-- part, and its steps and lists are those read before.
+-- Assumes nothing.
+use Prim.Native.Nat.{ℕ, _+_, _<_, _≤_}
+use mathlib.Core.Bool.{Bool, true, false}
+use mathlib.Core.List.{List}
+use mathlib.Core.Path.{_≡_, refl, sym, ap, _∙_}
+use lib.Dec.{ltb}
+use lib.ListN.{length}
+use borrow.Author.Tests.{lt-ltb, le-ltb}
+use Rattle.papers.specs.Bounds.{maxPeak}
+use Rattle.papers.specs.Lists.{flat}
+use Rattle.papers.specs.Plan.{Plan, Read, got, bad, then, field, readSteps, readLists, atEnd, readPlan}
+use Rattle.bytes_laws.proofs.Fields.{got-bad, then-got, then-bad, then-only}
+use Rattle.bytes_laws.proofs.Plans.{end-only}
+use Rattle.read_plan.specs.Plans.{StepsIn, ListsIn, planReading, readPeak, peakReading, PlanIn, Keeps}
+use Rattle.read_plan.specs.declared.PlanReading.the-variants.{Whole, Faulty}
+use Rattle.read_plan.specs.declared.PlanReading.{PlanReading}
+
+-- ---- the peak and the end
+
+module _ (rows : ℕ) (s : List ℕ) (at : ℕ) where
+  pub no-peak : {number place : ℕ} → field 0 maxPeak s at ≡ bad number place → Faulty number place ≡ peakReading rows (readPeak s at)
+  unfolding readPeak peakReading
+  no-peak e = ap (peakReading rows) (sym (then-bad _ e))
+
+  module _ {peak end : ℕ} (e : field 0 maxPeak s at ≡ got peak end) where
+    -- bytes after it are 15
+    pub bytes-after : end < length s → Faulty 15 (end + 1) ≡ peakReading rows (readPeak s at)
+    unfolding readPeak peakReading atEnd
+    bytes-after h = rw (then-got _ e, lt-ltb end (length s) h, atEnd)
+
+    pub at-the-end : length s ≤ end → Whole peak rows ≡ peakReading rows (readPeak s at)
+    unfolding readPeak peakReading atEnd
+    at-the-end h = rw (then-got _ e, le-ltb end (length s) h, atEnd)
+
+-- ---- the parts
+
+module _ (n : ℕ) (s : List ℕ) (at : ℕ) where
+  pub no-steps : {number place : ℕ} → readSteps n n s at ≡ bad number place → readPlan n s at ≡ bad number place
+  unfolding readPlan
+  no-steps e = then-bad _ e
+
+  pub no-lists : {steps : List (ℕ × ℕ)} {k number place : ℕ} → readSteps n n s at ≡ got steps k → readLists n 1 n s k ≡ bad number place
+      → readPlan n s at ≡ bad number place
+  unfolding readPlan
+  no-lists e f = then-got _ e ∙ then-bad _ f
+
+-- what is answered, and kept, of a plan at fault
+pub plan-faulty : {found : Read Plan} {order₀ order pops₀ pops starts₀ starts rows₀ rows : List ℕ} {number place : ℕ} → found ≡ bad number place
+    → (Faulty number place ≡ planReading found) × Keeps found order₀ order pops₀ pops starts₀ starts rows₀ rows
+unfolding planReading
+plan-faulty e = (rw e, λ plan next f. absurd (got-bad f e))
+
+-- ---- steps and lists are read
+
+module _ (s : List ℕ) (steps : List (ℕ × ℕ)) (lists : List (List ℕ)) where
+  -- what is then left of the plan
+  rest : Read ℕ → Read Plan
+  rest found = then found λ peak at. atEnd (record { steps = steps; lists = lists; peak = peak }) s at
+
+  rest-answer : (found : Read ℕ) → peakReading (length (flat lists)) (then found λ peak at. atEnd peak s at) ≡ planReading (rest found)
+  unfolding rest then atEnd peakReading planReading
+  rest-answer (got peak at) = go (ltb at (length s))
+    where
+      go : (t : Bool) → peakReading (length (flat lists)) (elim t [ true ↦ bad 15 (at + 1) | false ↦ got peak at ])
+          ≡ planReading (elim t [ true ↦ bad 15 (at + 1) | false ↦ got (record { steps = steps; lists = lists; peak = peak }) at ])
+      go true = refl
+      go false = refl
+  rest-answer (bad number place) = refl
+
+  rest-kept : (found : Read ℕ) {plan : Plan} {next : ℕ} → rest found ≡ got plan next → (steps ≡ plan .steps) × (lists ≡ plan .lists)
+  unfolding rest
+  rest-kept found {plan} {next} e =
+      let (peak, at, f, g) = then-only _ found e in
+      let same = end-only (record { steps = steps; lists = lists; peak = peak }) plan s at next g .0 in
+      (ap (λ (p : Plan). p .steps) same, ap (λ (p : Plan). p .lists) same)
+
+-- what is answered, and kept, of a plan whose steps and lists are read
+pub plan-whole : (n : ℕ) (s : List ℕ) (at : ℕ) {order₀ order pops₀ pops starts₀ starts rows₀ rows : List ℕ} {steps : List (ℕ × ℕ)}
+    {lists : List (List ℕ)} {k m total : ℕ} {r : PlanReading}
+    → readSteps n n s at ≡ got steps k → StepsIn order₀ order pops₀ pops steps → readLists n 1 n s k ≡ got lists m → total ≡ length (flat lists)
+    → ListsIn starts₀ starts rows₀ rows lists
+    → r ≡ peakReading total (readPeak s m) → (r ≡ planReading (readPlan n s at)) × Keeps (readPlan n s at) order₀ order pops₀ pops starts₀ starts
+    rows₀ rows
+unfolding readPlan readPeak rest
+plan-whole n s at {order₀} {order} {pops₀} {pops} {starts₀} {starts} {rows₀} {rows} {steps} {lists} {m = m} e in-steps f t in-lists a =
+    let whole : readPlan n s at ≡ rest s steps lists (field 0 maxPeak s m) = then-got _ e ∙ then-got _ f in (
+      a ∙ ap (λ (x : ℕ). peakReading x (readPeak s m)) t ∙ rest-answer s steps lists (field 0 maxPeak s m) ∙ ap planReading (sym whole),
+      λ plan next g. kept plan (rest-kept s steps lists (field 0 maxPeak s m) (sym whole ∙ g)),
+    )
+  where
+    kept : (plan : Plan) → (steps ≡ plan .steps) × (lists ≡ plan .lists) → PlanIn plan order₀ order pops₀ pops starts₀ starts rows₀ rows
+    kept plan (p, q) =
+        record { columns = rw (← p) (in-steps .0); popped = rw (← p) (in-steps .1); begins = rw (← q) (in-lists .0); listed = rw (← q) (in-lists .1) }

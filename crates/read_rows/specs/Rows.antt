@@ -1,0 +1,40 @@
+-- What is read and kept of the rows of a column. A store past the end of a slice stores nothing, so what is kept of rows is the same whether or not
+-- all find room.
+-- Assumes nothing.
+use Prim.Native.Nat.{ℕ, _+_, _-_, _*_, _≤_}
+use mathlib.Core.Path.{_≡_}
+use mathlib.Core.Logic.{_≢_}
+use mathlib.Core.List.{List}
+use lib.ListN.{length}
+use lib.Seq.{sets}
+use Rattle.papers.specs.Plan.{got, onto, readRows}
+
+-- Rows of a column read and kept so far: `count` rows behind row j from `at` on, to be kept from place t on, are those read, with `last` the last
+-- of them, and the `left` ones behind it from k on, to be kept from place total on.
+pub record RowsRead (n : ℕ) (s : List ℕ) (j count at t : ℕ) (rows₀ rows : List ℕ) (k last left total : ℕ) : Type 0 where
+  pub list : List ℕ
+  pub whole : onto list (readRows n last left s k) ≡ readRows n j count s at
+  pub counted : left + length list ≡ count
+  pub placed : total ≡ t + length list
+  pub paced : at + length list ≤ k
+  pub inside : k ≤ length s
+  pub high : last ≤ n
+  pub kept : rows ≡ sets rows₀ t list
+
+-- Rows of short gaps kept so far: `count` of them behind row b, of which `last` is the last; where that is no more than n, they are read for n
+-- columns.
+pub record ShortRead (s : List ℕ) (b left at t : ℕ) (rows₀ rows : List ℕ) (count last : ℕ) : Type 0 where
+  pub list : List ℕ
+  pub many : length list ≡ count
+  pub few : count ≤ left
+  pub kept : rows ≡ sets rows₀ t list
+  pub grows : last ≤ b + 128 * count
+  pub read : (n : ℕ) → last ≤ n → RowsRead n s b left at t rows₀ rows (at + count) last (left - count) (t + count)
+
+-- Rows read quickly: as many as there are places for in the list are kept, and where r is not 0 they are the whole list, and r is the place behind
+-- it.
+pub record QuickRead (n : ℕ) (s : List ℕ) (j count at t : ℕ) (rows₀ rows : List ℕ) (r : ℕ) : Type 0 where
+  pub list : List ℕ
+  pub few : length list ≤ count
+  pub kept : rows ≡ sets rows₀ t list
+  pub whole : r ≢ 0 → (readRows n j count s at ≡ got list r) × (length list ≡ count)

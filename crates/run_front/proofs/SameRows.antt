@@ -1,0 +1,51 @@
+-- How far two lists are alike. A row that is the same counts on; and what is counted from two places on says of the whole lists what stands at
+-- these places.
+-- Assumes nothing.
+use Prim.Native.Nat.{ℕ, _+_, _-_, _<_, _≤_, min}
+use mathlib.Core.Path.{_≡_}
+use mathlib.Core.Logic.{_≢_}
+use mathlib.Core.List.{List}
+use native.Mathlib.Omega.{arith}
+use lib.ListN.{length, getD, take, drop, length-drop}
+use lib.Seq.{take-all, getD-drop}
+use Rattle.list_laws.proofs.Tests.{Compare, below, level, above, compare}
+use Rattle.run_front.specs.Search.{Same, Alike}
+
+module _ {a b : List ℕ} {i : ℕ} (s : Same a b i) where
+  pub same-next : i < min (length a) (length b) → getD a i 0 ≡ getD b i 0 → Same a b (i + 1)
+  same-next h e = record { in-first = omega arith; in-second = omega arith; same = λ k l. go k l (compare k i) }
+    where
+      go : (k : ℕ) → k < i + 1 → Compare k i → getD a k 0 ≡ getD b k 0
+      go k l (below u) = s .same k u
+      go k l (level d) = rw d e
+      go k l (above u) = absurd (omega arith)
+
+-- a list from a place on
+abbrev pub from : List ℕ → ℕ → List ℕ
+from l i = take (length l - i) (drop i l)
+
+from-is : (l : List ℕ) (i : ℕ) → from l i ≡ drop i l
+from-is l i = take-all (length l - i) (drop i l) (omega (arith, length-drop i l))
+
+getD-from : (l : List ℕ) (i k : ℕ) → getD (from l i) k 0 ≡ getD l (i + k) 0
+getD-from l i k = rw (from-is l i) (getD-drop i l k 0)
+
+length-from : (l : List ℕ) (i : ℕ) → length (from l i) ≡ length l - i
+length-from l i = rw (from-is l i) (length-drop i l)
+
+module _ (a b : List ℕ) (i j : ℕ) where
+  module _ {count : ℕ} (l : Alike (from a i) (from b j) count) where
+    pub in-first-from : i ≤ length a → i + count ≤ length a
+    in-first-from h = let q = l .first .in-first in omega (arith, length-from a i)
+
+    pub in-second-from : j ≤ length b → j + count ≤ length b
+    in-second-from h = let q = l .first .in-second in omega (arith, length-from b j)
+
+    pub same-from : (k : ℕ) → k < count → getD a (i + k) 0 ≡ getD b (j + k) 0
+    same-from k h = rw (← getD-from a i k, ← getD-from b j k) (l .first .same k h)
+
+  pub differ-from : Alike (from a i) (from b j) 0 → i < length a → j < length b → getD a i 0 ≢ getD b j 0
+  differ-from l h u e =
+      let p : i + 0 ≡ i = omega arith in
+      let q : j + 0 ≡ j = omega arith in
+      l .differ (omega (arith, length-from a i)) (omega (arith, length-from b j)) (rw (getD-from a i 0, getD-from b j 0, p, q) e)

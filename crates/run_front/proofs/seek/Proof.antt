@@ -1,0 +1,59 @@
+-- The loop's invariant: the row's place lies from low on, and low is no later than the place looked at. The measure is how many places are left.
+-- Assumes nothing.
+use Prim.Native.Nat.{_-_, _≤_}
+use native.Mathlib.Omega.{arith}
+use lib.ListN.{length}
+use borrow.Author.Needs.{needs}
+use Rattle.run_front.specs.Search.{Bracket}
+use Rattle.run_front.proofs.Places.{narrow-above, narrow-below}
+use Rattle.run_front.proofs.seek.Statement.{statement}
+use Rattle.run_front.proofs.seek.Tie as tie
+
+abbrev Inv-loop : tie.InvT-loop
+Inv-loop rows row from low₀ look₀ low look = Bracket rows row low (length rows) × (low ≤ look) × (from ≤ low)
+
+abbrev μ-loop : tie.MeasureT-loop
+μ-loop rows row from low₀ look₀ low look = length rows - look
+
+-- The places that the answers look back to: `entry (search)` is the one behind the answer at hand.
+abbrev entry : tie.Start Inv-loop μ-loop → tie.Start Inv-loop μ-loop
+entry c = c
+
+abbrev at-loop : tie.At-loop Inv-loop μ-loop → tie.At-loop Inv-loop μ-loop
+at-loop c = c
+
+abbrev in-loop : tie.In-loop Inv-loop μ-loop → tie.In-loop Inv-loop μ-loop
+in-loop c = c
+
+bisect-requires : tie.Need-bisect-requires Inv-loop μ-loop
+bisect-requires c κs = (
+  entry (search) .pre .0,
+  narrow-below (entry (search) .pre .0) (at-loop (search) .loop .inv .0) (at-loop (search) .loop .inv .1)
+      (in-loop (search) .loop-test .taken) (c .if1 .taken),
+)
+
+loop-again : tie.Need-loop-again Inv-loop μ-loop
+loop-again c = (
+  narrow-above (entry (search) .pre .0) (at-loop (search) .loop .inv .0) (in-loop (search) .loop-test .taken) (c .if1 .left),
+  omega arith,
+  omega arith,
+)
+
+pub seek-spec : {M : Type 1} → statement M
+seek-spec =
+    tie.close
+    (tie.spec
+    Inv-loop
+    μ-loop
+    (λ c. search needs)
+    (λ c. search needs)
+    (λ c. search needs)
+    bisect-requires
+    (λ c. search needs)
+    (λ c. search needs)
+    (λ c. search needs)
+    (λ c. search needs)
+    (λ c. search needs)
+    loop-again
+    (λ c κs. search needs)
+    (λ c. search needs))

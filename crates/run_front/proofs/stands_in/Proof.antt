@@ -1,0 +1,87 @@
+-- The loop's invariant: the first i rows of the update stand in the front, and the front's rows before the last one found are below the next.
+-- The measure is how many rows are left.
+-- Assumes nothing.
+use Prim.Native.Nat.{_-_}
+use native.Mathlib.Omega.{arith}
+use lib.ListN.{length}
+use borrow.Author.Needs.{needs}
+use Rattle.run_front.proofs.Sweeps.{Swept, swept-start, swept-end, to-seek, swept-column, swept-alike, swept-missing}
+use Rattle.run_front.proofs.stands_in.Statement.{statement}
+use Rattle.run_front.proofs.stands_in.Tie as tie
+
+abbrev Inv-loop : tie.InvT-loop
+Inv-loop column rows update found₀ i₀ found i = Swept column rows update found i
+
+abbrev μ-loop : tie.MeasureT-loop
+μ-loop column rows update found₀ i₀ found i = length update - i
+
+-- The places that the answers look back to: `entry (search)` is the one behind the answer at hand.
+abbrev entry : tie.Start Inv-loop μ-loop → tie.Start Inv-loop μ-loop
+entry c = c
+
+abbrev at-loop : tie.At-loop Inv-loop μ-loop → tie.At-loop Inv-loop μ-loop
+at-loop c = c
+
+abbrev in-loop : tie.In-loop Inv-loop μ-loop → tie.In-loop Inv-loop μ-loop
+in-loop c = c
+
+abbrev else1 : tie.Else1 Inv-loop μ-loop → tie.Else1 Inv-loop μ-loop
+else1 c = c
+
+abbrev after-seek : tie.After-seek Inv-loop μ-loop → tie.After-seek Inv-loop μ-loop
+after-seek c = c
+
+loop-holds : tie.Need-loop-holds Inv-loop μ-loop
+loop-holds c = swept-start _ _ _
+
+cast-if1 : tie.Need-cast-if1 Inv-loop μ-loop
+cast-if1 c = omega (arith, c .shared-slice-known3 .given (at-loop (search) .loop .i))
+
+loop-again : tie.Need-loop-again Inv-loop μ-loop
+loop-again c = swept-column (at-loop (search) .loop .inv) (in-loop (search) .loop-test .taken) (entry (search) .pre .1) (c .if1 .taken)
+
+seek-requires : tie.Need-seek-requires Inv-loop μ-loop
+seek-requires c κs = (entry (search) .pre .0, to-seek (at-loop (search) .loop .inv) (in-loop (search) .loop-test .taken))
+
+returns : tie.Need-returns Inv-loop μ-loop
+returns c =
+    swept-missing (at-loop (search) .loop .inv) (in-loop (search) .loop-test .taken) (entry (search) .pre .0) (else1 (search) .if1 .left)
+    (after-seek (search) .seek .ensures) (rw (c .if2 .taken) at (c .before .alike .ensures))
+
+loop-again-2 : tie.Need-loop-again-2 Inv-loop μ-loop
+loop-again-2 c =
+    swept-alike (entry (search) .pre .1) (at-loop (search) .loop .inv) (in-loop (search) .loop-test .taken) (after-seek (search) .seek .ensures)
+    (c .before .alike .ensures)
+
+returns-2 : tie.Need-returns-2 Inv-loop μ-loop
+returns-2 c = swept-end (c .before .loop .inv) (c .loop-test .left)
+
+pub stands-in-spec : {M : Type 1} → statement M
+stands-in-spec =
+    tie.close
+    (tie.spec
+    Inv-loop
+    μ-loop
+    loop-holds
+    (λ c. search needs)
+    (λ c. search needs)
+    cast-if1
+    (λ c. search needs)
+    (λ c. search needs)
+    loop-again
+    seek-requires
+    (λ c. search needs)
+    (λ c. search needs)
+    (λ c. search needs)
+    (λ c. search needs)
+    (λ c. search needs)
+    (λ c. search needs)
+    (λ c. search needs)
+    (λ c. search needs)
+    (λ c κs. search needs)
+    returns
+    (λ c. search needs)
+    (λ c. search needs)
+    (λ c. search needs)
+    loop-again-2
+    returns-2)

@@ -1,0 +1,18 @@
+-- The column is read where the list is known to have one.
+-- Assumes nothing.
+use Prim.Native.Nat.{_-_}
+use mathlib.Core.Path.{refl}
+use native.Mathlib.Omega.{arith}
+use borrow.Author.Needs.{needs}
+use Rattle.run_updates.proofs.held_column.Statement.{statement}
+use Rattle.run_updates.proofs.held_column.Tie as tie
+
+cast-result : tie.Need-cast-result
+cast-result c = omega (arith, c .shared-slice-known .given (c .before .args .place - 1))
+
+returns : tie.Need-returns
+returns c = (refl, c .before .pre .0 (c .before .args .place - 1) (omega arith))
+
+pub held-column-spec : {M : Type 1} → statement M
+held-column-spec =
+    tie.close (tie.spec (λ c. search needs) (λ c. search needs) (λ c. search needs) cast-result returns)

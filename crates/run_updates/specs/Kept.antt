@@ -1,0 +1,39 @@
+-- How the lent stack list and the record hold the updates of a run.
+-- Assumes nothing.
+use Prim.Native.Nat.{ℕ, zero, suc, _<_, _≤_}
+use mathlib.Core.Path.{_≡_}
+use mathlib.Core.List.{List, [], _∷_}
+use lib.ListN.{length, getD}
+use Rattle.papers.specs.Lists.{sum}
+use Rattle.papers.specs.Run.{RunCall, State, entries}
+use Rattle.run_held.specs.declared.Held.{Held}
+use Rattle.run_front.specs.Factor.{Column}
+
+-- the columns held, the top one first: the stack list has them bottom first
+unfoldable pub heldIn : ℕ → List ℕ → List ℕ
+heldIn zero stack = []
+heldIn (suc k) stack = getD stack k 0 ∷ heldIn k stack
+
+-- the state of a run that the record and the stack list hold
+abbrev pub stateOf : Held → List ℕ → State
+stateOf held stack = record { held = heldIn (held .count) stack; greatest = held .greatest }
+
+-- a run's call
+abbrev pub callOf : ℕ → List ℕ → List ℕ → List ℕ → List ℕ → ℕ → List ℕ → RunCall
+callOf n starts rows columns pops room stack =
+    record { n = n; starts = starts; rows = rows; columns = columns; pops = pops; room = room; stack = stack }
+
+-- what speaks of a factor alone takes a call without steps
+abbrev pub factorOf : ℕ → List ℕ → List ℕ → RunCall
+factorOf n starts rows = callOf n starts rows [] [] 0 []
+
+-- the first k of the stack list are columns of 1 to n
+abbrev pub Columns : ℕ → ℕ → List ℕ → Type 0
+Columns n k stack = (i : ℕ) → i < k → Column n (getD stack i 0)
+
+-- the stack list holds columns of 1 to n, at most n of them, and the record has the entries of their updates
+pub record Kept (n : ℕ) (starts rows stack : List ℕ) (held : Held) : Type 0 where
+  pub few : held .count ≤ n
+  pub listed : n ≤ length stack
+  pub columns : Columns n (held .count) stack
+  pub entries-are : held .entries ≡ sum (entries (factorOf n starts rows) (heldIn (held .count) stack))

@@ -1,0 +1,44 @@
+-- The parts of the buffers that are lent are within them, and hold the lists of the key.
+-- Assumes nothing.
+use mathlib.Core.Path.{sym}
+use native.Mathlib.Omega.{arith}
+use lib.Seq.{length-take-le}
+use borrow.Author.Needs.{needs}
+use Rattle.solver.proofs.Keys.{key-answer}
+use Rattle.solver.proofs.check_for_key.Statement.{statement}
+use Rattle.solver.proofs.check_for_key.Tie as tie
+
+-- The places that the answers look back to: `entry (search)` is the one behind the answer at hand.
+abbrev entry : tie.Start → tie.Start
+entry c = c
+
+abbrev read : tie.After-read-lists → tie.After-read-lists
+read c = c
+
+slice-aggregate-check-in-buffers : tie.Need-slice-aggregate-check-in-buffers
+slice-aggregate-check-in-buffers c =
+    let h = entry (search) .pre .1 .0 in let k = read (search) .read-lists .kept in sym (length-take-le _ _ (omega arith))
+
+slice-aggregate-check-in-buffers-2 : tie.Need-slice-aggregate-check-in-buffers-2
+slice-aggregate-check-in-buffers-2 c =
+    let h = entry (search) .pre .1 .1 in let k = read (search) .read-lists .kept in sym (length-take-le _ _ (omega arith))
+
+returns : tie.Need-returns
+returns c =
+    key-answer (entry (search) .pre .0) (entry (search) .pre .1 .0) (entry (search) .pre .1 .1) (read (search) .read-lists .ensures) _
+    (c .check-in-buffers .ensures)
+
+pub check-for-key-spec : {M : Type 1} → statement M
+check-for-key-spec =
+    tie.close
+    (tie.spec
+    (λ c. search needs)
+    (λ c. search needs)
+    (λ c κs. search needs)
+    (λ c. search needs)
+    (λ c. search needs)
+    slice-aggregate-check-in-buffers
+    (λ c. search needs)
+    slice-aggregate-check-in-buffers-2
+    (λ c κs. search needs)
+    returns)

@@ -1,0 +1,97 @@
+// One call of the analysis, compared with what it has to do.
+ghost use Prim.Native.Nat.{_≤_};
+use papers::Answer;
+use papers::JobHead;
+use trial_comparison::fill64;
+use trial_comparison::filled32;
+use trial_comparison::wrong32;
+use trial_comparison::wrong64;
+use trial_elimination::grid::add;
+use trial_elimination::sheet;
+use trial_elimination::sheet::Sheet;
+
+// The lengths of the six lent slices: parents, order, pops, factor starts, factor rows and work.
+pub type Lengths = [usize; 6];
+
+fn length(lent: &Lengths, slice: usize) -> usize
+    ensures { λ r. ⌜ r ≤ 300 ⌝ }
+{
+    lent[slice % 6] % 301
+}
+
+// How many places of parents, order and pops are wrong after an answer.
+fn wrong_steps(
+    parents: &[u32; 300],
+    order: &[u32; 300],
+    pops: &[u32; 300],
+    lent: &Lengths,
+    number: u64,
+    result: &Sheet,
+) -> usize {
+    let a = wrong32(parents, length(lent, 0), number, result, sheet::PARENTS);
+    let b = wrong32(order, length(lent, 1), number, result, sheet::COLUMNS);
+    let c = wrong32(pops, length(lent, 2), number, result, sheet::POPS);
+    add(a, add(b, c))
+}
+
+// How many places of factor starts, factor rows and work are wrong after an answer. Work has to be zero, as the stack list of a sheet is.
+fn wrong_lists(
+    starts: &[u64; 300],
+    rows: &[u32; 300],
+    work: &[u64; 300],
+    lent: &Lengths,
+    number: u64,
+    result: &Sheet,
+) -> usize {
+    let a = wrong64(starts, length(lent, 3), number, result, sheet::STARTS);
+    let b = wrong32(rows, length(lent, 4), number, result, sheet::ROWS);
+    let c = wrong64(work, length(lent, 5), number, result, sheet::STACK);
+    add(a, add(b, c))
+}
+
+// Calls the analysis and counts what is wrong, in its answer and at every place of the six slices.
+pub fn wrong_in_call(
+    head: JobHead,
+    starts: &[u64],
+    rows: &[u32],
+    lent: &Lengths,
+    result: &Sheet,
+    right: Answer,
+) -> usize {
+    let mut parents = filled32();
+    let mut order = parents;
+    let mut pops = parents;
+    let mut factor_rows = parents;
+    let mut factor_starts = [1u64; 300];
+    let mut work = [1u64; 300];
+    fill64(&mut factor_starts);
+    fill64(&mut work);
+    let a = length(lent, 0);
+    let b = length(lent, 1);
+    let c = length(lent, 2);
+    let d = length(lent, 3);
+    let e = length(lent, 4);
+    let f = length(lent, 5);
+    let found = analysis::analyse(
+        head,
+        starts,
+        rows,
+        &mut parents[..a],
+        &mut order[..b],
+        &mut pops[..c],
+        &mut factor_starts[..d],
+        &mut factor_rows[..e],
+        &mut work[..f],
+    );
+    let x = trial_comparison::differences(found, right);
+    let y = wrong_steps(&parents, &order, &pops, lent, right.number, result);
+    let z = wrong_lists(
+        &factor_starts,
+        &factor_rows,
+        &work,
+        lent,
+        right.number,
+        result,
+    );
+    add(x, add(y, z))
+}

@@ -1,0 +1,105 @@
+// Runs plans that passed the check, in the room of their peak and in one less: patterns of up to 24 columns in many shapes, the plan of
+// each mark, and each of these plans under the key of every mark, so that the check also passes orders that its mark would not give. In
+// the peak a run answers what the check did; in one less it is refused 23, where and with what count a simulation says. Prints a tally;
+// a plan with anything wrong is named in it by the seed of its pattern and the key that it was checked under.
+mod plans; // plans.rt: plans written and checked
+
+use papers::Answer;
+use plans::Plan;
+use trial_elimination::fill;
+use trial_elimination::sheet;
+use trial_elimination::sheet::Sheet;
+use trial_elimination::sheet::set;
+use trial_tallies::Tally;
+
+// Places of the tally: plans that passed the check, runs in the peak that were done, runs in one less that were refused 23, and all
+// peaks together.
+const CHECKED: u64 = 0;
+
+const DONE: u64 = 1;
+
+const BELOW: u64 = 2;
+
+const PEAKS: usize = 3;
+
+// How much of a run in one less than the peak is wrong: it is refused 23, and as the simulation refuses it.
+fn wrong_below(case: &Sheet) -> usize {
+    let right = trial_simulation::simulate(case);
+    if right.number != 23 {
+        return 1;
+    }
+    trial_run_call::wrong_in_call(case, right)
+}
+
+// The runs of a plan that passed the check, in its peak and in one less.
+fn hold_runs(tally: &mut Tally, case: &mut Sheet, checked: Answer, seed: u64, key: u64) {
+    let peak = checked.count as usize;
+    set(case, sheet::HEAD, sheet::ROOM, peak);
+    let wrong = trial_run_call::wrong_in_call(case, checked);
+    trial_tallies::tell(tally, DONE, wrong, seed, key);
+    if peak != 0 {
+        set(case, sheet::HEAD, sheet::ROOM, peak - 1);
+        let wrong = wrong_below(case);
+        trial_tallies::tell(tally, BELOW, wrong, seed, key);
+    }
+}
+
+// A plan of so many bytes under the key of a mark has to pass the check. Its lists go into a case.
+fn hold_plan(
+    tally: &mut Tally,
+    case: &mut Sheet,
+    job: &Sheet,
+    plan: &Plan,
+    count: u64,
+    key: u8,
+    seed: u64,
+) {
+    let checked = plans::check(case, job, plan, count, key);
+    trial_tallies::tell(tally, CHECKED, checked.number as usize, seed, key as u64);
+    if checked.number == 0 {
+        trial_tallies::count(tally, PEAKS, checked.count);
+        hold_runs(tally, case, checked, seed, key as u64);
+    }
+}
+
+// The plan of a mark, under the key of each.
+fn hold_mark(tally: &mut Tally, case: &mut Sheet, job: &Sheet, mark: u8, seed: u64) {
+    let mut plan = [0u8; 1024];
+    let count = plans::write(job, mark, &mut plan);
+    for key in 0..3 {
+        hold_plan(tally, case, job, &plan, count, key, seed);
+    }
+}
+
+// The pattern of a seed, under every mark.
+fn hold_seed(tally: &mut Tally, case: &mut Sheet, seed: usize) {
+    let n = seed % 25;
+    let mut grid = [0usize; 625];
+    let mut job = [0usize; 10200];
+    trial_lists::draw_pattern(&mut grid, n, seed);
+    fill::write_lists(&mut job, &grid, n);
+    for mark in 0..3 {
+        hold_mark(tally, case, &job, mark, seed as u64);
+    }
+}
+
+fn hold_all(tally: &mut Tally, seeds: usize) {
+    let mut case = [0usize; 10200];
+    for seed in 0..seeds {
+        hold_seed(tally, &mut case, seed);
+    }
+}
+
+fn main() {
+    let mut tally = [0u64; 32];
+    hold_all(&mut tally, 500);
+    trial_tallies::print(
+        &tally,
+        b"plans that passed the check: @
+runs in the peak, done: A
+runs in one less, refused 23: B
+peaks together C
+mismatches _
+",
+    );
+}

@@ -1,0 +1,28 @@
+-- Places wrap and numbers stay small, so a turn is safe whatever it finds. The measure is how many turns are left.
+-- Assumes nothing.
+use Prim.Native.Nat.{_-_}
+use native.Mathlib.Omega.{arith}
+use borrow.Author.Needs.{needs}
+use Rattle.trial_comparison.proofs.filled32.Statement.{statement}
+use Rattle.trial_comparison.proofs.filled32.Tie as tie
+
+abbrev Inv-loop : tie.InvT-loop
+Inv-loop slice₀ i₀ slice i = Unit {0}
+
+abbrev μ-loop : tie.MeasureT-loop
+μ-loop slice₀ i₀ slice i = 300 - i
+
+pub filled32-spec : {M : Type 1} → statement M
+filled32-spec =
+    tie.close
+    (tie.spec
+    Inv-loop
+    μ-loop
+    (λ c. tt)
+    (λ c κs. tt)
+    (λ c. search needs)
+    (λ c. search needs)
+    (λ c. omega arith)
+    (λ c. omega arith)
+    (λ c. tt)
+    (λ c. tt))

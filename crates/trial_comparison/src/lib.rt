@@ -1,0 +1,112 @@
+// Lists as a call takes them, what lent slices hold before a call and have to hold after it, and how much of that is wrong, for the
+// test programs. Nothing is promised but that every function is safe and ends, and of one that a length stays.
+ghost use lib.ListN.{length};
+ghost use mathlib.Core.Path.{_≡_};
+use papers::Answer;
+use trial_elimination::grid::add;
+use trial_elimination::sheet::Sheet;
+use trial_elimination::sheet::get;
+use trial_elimination::sheet::length;
+
+// A part of a sheet as rows, columns or pops, as many as it has.
+pub fn words(sheet: &Sheet, part: usize) -> [u32; 300] {
+    let mut list = [0u32; 300];
+    for i in 0..length(sheet, part) % 301 {
+        list[i % 300] = (get(sheet, part, i) % 4294967296) as u32;
+    }
+    list
+}
+
+// A part of a sheet as starts, as many as it has.
+pub fn longs(sheet: &Sheet, part: usize) -> [u64; 300] {
+    let mut list = [0u64; 300];
+    for i in 0..length(sheet, part) % 301 {
+        list[i % 300] = get(sheet, part, i) as u64;
+    }
+    list
+}
+
+// What stands at a place of a lent slice before a call. It is neither 0 nor in a result of a small pattern.
+fn before(i: usize) -> u32 {
+    (i % 7 + 9000) as u32
+}
+
+fn wide(x: u32) -> u64 {
+    x as u64
+}
+
+pub fn filled32() -> [u32; 300] {
+    let mut slice = [0u32; 300];
+    for i in 0..300 {
+        slice[i] = before(i);
+    }
+    slice
+}
+
+// In place, since a copy of so many bytes is dear. That the length stays is what lending a part needs.
+pub fn fill64(slice: &mut [u64; 300])
+    ensures { λ _. ⌜ length (now (slice .exit)) ≡ length (now (slice .entry)) ⌝ }
+{
+    for i in 0..300 {
+        slice[i] = wide(before(i));
+    }
+}
+
+// What has to stand at a place after an answer: behind the lent length what stood there, and the same if the answer is 1 to 7; the
+// result if it is done; else 0.
+fn after(number: u64, lent: usize, i: usize, result: usize) -> u64 {
+    if lent <= i {
+        return wide(before(i));
+    }
+    if number == 0 {
+        return result as u64;
+    }
+    if number < 8 {
+        return wide(before(i));
+    }
+    0
+}
+
+// Where the comparison of a slice ends: four places behind its lent length, if there are so many.
+fn end(lent: usize) -> usize {
+    if lent < 296 {
+        return lent + 4;
+    }
+    300
+}
+
+// How many places of a slice hold something else than they have to after an answer. A part of the sheet has the result, then zeros.
+pub fn wrong32(found: &[u32; 300], lent: usize, number: u64, sheet: &Sheet, part: usize) -> usize {
+    let mut wrong = 0;
+    for i in 0..end(lent) {
+        if wide(found[i % 300]) != after(number, lent, i, get(sheet, part, i)) {
+            wrong = add(wrong, 1);
+        }
+    }
+    wrong
+}
+
+pub fn wrong64(found: &[u64; 300], lent: usize, number: u64, sheet: &Sheet, part: usize) -> usize {
+    let mut wrong = 0;
+    for i in 0..end(lent) {
+        if found[i % 300] != after(number, lent, i, get(sheet, part, i)) {
+            wrong = add(wrong, 1);
+        }
+    }
+    wrong
+}
+
+// How many of number, place and count differ.
+pub fn differences(a: Answer, b: Answer) -> usize {
+    let mut wrong = 0;
+    if a.number != b.number {
+        wrong = add(wrong, 1);
+    }
+    if a.place != b.place {
+        wrong = add(wrong, 1);
+    }
+    if a.count != b.count {
+        wrong = add(wrong, 1);
+    }
+    wrong
+}

@@ -1,0 +1,34 @@
+-- The loop asks nothing of what it holds; the measure is how many turns are left.
+-- Assumes nothing.
+use Prim.Native.Nat.{_-_}
+use native.Mathlib.Omega.{arith}
+use borrow.Author.Needs.{needs}
+use Rattle.trial_lines.proofs.sheet.wrong32.Statement.{statement}
+use Rattle.trial_lines.proofs.sheet.wrong32.Tie as tie
+
+abbrev Inv-loop : tie.InvT-loop
+Inv-loop found numbers slice wrong₀ first i₀ i-end wrong i = Unit {0}
+
+abbrev μ-loop : tie.MeasureT-loop
+μ-loop found numbers slice wrong₀ first i₀ i-end wrong i = i-end - i
+
+pub wrong32-spec : {M : Type 1} → statement M
+wrong32-spec =
+    tie.close
+    (tie.spec
+    Inv-loop
+    μ-loop
+    (λ c κs. tt)
+    (λ c κs. tt)
+    (λ c κs. tt)
+    (λ c κs. tt)
+    (λ c. tt)
+    (λ c. search needs)
+    (λ c. search needs)
+    (λ c κs. tt)
+    (λ c κs. tt)
+    (λ c κs. tt)
+    (λ c. omega arith)
+    (λ c. omega arith)
+    (λ c. tt)
+    (λ c. tt))

@@ -1,0 +1,96 @@
+// Lists as a call takes them, and lent slices: what they hold before a call, and what they have to hold after it.
+use super::line;
+use super::line::Numbers;
+use super::line::add;
+use super::line::at;
+
+pub type Words = [u32; 512];
+
+pub type Longs = [u64; 1152];
+
+pub type Bytes = [u8; 2048];
+
+// What stands at every place before a call.
+pub const BEFORE: u32 = 7;
+
+pub fn longs(numbers: &Numbers, list: usize) -> Longs {
+    let mut out = [0u64; 1152];
+    let first = line::first(numbers, list);
+    for i in 0..line::count(numbers, list) {
+        out[i % 1152] = at(numbers, add(first, i));
+    }
+    out
+}
+
+pub fn words(numbers: &Numbers, list: usize) -> Words {
+    let mut out = [0u32; 512];
+    let first = line::first(numbers, list);
+    for i in 0..line::count(numbers, list) {
+        out[i % 512] = (at(numbers, add(first, i)) % 4294967296) as u32;
+    }
+    out
+}
+
+pub fn bytes(numbers: &Numbers, list: usize) -> Bytes {
+    let mut out = [0u8; 2048];
+    let first = line::first(numbers, list);
+    for i in 0..line::count(numbers, list) {
+        out[i % 2048] = (at(numbers, add(first, i)) % 256) as u8;
+    }
+    out
+}
+
+fn wide(x: u32) -> u64 {
+    x as u64
+}
+
+// What has to stand at a place of a slice that has no result there: what stood there if the answer is 1 to 7, else 0.
+fn rest(number: u64) -> u64 {
+    if number == 0 {
+        return 0;
+    }
+    if number <= 7 {
+        return wide(BEFORE);
+    }
+    0
+}
+
+// What has to stand at a place of a slice: behind its lent length what stood there, before that the result from `first` on, and then
+// the rest.
+fn after(numbers: &Numbers, slice: usize, first: usize, i: usize) -> u64 {
+    if line::lent(numbers, slice) <= i {
+        return wide(BEFORE);
+    }
+    if i < line::count(numbers, line::result(slice)) {
+        return at(numbers, add(first, i));
+    }
+    rest(at(numbers, line::RIGHT))
+}
+
+// The sum of two numbers below 2^40.
+pub fn plus(a: u64, b: u64) -> u64 {
+    a % 1099511627776 + b % 1099511627776
+}
+
+// How many places of a slice hold something else than they have to; four behind its lent length are looked at as well.
+pub fn wrong32(found: &Words, numbers: &Numbers, slice: usize) -> u64 {
+    let mut wrong = 0;
+    let first = line::first(numbers, line::result(slice));
+    for i in 0..add(line::lent(numbers, slice), 4) {
+        if wide(found[i % 512]) != after(numbers, slice, first, i) {
+            wrong = plus(wrong, 1);
+        }
+    }
+    wrong
+}
+
+pub fn wrong64(found: &Longs, numbers: &Numbers, slice: usize) -> u64 {
+    let mut wrong = 0;
+    let first = line::first(numbers, line::result(slice));
+    for i in 0..add(line::lent(numbers, slice), 4) {
+        if found[i % 1152] != after(numbers, slice, first, i) {
+            wrong = plus(wrong, 1);
+        }
+    }
+    wrong
+}

@@ -1,0 +1,61 @@
+// What a test program counts over its cases, and how it is printed at the end. Nothing is promised but that every function is safe and
+// ends: places wrap, so no function asks anything of its caller.
+
+// At the place of a number the cases that have it and of which nothing is wrong. Behind the numbers a program counts what else it
+// tells. At 30 all cases, at 31 those with anything wrong.
+pub type Tally = [u64; 32];
+
+const CASES: usize = 30;
+
+pub const WRONG: usize = 31;
+
+// The sum of two numbers below 2^40.
+pub fn plus(a: u64, b: u64) -> u64 {
+    a % 1099511627776 + b % 1099511627776
+}
+
+pub fn count(tally: &mut Tally, place: usize, more: u64) {
+    tally[place % 32] = plus(tally[place % 32], more);
+}
+
+// A byte of a text. Those from 64 to 95 stand for the numbers of a tally: `@` for that at place 0, `A` for that at 1 and so on up to
+// `Z`, then `[`, `\`, `]`, `^` and `_`.
+fn put(tally: &Tally, byte: u8) {
+    if byte / 32 == 2 {
+        io::print_decimal(1, tally[(byte % 32) as usize]);
+        return;
+    }
+    let one = [byte];
+    io::write_all(1, &one);
+}
+
+// Prints a text with numbers of a tally in it.
+pub fn print(tally: &Tally, text: &[u8]) {
+    for i in 0..text.len() {
+        put(tally, text[i]);
+    }
+}
+
+// Tells of a case with anything wrong: how many cases there were up to it, its number, how much is wrong, and two numbers that name it.
+fn mismatch(case: u64, number: u64, wrong: usize, a: u64, b: u64) {
+    let mut told = [0u64; 32];
+    told[0] = case;
+    told[1] = number;
+    told[2] = wrong as u64;
+    told[3] = a;
+    told[4] = b;
+    print(&told, b"mismatch @ A B C D\n");
+}
+
+// Counts a case, by its number if nothing of it is wrong. Tells of the first twenty with anything wrong.
+pub fn tell(tally: &mut Tally, number: u64, wrong: usize, a: u64, b: u64) {
+    count(tally, CASES, 1);
+    if wrong == 0 {
+        count(tally, (number % 32) as usize, 1);
+        return;
+    }
+    count(tally, WRONG, 1);
+    if tally[WRONG] <= 20 {
+        mismatch(tally[CASES], number, wrong, a, b);
+    }
+}

@@ -1,0 +1,88 @@
+-- The invariant: storing the gaps of the rows from i on at next leaves what storing all of them behind the count leaves. A turn writes a run of rows.
+-- The measure is the rows left.
+-- Assumes nothing.
+use Prim.Native.Nat.{_-_}
+use mathlib.Core.Path.{refl}
+use native.Mathlib.Omega.{arith}
+use borrow.Author.Needs.{needs}
+use Rattle.bytes_laws.proofs.Numbers.{bytes-length}
+use Rattle.write_gaps.proofs.Rows.{WritesRows, gaps-start, place-near}
+use Rattle.write_lists.proofs.Counted.{list-stop}
+use Rattle.write_lists.proofs.Runs.{run-list, run-turn}
+use Rattle.write_lists.proofs.write_list.Statement.{statement}
+use Rattle.write_lists.proofs.write_list.Tie as tie
+
+abbrev Inv-loop : tie.InvT-loop
+Inv-loop rows from to j bytes₀ at next₀ before₀ i₀ bytes next before i = WritesRows j rows from to bytes₀ next₀ bytes next before i
+
+abbrev μ-loop : tie.MeasureT-loop
+μ-loop rows from to j bytes₀ at next₀ before₀ i₀ bytes next before i = to - i
+
+-- The places that the answers look back to: `start (search)` is the one behind the answer at hand.
+abbrev start : tie.Start Inv-loop μ-loop → tie.Start Inv-loop μ-loop
+start c = c
+
+abbrev after-put : tie.After-put Inv-loop μ-loop → tie.After-put Inv-loop μ-loop
+after-put c = c
+
+abbrev at-loop : tie.At-loop Inv-loop μ-loop → tie.At-loop Inv-loop μ-loop
+at-loop c = c
+
+abbrev after-run-end : tie.After-run-end Inv-loop μ-loop → tie.After-run-end Inv-loop μ-loop
+after-run-end c = c
+
+abbrev written : tie.After-write-run Inv-loop μ-loop → tie.After-write-run Inv-loop μ-loop
+written c = c
+
+put-requires : tie.Need-put-requires Inv-loop μ-loop
+put-requires c κs =
+    let entry = start (search) .pre in
+    (let few = entry .0 .few in omega arith, omega (arith, entry .1))
+
+loop-holds : tie.Need-loop-holds Inv-loop μ-loop
+loop-holds c = gaps-start (start (search) .pre .0)
+
+write-run-requires : tie.Need-write-run-requires Inv-loop μ-loop
+write-run-requires c κs =
+    let loop = at-loop (search) .loop in
+    let end = c .before .run-end in
+    let put = after-put (search) .put in (
+      run-list (loop .inv .rows-left) _ (end .ensures .0) (end .ensures .1),
+      omega (
+        arith,
+        place-near (loop .inv) (start (search) .pre .0),
+        put .ensures .0,
+        bytes-length (start (search) .args .to - start (search) .args .from),
+        start (search) .pre .1,
+      ),
+    )
+
+loop-again : tie.Need-loop-again Inv-loop μ-loop
+loop-again c =
+    let end = after-run-end (search) .run-end in
+    let run = written (search) .write-run in
+    run-turn (at-loop (search) .loop .inv) (end .ensures .0) (end .ensures .1) refl (run .ensures .0) (run .ensures .1)
+
+returns : tie.Need-returns Inv-loop μ-loop
+returns c =
+    let put = after-put (search) .put in
+    list-stop _ _ (start (search) .pre .0) (put .ensures .0) (put .ensures .1) (c .before .loop .inv) (c .loop-test .left)
+
+pub write-list-spec : {M : Type 1} → statement M
+write-list-spec =
+    tie.close
+    (tie.spec
+    Inv-loop
+    μ-loop
+    (λ c. search needs)
+    put-requires
+    loop-holds
+    (λ c κs. search needs)
+    write-run-requires
+    (λ c. search needs)
+    (λ c. search needs)
+    (λ c. search needs)
+    (λ c. search needs)
+    loop-again
+    (λ c. search needs)
+    returns)

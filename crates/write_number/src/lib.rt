@@ -1,0 +1,45 @@
+// A number written into a lent slice, as far as the slice has places. So whoever writes numbers one behind the other learns at the end
+// how many bytes all of them take, and needs no count before.
+ghost use mathlib.Core.Path.{_≡_};
+ghost use Prim.Native.Nat.{_+_, _<_, _^_};
+ghost use lib.ListN.{length, set};
+ghost use lib.Seq.{sets};
+ghost use Rattle.papers.specs.Numbers.{bytesOf};
+ghost use Rattle.groups.specs.Fits.{Fits};
+
+// Stores a byte if the slice has the place.
+fn put_byte(dst: &mut [u8], at: usize, b: u8)
+    ensures { λ _. ⌜ now (dst .exit) ≡ set (now (dst .entry)) at b ⌝ }
+{
+    if at < dst.len() {
+        dst[at] = b;
+    }
+}
+
+// Writes the bytes of x from `at` on, those for which there is a place, and answers the place behind them all, which follows from the
+// leading zeros of x. One byte or two, which most numbers have, are stored at once; of more the first i of the little array are
+// written.
+pub fn put(dst: &mut [u8], at: usize, x: u64) -> usize
+    requires { ⌜ Fits x × (at < 2 ^ 63) ⌝ }
+    ensures { λ r. ⌜ (r ≡ at + length (bytesOf x)) × (now (dst .exit) ≡ sets (now (dst .entry)) at (bytesOf x)) ⌝ }
+{
+    let next = at + groups::length(x);
+    if x < 128 {
+        put_byte(dst, at, x as u8);
+        return next;
+    }
+    if x < 16384 {
+        put_byte(dst, at, (x % 128 + 128) as u8);
+        put_byte(dst, at + 1, (x / 128) as u8);
+        return next;
+    }
+    let groups = groups::number(x);
+    let bytes = groups.bytes;
+    let count = groups.count;
+    let mut i = 0;
+    while i < count {
+        put_byte(dst, at + i, bytes[i]);
+        i += 1;
+    }
+    next
+}

@@ -1,0 +1,75 @@
+-- The numbers of the steps, step by step: the column and the pops at place i come next, and behind them those of the steps after it.
+-- Assumes nothing.
+use Prim.Native.Nat.{ℕ, _+_, _*_, _<_, _≤_}
+use mathlib.Core.Path.{_≡_, refl, ap}
+use mathlib.Core.List.{List, [], _∷_}
+use native.Mathlib.Omega.{arith}
+use native.Mathlib.Numerals.{add-one}
+use lib.ListN.{length, getD, drop, drop-of-length-le}
+use lib.Seq.{drop-cons, sets}
+use Rattle.papers.specs.Bounds.{maxColumns, maxGroups}
+use Rattle.papers.specs.Numbers.{bytesOf, encode}
+use Rattle.papers.specs.Plan.{columnsIn, popsIn, stepNumbers}
+use Rattle.bytes_laws.proofs.Writing.{writes-near, Writes, writes-number, writes-none}
+use Rattle.write_plan.specs.Lists.{stepsIn}
+
+-- steps taken apart and put together again
+pub steps-again : (steps : List (ℕ × ℕ)) → stepsIn (columnsIn steps) (popsIn steps) ≡ steps
+unfolding stepsIn
+steps-again [] = refl
+steps-again (s ∷ ss) = ap (λ l. s ∷ l) (steps-again ss)
+
+-- the numbers of all steps, and of those behind the first i
+abbrev pub numbersOf : List ℕ → List ℕ → List ℕ
+numbersOf order pops = stepNumbers (stepsIn order pops)
+
+abbrev pub numbersFrom : List ℕ → List ℕ → ℕ → List ℕ
+numbersFrom order pops i = numbersOf (drop i order) (drop i pops)
+
+pub steps-few : (order pops : List ℕ) → length (numbersOf order pops) ≤ 2 * length order
+unfolding stepNumbers stepsIn
+steps-few [] pops = omega arith
+steps-few (j ∷ order) [] = omega arith
+steps-few (j ∷ order) (p ∷ pops) = omega (arith, steps-few order pops)
+
+module _ (order pops : List ℕ) (i : ℕ) (paired : length order ≤ length pops) where
+  -- the next column, and its pops
+  pub step-next : i < length order → numbersFrom order pops i ≡ getD order i 0 ∷ getD pops i 0 ∷ numbersFrom order pops (i + 1)
+  unfolding stepNumbers stepsIn
+  step-next h = rw (add-one, drop-cons order i 0 h, drop-cons pops i 0 (omega arith))
+
+  pub steps-none : length order ≤ i → numbersFrom order pops i ≡ []
+  unfolding stepNumbers stepsIn
+  steps-none h = rw (drop-of-length-le order h)
+
+-- ---- written
+
+-- the first i steps are written
+pub record WritesSteps (order pops d₀ : List ℕ) (first : ℕ) (d : List ℕ) (next i : ℕ) : Type 0 where
+  pub paired : length order ≤ length pops
+  pub written : Writes (numbersOf order pops) d₀ first (numbersFrom order pops i) d next
+  pub few : length order ≤ maxColumns
+
+module _ {order pops d₀ : List ℕ} {first : ℕ} {d : List ℕ} {next i : ℕ} (w : WritesSteps order pops d₀ first d next i) where
+  -- no place is far behind the first
+  near : {left d′ : List ℕ} {k : ℕ} → Writes (numbersOf order pops) d₀ first left d′ k → k ≤ first + 2 * maxGroups * maxColumns
+  near s = let few = w .few in omega (arith, writes-near s, steps-few order pops)
+
+  pub column-near : next ≤ first + 2 * maxGroups * maxColumns
+  column-near = near (w .written)
+
+  module _ (h : i < length order) where
+    module _ {m : ℕ} {d′ : List ℕ} (e : m ≡ next + length (bytesOf (getD order i 0))) (f : d′ ≡ sets d next (bytesOf (getD order i 0))) where
+      -- the column is written, its pops are left
+      behind-column : Writes (numbersOf order pops) d₀ first (getD pops i 0 ∷ numbersFrom order pops (i + 1)) d′ m
+      behind-column = writes-number (w .written) (step-next order pops i (w .paired) h) e f
+
+      pub pops-near : m ≤ first + 2 * maxGroups * maxColumns
+      pops-near = near behind-column
+
+      pub write-turn : {m″ : ℕ} {d″ : List ℕ} → m″ ≡ m + length (bytesOf (getD pops i 0)) → d″ ≡ sets d′ m (bytesOf (getD pops i 0))
+          → WritesSteps order pops d₀ first d″ m″ (i + 1)
+      write-turn g k = record { paired = w .paired; written = writes-number behind-column refl g k; few = w .few }
+
+  pub write-stop : length order ≤ i → (next ≡ first + length (encode (numbersOf order pops))) × (d ≡ sets d₀ first (encode (numbersOf order pops)))
+  write-stop h = writes-none (w .written) (steps-none order pops i (w .paired) h)

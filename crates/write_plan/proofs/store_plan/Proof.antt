@@ -1,0 +1,23 @@
+-- The plan is put, and what comes of it is stored.
+-- Assumes nothing.
+use borrow.Author.Needs.{needs}
+use Rattle.write_plan.proofs.store_plan.Statement.{statement}
+use Rattle.write_plan.proofs.store_plan.Tie as tie
+
+-- The places that the answers look back to: `entry (search)` is the one behind the answer at hand.
+abbrev entry : tie.Start → tie.Start
+entry c = c
+
+abbrev after-put-plan : tie.After-put-plan → tie.After-put-plan
+after-put-plan c = c
+
+abbrev after-finish : tie.After-finish → tie.After-finish
+after-finish c = c
+
+returns : tie.Need-returns
+returns c =
+    let put = after-put-plan (search) .put-plan .ensures in
+    after-finish (search) .finish .ensures _ (entry (search) .args .bytes .now) (put .0) (put .1)
+
+pub store-plan-spec : {M : Type 1} → statement M
+store-plan-spec = tie.close (tie.spec (λ c κs. search needs) (λ c κs. search needs) (λ c. search needs) returns)

@@ -1,0 +1,87 @@
+// The bytes of a plan, written into a lent slice: its key, its steps, its lists and its peak.
+ghost use mathlib.Core.Path.{_≡_};
+ghost use Prim.Native.Nat.{_+_, _^_, _≤_, _<_};
+ghost use lib.ListN.{length};
+ghost use lib.Seq.{sets};
+ghost use Rattle.papers.specs.Bounds.{maxColumns};
+ghost use Rattle.papers.specs.Numbers.{encode};
+ghost use Rattle.papers.specs.Job.{jobOf};
+ghost use Rattle.papers.specs.Plan.{stepNumbers, planBytes};
+ghost use Rattle.papers.specs.Refusals.{EndsAs};
+ghost use Rattle.write_plan.specs.Lists.{stepsIn, planIn, Writable};
+ghost use Rattle.write_stored.specs.Stored.{stored};
+use papers::Answer;
+use papers::JobHead;
+
+// Writes the steps from `at` on, and answers the place behind them. The first `done` are written up to next.
+pub fn write_steps(order: &[u32], pops: &[u32], bytes: &mut [u8], at: usize) -> usize
+    requires paired { ⌜ length (now order) ≤ length (now pops) ⌝ }
+    requires few { ⌜ length (now order) ≤ maxColumns ⌝ }
+    requires near { ⌜ at < 2 ^ 59 ⌝ }
+    ensures place { λ r. ⌜ r ≡ at + length (encode (stepNumbers (stepsIn (now (order .entry)) (now (pops .entry))))) ⌝ }
+    ensures writes { λ r. ⌜
+        now (bytes .exit) ≡ sets (now (bytes .entry)) at (encode (stepNumbers (stepsIn (now (order .entry)) (now (pops .entry)))))
+        ⌝ }
+{
+    let mut next = at;
+    let mut done = 0;
+    while done < order.len() {
+        next = write_number::put(bytes, next, order[done] as u64);
+        next = write_number::put(bytes, next, pops[done] as u64);
+        done += 1;
+    }
+    next
+}
+
+// Writes the plan of a job to the front of a slice, as far as it has places, and answers the place behind it: the bytes needed.
+pub fn put_plan(
+    head: JobHead,
+    starts: &[u64],
+    rows: &[u32],
+    order: &[u32],
+    pops: &[u32],
+    fstarts: &[u64],
+    frows: &[u32],
+    peak: u64,
+    bytes: &mut [u8],
+) -> usize
+    requires { ⌜ Writable (jobOf head (now starts) (now rows)) (now order) (now pops) (now fstarts) (now frows) peak ⌝ }
+    ensures place { λ r. ⌜
+        r ≡ length (planBytes (jobOf head (now (starts .entry)) (now (rows .entry)))
+        (planIn (head .n) (now (order .entry)) (now (pops .entry)) (now (fstarts .entry)) (now (frows .entry)) peak))
+        ⌝ }
+    ensures writes { λ r. ⌜
+        now (bytes .exit)
+        ≡ sets (now (bytes .entry)) 0 (planBytes (jobOf head (now (starts .entry)) (now (rows .entry)))
+        (planIn (head .n) (now (order .entry)) (now (pops .entry)) (now (fstarts .entry)) (now (frows .entry)) peak))
+        ⌝ }
+{
+    let key = key::put_key(head, starts, rows, bytes);
+    let steps = write_steps(order, pops, bytes, key);
+    let lists = write_lists::write_lists(head.n, fstarts, frows, bytes, steps);
+    write_number::put(bytes, lists, peak)
+}
+
+// The plan of a job, whose steps, lists and peak are these, in a lent slice, then zeros; 10 with the bytes needed where it does not fit.
+pub fn store_plan(
+    head: JobHead,
+    starts: &[u64],
+    rows: &[u32],
+    order: &[u32],
+    pops: &[u32],
+    fstarts: &[u64],
+    frows: &[u32],
+    peak: u64,
+    bytes: &mut [u8],
+) -> Answer
+    requires { ⌜ Writable (jobOf head (now starts) (now rows)) (now order) (now pops) (now fstarts) (now frows) peak ⌝ }
+    ensures { λ r. ⌜
+        EndsAs r (now (bytes .exit))
+        (stored (planBytes (jobOf head (now (starts .entry)) (now (rows .entry)))
+        (planIn (head .n) (now (order .entry)) (now (pops .entry)) (now (fstarts .entry)) (now (frows .entry)) peak))
+        (now (bytes .entry)))
+        ⌝ }
+{
+    let needed = put_plan(head, starts, rows, order, pops, fstarts, frows, peak, bytes);
+    write_stored::finish(bytes, needed)
+}

@@ -1,0 +1,50 @@
+-- Bytes that do not fit a lent slice are refused with their number; bytes that fit stand in it, then zeros.
+-- Assumes nothing.
+use Prim.Native.Nat.{ℕ, _-_, _<_, _≤_}
+use mathlib.Core.Path.{_≡_, sym, ap, _∙_}
+use mathlib.Core.List.{List, _++_}
+use native.Mathlib.Omega.{arith}
+use lib.ListN.{length, take, drop}
+use lib.Seq.{sets, length-sets}
+use Rattle.papers.specs.declared.Answer.{Answer}
+use Rattle.papers.specs.Lists.{zeros, thenZeros}
+use Rattle.papers.specs.Refusals.{answer, zeroed, Outcome, bytesTest}
+use Rattle.job_laws.proofs.Firsts.{first-last, over-refuses, over-passes-iff}
+use Rattle.job_laws.proofs.Outcomes.{outcome-zeroed, outcome-done}
+use Rattle.slices.specs.From.{zerosFrom}
+use Rattle.slices.proofs.From.{cleared-from, stored-from}
+use Rattle.write_stored.specs.Stored.{stored}
+
+module _ (written bytes : List ℕ) where
+  pub short-is : length bytes < length written → stored written bytes ≡ record { answer = answer 10 0 (length written); lent = zeros bytes }
+  unfolding stored bytesTest
+  short-is h =
+      outcome-zeroed _ _ zeros bytes bytes (first-last (bytesTest written) bytes ∙ over-refuses (length bytes) (length written)
+      (answer 10 0 (length written)) zeroed h)
+
+  pub whole-is : length written ≤ length bytes
+      → stored written bytes ≡ record { answer = answer 0 0 (length written); lent = thenZeros written bytes }
+  unfolding stored bytesTest
+  whole-is h =
+      outcome-done _ _ zeros bytes bytes (first-last (bytesTest written) bytes ∙ over-passes-iff (length bytes) (length written)
+      (answer 10 0 (length written)) zeroed .1 h)
+
+-- ---- bytes written from the front on: the slice has their first places, and `needed` is how many they are
+
+module _ (written before : List ℕ) {entry : List ℕ} {needed : ℕ} (n : needed ≡ length written) (e : entry ≡ sets before 0 written) where
+  same-places : length entry ≡ length before
+  same-places = rw e (length-sets before 0 written)
+
+  -- they do not all have a place
+  pub finished-short : length entry < needed → {r : Answer} {after : List ℕ} → r ≡ answer 10 0 needed → after ≡ zeros entry
+      → _≡_ {A = Outcome (List ℕ)} (record { answer = r; lent = after }) (stored written before)
+  finished-short h a z = rw (a, z, same-places, n) (sym (short-is written before (omega (arith, same-places))))
+
+  module _ (h : needed ≤ length entry) where
+    -- the places behind them are cleared
+    pub finished-whole : {r : Answer} {rest : List ℕ} → r ≡ answer 0 0 needed → rest ≡ zeros (take (length entry - needed) (drop needed entry))
+        → _≡_ {A = Outcome (List ℕ)} (record { answer = r; lent = take needed entry ++ (rest ++ drop (length entry - needed) (drop needed entry)) })
+        (stored written before)
+    finished-whole a z =
+        let left = cleared-from needed entry h z ∙ ap (zerosFrom needed) e ∙ stored-from written before (sym n) (omega (arith, same-places)) in
+        rw (left, a, n) (sym (whole-is written before (omega (arith, same-places))))
