@@ -1,6 +1,7 @@
 -- Refusals: an entry point's tests in order, the first that refuses decides. The tests of a job, of its lists and of lent slices.
 -- Assumes nothing.
 use Prim.Native.Nat.{ℕ, zero, suc, _+_}
+use mathlib.Core.Path.{_≡_}
 use mathlib.Core.Bool.{Bool, true, false, not, _||_}
 use mathlib.Core.List.{List, [], _∷_}
 use lib.Dec.{ltb, leb, eqb}
