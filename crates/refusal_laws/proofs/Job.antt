@@ -15,7 +15,7 @@ use Rattle.papers.specs.Lists.{least}
 use Rattle.papers.specs.Job.{Job, start}
 use Rattle.papers.specs.Refusals.{answer, untouched, Verdict, passed, refused, first, falls, columnsTest, markTest, limitTest, startsTest, jobTests}
 use Rattle.papers.specs.Conditions.{RowLists, jobLists, jobConditions, Least, ColumnsOver, MarkUnknown, LimitOver, Falls}
-use Rattle.papers.specs.Conditions.{StartsFault, miscounted, not-zero, last, BadStarts}
+use Rattle.papers.specs.Conditions.{StartsFault, miscounted, not-zero, falls as falls-at, last, BadStarts}
 use Rattle.list_laws.proofs.Leasts.{least-zero-iff}
 use Rattle.job_laws.proofs.Untouched.{Early, job-untouched}
 use Rattle.job_laws.proofs.Starts.{falls-false-iff, starts-few, starts-from, starts-fall, starts-end, starts-pass}

@@ -47,8 +47,10 @@ use Rattle.run_held.proofs.Held as T
 use Rattle.run_held.proofs.Held.Laws as T′
 use Rattle.run_held.proofs.step as step
 use Rattle.run_held.proofs.step.Symbol as step-def
+use Rattle.run_held.proofs.step.Symbol.{name as #run-held·step}
 use Rattle.run_held.proofs.step.Met as step-thm
 use Rattle.run_held.proofs.advance as advance
+use Rattle.run_held.proofs.advance.Key.{name as #run-held·advance}
 use Rattle.run_held.proofs.advance.Code as code
 use denote.Triple.Statement.{Contract, Triple}
 use Rattle.run_held.proofs.advance.Statement as stated
@@ -98,7 +100,7 @@ module _ {M : Type 1} (𝓤 : URA M) (H : Heap 𝓤) (A : Atoms 𝓤) (W : Given
       (refl, fit .pops) $ fjoin ! $
       move ! (1 ∷ 0 ∷ []) $ fjoin ! $ done !
 
-  module _ (C : Calls 𝓤 H) (Λ : Loops 𝓤 H) (fm : FmC 𝓤 H (W .laws) C) (known : Triple 𝓤 (C #run_held·step) (Step 𝓤 H A at-mem run)) where
+  module _ (C : Calls 𝓤 H) (Λ : Loops 𝓤 H) (fm : FmC 𝓤 H (W .laws) C) (known : Triple 𝓤 (C #run-held·step) (Step 𝓤 H A at-mem run)) where
     walk : Is T.the-row h (machine h ∷ []) → canStep h m
         → ent 𝓤 (onEntry 𝓤 H A advance.signature tt tt (h, m) (machine h ∷ [], values m)) (WpFn 𝓤 H C Λ code.function (machine h ∷ passed m) Post)
     walk g can =
@@ -151,7 +153,7 @@ module _ {M : Type 1} (𝓤 : URA M) (H : Heap 𝓤) (A : Atoms 𝓤) (W : Given
         keep ! (0 ∷ []) $ by ! (exits g (zs .0) v e)))))))))))))))))))
 
 module _ {M : Type 1} (𝓤 : URA M) (H : Heap 𝓤) (A : Atoms 𝓤) (W : Given 𝓤 H A) (at-mem : Memory → SProp 𝓤) (run : Routine → Fun 𝓤) where
-  advance-walks : (C : Calls 𝓤 H) (Λ : Loops 𝓤 H) → FmC 𝓤 H (W .laws) C → Triple 𝓤 (C #run_held·step) (Step 𝓤 H A at-mem run)
+  advance-walks : (C : Calls 𝓤 H) (Λ : Loops 𝓤 H) → FmC 𝓤 H (W .laws) C → Triple 𝓤 (C #run-held·step) (Step 𝓤 H A at-mem run)
       → Walks 𝓤 H A advance.ended stayed (WpFn 𝓤 H C Λ code.function) (advance.clauses 𝓤 H A at-mem run)
   advance-walks C Λ fm known = walked 𝓤 H A advance.ended stayed (advance.clauses 𝓤 H A at-mem run) (WpFn 𝓤 H C Λ code.function)
       (λ κs. (LL.vals T.the-type T′.the-laws, (uint-vals w64, (uint-vals w64, (uint-vals w64, (uint-vals w64, tt))))))
@@ -170,7 +172,7 @@ module _ {M : Type 1} (𝓤 : URA M) (H : Heap 𝓤) (A : Atoms 𝓤) (W : Given
       (goes-none 𝓤 H A W 0 (λ _. T.the-row) yes (λ κs x f. refl), (number, (number, (number, (number, tt)))))
 
 advance-meets : {M : Type 1} (𝓤 : URA M) (H : Heap 𝓤) (A : Atoms 𝓤) (W : Given 𝓤 H A) (at-mem : Memory → SProp 𝓤) (run : Routine
-    → Fun 𝓤) (𝓣 : Tables 𝓤 H) → Triple 𝓤 (𝓣 .C #run_held·step) (Step 𝓤 H A at-mem run)
+    → Fun 𝓤) (𝓣 : Tables 𝓤 H) → Triple 𝓤 (𝓣 .C #run-held·step) (Step 𝓤 H A at-mem run)
     → Meets 𝓤 H A advance.signature (WpFn 𝓤 H (𝓣 .C) (𝓣 .Λ) code.function) (advance.spec 𝓤 H A at-mem run)
 advance-meets 𝓤 H A W at-mem run 𝓣 known =
     walk-meets 𝓤 H A advance.ended stayed W (goes 𝓤 H A W at-mem run) (advance.clauses 𝓤 H A at-mem run)
@@ -181,6 +183,6 @@ pub advance-spec : {M : Type 1} → stated.statement M
 unfolding code.routine tablesOf
 advance-spec 𝓤 H 𝓜 𝓖 𝓡 =
     entered 𝓤 H (tripleOf 𝓤 H (𝓖 .A) advance.signature (advance.spec 𝓤 H (𝓖 .A) (𝓜 .mem) (𝓡 .run)))
-    (tables 𝓤 H 𝓜 𝓡 code.env .C) (tables 𝓤 H 𝓜 𝓡 code.env .Λ) #run_held·advance code.function (code.unfolded 𝓤 H 𝓜 𝓡)
+    (tables 𝓤 H 𝓜 𝓡 code.env .C) (tables 𝓤 H 𝓜 𝓡 code.env .Λ) #run-held·advance code.function (code.unfolded 𝓤 H 𝓜 𝓡)
     (advance-meets 𝓤 H (𝓖 .A) (givenOf 𝓤 H 𝓜 𝓖) (𝓜 .mem) (𝓡 .run) (tablesOf 𝓤 H 𝓜 (tables 𝓤 H 𝓜 𝓡 code.env))
-    (cited 𝓤 H (Step 𝓤 H (𝓖 .A) (𝓜 .mem) (𝓡 .run)) 𝓜 𝓡 code.env #run_held·step step-def.routine code.calls-held·step (step-thm.met 𝓤 H 𝓜 𝓖 𝓡)))
+    (cited 𝓤 H (Step 𝓤 H (𝓖 .A) (𝓜 .mem) (𝓡 .run)) 𝓜 𝓡 code.env #run-held·step step-def.routine code.calls-run-held·step (step-thm.met 𝓤 H 𝓜 𝓖 𝓡)))
