@@ -57,7 +57,7 @@ fn rest(number: u64) -> u64 {
 
 // What has to stand at a place of a slice: behind its lent length what stood there, before that the result from `first` on, and then
 // the rest.
-fn after(numbers: &Numbers, slice: usize, first: usize, i: usize) -> u64 {
+pub fn after(numbers: &Numbers, slice: usize, first: usize, i: usize) -> u64 {
     if line::lent(numbers, slice) <= i {
         return wide(BEFORE);
     }
