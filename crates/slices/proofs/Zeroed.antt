@@ -29,7 +29,3 @@ stop {s₀} {s} {i} z h =
     let e : i ≡ length s₀ = omega arith in
     let q : length s₀ ≤ i = omega arith in
     z .front ∙ rw (drop-of-length-le s₀ q, append-nil, e)
-
--- what was as long as s₀ and was cleared is s₀ cleared
-pub zeros-as-long : (s₀ s : List ℕ) {z : List ℕ} → z ≡ zeros s → length s ≡ length s₀ → z ≡ zeros s₀
-zeros-as-long s₀ s e k = e ∙ ap (λ (n : ℕ). replicate {A = ℕ} n 0) k

@@ -7,7 +7,6 @@ use Rattle.job_laws.proofs.Outcomes.{job-answered}
 use Rattle.lent.proofs.Alike.{zeros-alike}
 use Rattle.lent.proofs.Longs.{not-short}
 use Rattle.column_laws.proofs.Testing.{tested}
-use Rattle.slices.proofs.Zeroed.{zeros-as-long}
 use Rattle.check_bytes.proofs.Ways.{way-job, way-short, way-refused, way-done}
 use Rattle.checker.proofs.check_plan.Statement.{statement}
 use Rattle.checker.proofs.check_plan.Tie as tie
@@ -112,7 +111,7 @@ same-length-12 c = omega (arith, after-clear64 (search) .clear64 .kept, judged (
 returns-4 : tie.Need-returns-4
 returns-4 c =
     way-done (judged (search) .judge-bytes .ensures) (else3 (search) .if3 .left)
-    (zeros-as-long _ _ (after-clear64 (search) .clear64 .ensures) (omega (arith, judged (search) .judge-bytes .kept)))
+    (cc (after-clear64 (search) .clear64 .ensures, judged (search) .judge-bytes .kept))
 
 pub check-plan-spec : {M : Type 1} → statement M
 check-plan-spec =

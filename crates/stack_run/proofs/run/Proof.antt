@@ -2,9 +2,7 @@
 -- Assumes nothing.
 use borrow.Author.Needs.{needs}
 use native.Mathlib.Omega.{arith}
-use denote.Ref.{now}
 use Rattle.run_updates.specs.Kept.{callOf}
-use Rattle.slices.proofs.Zeroed.{zeros-as-long}
 use Rattle.stack_run.proofs.Outcomes.{run-many, run-starts, starts-pass, run-rows, factor-is, all-long, run-short, run-steps}
 use Rattle.stack_run.proofs.run.Statement.{statement}
 use Rattle.stack_run.proofs.run.Tie as tie
@@ -33,10 +31,6 @@ after-too-short c = c
 
 abbrev else4 : tie.Else4 → tie.Else4
 else4 c = c
-
--- the entry, as seen from behind the steps
-abbrev entry₁ : tie.Else4 → tie.Start
-entry₁ c = search
 
 abbrev after-steps : tie.After-steps → tie.After-steps
 after-steps c = c
@@ -85,7 +79,7 @@ returns-5 c =
     run-steps _ (else1 (search) .if1 .left) (after-starts-fault (search) .starts-fault .ensures) (else2 (search) .if2 .left)
     (after-rows-fault (search) .rows-fault .ensures) (else3 (search) .if3 .left) (after-too-short (search) .too-short .ensures)
     (else4 (search) .if4 .left) (steps .ensures)
-    (zeros-as-long (now (entry₁ (search) .args .stack)) _ (cleared (search) .clear32 .ensures) (omega (arith, steps .kept)))
+    (cc (cleared (search) .clear32 .ensures, steps .kept))
 
 pub run-spec : {M : Type 1} → statement M
 run-spec =
