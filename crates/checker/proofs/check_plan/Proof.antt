@@ -111,7 +111,7 @@ same-length-12 c = omega (arith, after-clear64 (search) .clear64 .kept, judged (
 returns-4 : tie.Need-returns-4
 returns-4 c =
     way-done (judged (search) .judge-bytes .ensures) (else3 (search) .if3 .left)
-    (cc (after-clear64 (search) .clear64 .ensures, judged (search) .judge-bytes .kept))
+    (let kept = judged (search) .judge-bytes .kept in cc (after-clear64 (search) .clear64 .ensures))
 
 pub check-plan-spec : {M : Type 1} → statement M
 check-plan-spec =

@@ -79,7 +79,7 @@ returns-5 c =
     run-steps _ (else1 (search) .if1 .left) (after-starts-fault (search) .starts-fault .ensures) (else2 (search) .if2 .left)
     (after-rows-fault (search) .rows-fault .ensures) (else3 (search) .if3 .left) (after-too-short (search) .too-short .ensures)
     (else4 (search) .if4 .left) (steps .ensures)
-    (cc (cleared (search) .clear32 .ensures, steps .kept))
+    (let kept = steps .kept in cc (cleared (search) .clear32 .ensures))
 
 pub run-spec : {M : Type 1} → statement M
 run-spec =
