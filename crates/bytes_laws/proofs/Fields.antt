@@ -35,7 +35,7 @@ module _ {A B : Type 0} (next : A → ℕ → Read B) where
   unfolding then
   then-bad e = rw e
 
-  -- what is found behind two parts is found behind the second, once the first is found
+  -- if two parts are found one behind the other, the first is found, and the second behind it
   pub then-only : (r : Read A) {b : B} {to : ℕ} → then r next ≡ got b to → (a : A) × (at : ℕ) × (r ≡ got a at) × (next a at ≡ got b to)
   unfolding then
   then-only (got a at) e = (a, at, refl, e)

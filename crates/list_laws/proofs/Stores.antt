@@ -81,7 +81,7 @@ unfolding startsFrom
 length-starts t [] = refl
 length-starts t (k ∷ a) = let i = length-starts (t + length k) a in omega arith
 
--- storing the starts over a first start of 0 leaves it 0
+-- a first start of 0 may be stored before the others: they are stored over it
 pub starts-again : (starts : List ℕ) (lists : List (List ℕ)) → sets (set starts 0 0) 0 (startsFrom 0 lists) ≡ sets starts 0 (startsFrom 0 lists)
 unfolding startsFrom
 starts-again starts [] = set-set starts 0 0 0

@@ -17,7 +17,7 @@ use Rattle.order_laws.proofs.Rooms.{held-update, held-append}
 use Rattle.order_laws.proofs.Frames.{held-above, rooms-above, enough-append, enough-above}
 use Rattle.order_laws.proofs.Arranged.{arranged-elements, arranged-length, steps-suc}
 
--- popping all that is held, a column of r rows leaves its own update
+-- what a column of r rows leaves if it pops all that is held
 pub leaves : ℕ → List ℕ
 leaves r = heldAfter 0 r []
 

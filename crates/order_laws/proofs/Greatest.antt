@@ -51,7 +51,7 @@ unfolding sum
 sum-append [] b = omega arith
 sum-append (x ∷ a) b = omega (arith, sum-append a b)
 
--- at most this many numbers, each at most b, sum up to at most their product
+-- numbers that are each at most b add up to at most b times their count
 pub sum-bound : (l : List ℕ) (b : ℕ) → ((x : ℕ) → x ∈ l → x ≤ b) → sum l ≤ length l * b
 unfolding sum
 sum-bound [] b h = omega arith

@@ -13,7 +13,7 @@ use Rattle.list_laws.proofs.Tests.{Test, passes, fails, test}
 use Rattle.order_laws.specs.Parents.{Tree}
 
 module _ (par : ℕ → ℕ) where
-  -- the first parent on the way up
+  -- a column of a subtree is the top, or its parent is in the subtree
   pub under-cases : (j x : ℕ) → Under par j x → (x ≡ j) ⊎ ((0 < par x) × Under par j (par x))
   under-cases j x top = inl refl
   under-cases j x (up z s) = inr (z, s)

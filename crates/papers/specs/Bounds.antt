@@ -52,7 +52,7 @@ programFactorRows = 4096
 abbrev pub maxDigits : ℕ
 maxDigits = 13
 
--- a job text without a mark means this mark
+-- the mark of a job text that gives none
 abbrev pub defaultMark : ℕ
 defaultMark = 0
 

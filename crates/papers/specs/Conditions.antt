@@ -322,7 +322,7 @@ checkConditions =
 
 -- ---- the run
 
--- 7: columns, pops or stack slice are shorter than n
+-- 7: there are fewer than n columns or pops, or the stack slice is shorter than n
 abbrev pub RunShort : Condition RunCall
 RunShort call a = ((length (call .columns) < call .n) ⊎ ((length (call .pops) < call .n) ⊎ (length (call .stack) < call .n))) × (a ≡ answer 7 0 0)
 
@@ -365,7 +365,7 @@ runConditions =
 
 -- ---- 25 to 27: the job text, and the solver's call
 
--- line q of a text, counted from 1, consists of these numbers: decimals of at most 13 digits, one space between, a newline at the end
+-- line q of a text, counted from 1, consists of these numbers: decimals of up to 13 digits with single spaces between them, ended by a newline
 pub record Spelt (text : List ℕ) (q x : ℕ) (xs : List ℕ) : Type 0 where
   pub rest : List ℕ
   pub line : afterLines (q - 1) text ≡ printed (decimalOf x) xs ++ rest
@@ -376,7 +376,7 @@ pub data HeadLine (text : List ℕ) : Type 0 where
   two : {n limit : ℕ} → Spelt text 1 n (limit ∷ []) → HeadLine text
   three : {n limit mark : ℕ} → Spelt text 1 n (limit ∷ mark ∷ []) → HeadLine text
 
--- line q consists of a row count and that many rows
+-- line q consists of a count and as many rows as it says
 pub data RowLine (text : List ℕ) (q : ℕ) : Type 0 where
   rows : {l : List ℕ} → Spelt text q (length l) l → RowLine text q
 

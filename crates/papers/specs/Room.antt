@@ -8,7 +8,7 @@ use Rattle.papers.specs.Tree.{t}
 
 -- Throughout, `held` lists the entries of each update held, the top one first.
 
--- the entries of the top update if pops is not 0: the front is put over it
+-- the entries of the top update if there are pops: the front is put over it
 unfoldable pub topUpdate : ℕ → List ℕ → ℕ
 topUpdate zero held = 0
 topUpdate (suc p) held = head0 held

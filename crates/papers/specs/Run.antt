@@ -94,7 +94,7 @@ module _ (call : RunCall) where
   unfoldable pub faultAt : ℕ → ℕ
   faultAt s = stepFault s (stateAfter (s - 1))
 
--- 7: columns, pops or stack slice are shorter than n
+-- 7: there are fewer than n columns or pops, or the stack slice is shorter than n
 unfoldable pub runLengthsTest : RunCall → Verdict
 runLengthsTest call =
     let n = call .n in
