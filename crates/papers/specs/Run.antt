@@ -100,7 +100,7 @@ runLengthsTest call =
     let n = call .n in
     refusedIf (ltb (length (call .columns)) n || ltb (length (call .pops)) n || ltb (length (call .stack)) n) (answer 7 0 0) untouched
 
--- 14, 21, 22, 23: the first step at fault decides; the count is the greatest room in use of the steps fully done
+-- 14, 21, 22, 23: the first step at fault decides; the count is the greatest room in use of the completed steps
 unfoldable pub stepsTest : RunCall → Verdict
 stepsTest call =
     let s = least (λ s. ltb 0 (faultAt call s)) (call .n) in
