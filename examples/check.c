@@ -1,4 +1,4 @@
-/* The solver's side: a stored key and a stored plan in, one number out.
+/* The solver's side: reads a stored key and a stored plan, and prints what the call answers.
    usage: check KEY-FILE PLAN-FILE      exits 0 if the plan is sound for the key's job */
 #include "../include/loomsaffron.h"
 #include <inttypes.h>

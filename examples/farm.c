@@ -1,4 +1,5 @@
-/* The life of a plan at the farm: a Matrix Market file in, its key and its plan to files, read back, checked, run at the declared peak.
+/* The life of a plan at the farm: reads a Matrix Market file, writes its key and its plan to files, reads the plan back, checks it, and runs it at
+   the declared peak.
    usage: farm MATRIX.mtx [MARK [LIMIT]]      writes MATRIX.mtx.key and MATRIX.mtx.plan */
 #define _POSIX_C_SOURCE 200809L
 #include "../include/loomsaffron.h"
@@ -27,7 +28,7 @@ static const char *in_words(uint64_t number) {
     case LS_BAD_NUMBER: return "a number of the plan is too long, or not in shortest form";
     case LS_VALUE_OUT_OF_RANGE: return "a number is out of its range";
     case LS_BYTES_AFTER: return "bytes follow the plan";
-    case LS_COLUMN_REPEATED: return "a column stands twice in the order";
+    case LS_COLUMN_REPEATED: return "a column is done twice";
     case LS_WRONG_LIST: return "a column's list is not that of elimination";
     case LS_SUBTREE_SCATTERED: return "a subtree is not in one piece";
     case LS_WRONG_POPS: return "a step does not pop its column's children";
@@ -117,7 +118,7 @@ int main(int argc, char **argv) {
     uint32_t *parents = room_for(n, 4), *order = room_for(n, 4), *pops = room_for(n, 4), *stack = room_for(n, 4), *rows = room_for(0, 4);
     uint64_t *starts = room_for(n + 1, 8), *work = room_for(LS_WORK(n), 8), place, count, needed = 0, number;
 
-    /* a slice of no rows: the answer says how many are needed */
+    /* lend no rows: the answer says how many are needed */
     double t0 = seconds();
     number = ls_analyse(p.n, p.starts, n + 1, p.rows, p.count, mark, limit, parents, n, order, n, pops, n, starts, n + 1, rows, 0, work, LS_WORK(n), &place, &count);
     if (number == LS_ROWS_NEEDED) { needed = count; free(rows); rows = room_for((size_t)needed, 4); }
@@ -144,7 +145,7 @@ int main(int argc, char **argv) {
     store(key_file, key, key_len); store(plan_file, plan, plan_len);
     free(key); free(plan);
 
-    /* another day: what was stored is checked, whoever wrote it, and run at the peak that it declares */
+    /* another day: check the stored plan, whoever wrote it, and run it at the peak that it declares */
     double t3 = seconds();
     plan = load(plan_file, &plan_len);
     number = ls_check_plan(p.n, p.starts, n + 1, p.rows, p.count, mark, limit, plan, plan_len, parents, n, order, n, pops, n, starts, n + 1, rows, (size_t)needed, work, LS_WORK(n), &place, &count);

@@ -1,11 +1,11 @@
 /* Loomsaffron for C: plans of sparse factorizations, proved.
 
-   Every function takes any numbers and any contents: it answers by a number, 0 for done. A list is a pointer and its length in elements. The
-   place and the count of the answer are stored through the last two pointers. docs/REFUSALS.md says when each number is answered, what place
+   Every function takes any numbers and any contents, and answers a number, 0 for done. A list is a pointer and its length in elements. The
+   function stores the answer's place and count through the last two pointers. docs/REFUSALS.md says when each number is answered, what place
    and count then say, and what the lent slices hold.
 
-   Two things the proofs take from the caller: the pointers are good for the lengths given, and nothing that is lent to be written (a non-const list,
-   place, count) overlaps anything else.
+   The proofs rely on the caller for two things: the pointers are good for the lengths given, and nothing that is lent to be written (a non-const
+   list, place, count) overlaps anything else.
 
    A job is n columns, n + 1 starts, the rows strictly below the diagonal column by column, a sibling mark (0, 1 or 2) and a room limit. */
 #ifndef LOOMSAFFRON_H
@@ -27,10 +27,10 @@ enum ls_number {
     LS_ROW_OUT_OF_RANGE = 5,    /* place: the column */
     LS_ROW_NOT_ASCENDING = 6,   /* place: the column */
     LS_SLICE_TOO_SHORT = 7,     /* a lent slice is below its fixed length; nothing was written */
-    LS_ROWS_NEEDED = 8,         /* count: how many factor rows the lists have */
+    LS_ROWS_NEEDED = 8,         /* count: how many factor rows the lists need */
     LS_PEAK_OVER_LIMIT = 9,     /* count: the peak */
-    LS_BYTES_NEEDED = 10,       /* count: how many bytes the key or the plan has */
-    LS_WRONG_KEY = 11,          /* place: the first byte that is not the job's key, from 1 */
+    LS_BYTES_NEEDED = 10,       /* count: how many bytes the key or the plan needs */
+    LS_WRONG_KEY = 11,          /* place: the first byte that differs from the job's key, from 1 */
     LS_BYTES_END = 12,          /* place: the byte where the number starts, here and in 13 and 14 */
     LS_BAD_NUMBER = 13,         /* too long, or not in shortest form */
     LS_VALUE_OUT_OF_RANGE = 14, /* in a run: place, the step whose column is not in 1..n */
@@ -48,40 +48,41 @@ enum ls_number {
     LS_UNREADABLE_KEY = 27      /* check: no job has these bytes as its whole key */
 };
 
-/* The numbers of 64 bits that the work slice has for n columns. */
+/* The length of the work slice for n columns, in numbers of 64 bits. */
 #define LS_WORK(n) (8 * (n) + 8)
 
-/* The key of a job, in front of bytes, then zeros. Done: count is the bytes of the key. */
+/* Writes the key of a job to the front of bytes, then zeros. Done: count is the bytes of the key. */
 uint64_t ls_write_key(uint64_t n, const uint64_t *starts, size_t starts_len, const uint32_t *rows, size_t rows_len, uint64_t mark, uint64_t limit,
                       uint8_t *bytes, size_t bytes_len, uint64_t *place, uint64_t *count);
 
-/* The analysis of a job: parents, order and pops (n or more each), factor starts (n + 1 or more), factor rows (too few: LS_ROWS_NEEDED), work
-   (LS_WORK(n) or more, zero afterwards). Done: each has its result, then zeros; count is the peak. */
+/* Analyses a job into parents, order and pops (n or more each), factor starts (n + 1 or more) and factor rows (too few: LS_ROWS_NEEDED), with work
+   (LS_WORK(n) or more, zero afterwards). Done: each slice holds its result, then zeros; count is the peak. */
 uint64_t ls_analyse(uint64_t n, const uint64_t *starts, size_t starts_len, const uint32_t *rows, size_t rows_len, uint64_t mark, uint64_t limit,
                     uint32_t *parents, size_t parents_len, uint32_t *order, size_t order_len, uint32_t *pops, size_t pops_len,
                     uint64_t *fstarts, size_t fstarts_len, uint32_t *frows, size_t frows_len, uint64_t *work, size_t work_len,
                     uint64_t *place, uint64_t *count);
 
-/* The analysis, and its plan in front of bytes, then zeros. Done: count is the bytes of the plan. */
+/* Analyses a job and writes its plan to the front of bytes, then zeros. Done: count is the bytes of the plan. */
 uint64_t ls_write_plan(uint64_t n, const uint64_t *starts, size_t starts_len, const uint32_t *rows, size_t rows_len, uint64_t mark, uint64_t limit,
                        uint32_t *parents, size_t parents_len, uint32_t *order, size_t order_len, uint32_t *pops, size_t pops_len,
                        uint64_t *fstarts, size_t fstarts_len, uint32_t *frows, size_t frows_len, uint64_t *work, size_t work_len,
                        uint8_t *bytes, size_t bytes_len, uint64_t *place, uint64_t *count);
 
-/* The check of a plan for a job, into the slices of an analysis. Done: the plan is sound for this job, the slices hold it, count is its peak. */
+/* Checks a plan for a job, in the slices of an analysis. Done: the plan is sound for this job, the slices hold it, count is its peak. */
 uint64_t ls_check_plan(uint64_t n, const uint64_t *starts, size_t starts_len, const uint32_t *rows, size_t rows_len, uint64_t mark, uint64_t limit,
                        const uint8_t *plan, size_t plan_len,
                        uint32_t *parents, size_t parents_len, uint32_t *order, size_t order_len, uint32_t *pops, size_t pops_len,
                        uint64_t *fstarts, size_t fstarts_len, uint32_t *frows, size_t frows_len, uint64_t *work, size_t work_len,
                        uint64_t *place, uint64_t *count);
 
-/* A run of n steps, each a column and its pops, on the lists of an analysis or a check: the first n + 1 factor starts, exactly the rows that they
-   count, the first n of order and pops. stack: n or more, zero afterwards. From the steps on count is the greatest room in use. */
+/* Runs n steps, each a column and its pops, on the lists of an analysis or a check: the first n + 1 factor starts, exactly the rows that they
+   count, the first n of order and pops. stack: n or more, zero afterwards. From the steps on, count is the greatest room in use. */
 uint64_t ls_run(uint64_t n, const uint64_t *fstarts, size_t fstarts_len, const uint32_t *frows, size_t frows_len,
                 const uint32_t *columns, size_t columns_len, const uint32_t *pops, size_t pops_len, uint64_t room,
                 uint32_t *stack, size_t stack_len, uint64_t *place, uint64_t *count);
 
-/* The solver's call, in an archive of its own (libsolver.a): whether a plan is sound for the job whose key this is. number * 2^32 + place. */
+/* The solver's call, in an archive of its own (libsolver.a): tests whether a plan is sound for the job of this key, and answers
+   number * 2^32 + place. */
 uint64_t check(const uint8_t *key, size_t key_len, const uint8_t *plan, size_t plan_len);
 
 #ifdef __cplusplus

@@ -3,16 +3,16 @@
 
     python3 tests/damage.py > crates/trial_check/stdin
 
-The program `trial_check` reads them and holds the proved check against every one. The first half of this file is that reading: it goes through
-the refusals in the order in which they are tested, fills by dense elimination, and shares nothing with the product, neither code nor
-definitions. The second half draws jobs and plans from a seed and damages them. A draw depends on the seed alone, so the file comes out the
-same everywhere. How many cases there are of each number goes to standard error.
+The program `trial_check` reads them and compares what the proved check answers with every one. The first half of this file is that reading: it
+tests the refusals in their order, fills by dense elimination, and shares nothing with the product, neither code nor definitions. The second
+half draws jobs and plans from a seed and damages them. A draw depends on the seed alone, so the file is the same everywhere. The script prints
+to standard error how many cases each number has.
 
 A line is a case, in decimals with one space between. The first number, of five digits, counts the bytes after its space. Then come
     n mark limit                                          of the job,
     number place count                                    that the check has to answer,
     starts rows plan                                      how many of each are given,
-    parents order pops fstarts frows work                 how much of the result stands in each lent slice, before zeros,
+    parents order pops fstarts frows work                 how long the result is in each lent slice, before the zeros,
     parents order pops fstarts frows work                 how long each lent slice is,
 and the lists themselves: starts, rows, plan bytes, and those of the result, in the same order.
 """
@@ -20,7 +20,7 @@ import sys
 
 LENT = ("parents", "order", "pops", "fstarts", "frows", "work")
 
-# What the program has room for.
+# The most numbers that the program keeps of each list, and the longest line that it reads.
 MOST = {"starts": 1152, "rows": 512, "plan": 2048, "parents": 512, "order": 512, "pops": 512, "fstarts": 1152, "frows": 512, "work": 1152}
 LONGEST_LINE = 8192
 
@@ -102,7 +102,7 @@ def entries(r):
 
 
 def rooms(order, pops, lists):
-    """The room in use at each step; the stack has the entries of each update."""
+    """The room in use at each step; the stack lists the entries of each update."""
     stack, used = [], []
     for column, taken in zip(order, pops):
         r = len(lists[column - 1])
@@ -198,7 +198,7 @@ def read_plan(n, key, plan):
 
 
 def subtree(parents, top):
-    """The columns from which one comes to the top by going from parent to parent."""
+    """The columns from which the parents lead to the top."""
     found = set()
     for column in range(1, len(parents) + 1):
         c = column
@@ -334,7 +334,7 @@ class Plan:
 
 
 def any_order(dice, parents):
-    """An order in which each subtree is consecutive with its top last; siblings and roots stand as they fall."""
+    """An order in which each subtree is consecutive with its top last; siblings and roots are in random order."""
     def of_siblings(top):
         found = []
         for child in dice.shuffled([c for c, p in enumerate(parents, 1) if p == top]):
@@ -370,7 +370,7 @@ def written(job, plan):
 
 
 def enough(dice, n, rows):
-    """Lengths of lent slices that will do, some of them with places to spare."""
+    """Lengths of lent slices that are long enough, some of them longer than needed."""
     fixed = (n, n, n, n + 1, rows, 8 * n + 8)
     return {name: length + (dice.between(1, 5) if dice.often(30) else 0) for name, length in zip(LENT, fixed)}
 
@@ -440,7 +440,7 @@ def damage_order(dice, job, plan):
 
 
 def damage_repeat(dice, job, plan):
-    """A column stands at more steps than one."""
+    """A column is done at several steps."""
     if job.n < 2:
         return damage_pops(dice, job, plan)
     for _ in range(dice.pick([1, 1, 1, 2, 3])):
@@ -534,7 +534,7 @@ SAYS = (damage_kept_order, damage_order, damage_repeat, damage_lists, damage_pop
 # ---------------------------------------------------------------- Cases: each answers a job, plan bytes and lengths of slices
 
 def case_said(way):
-    """A plan that is damaged in one way; where a try leaves it as it was, there are some more."""
+    """A plan that is damaged in one way; a try that changes nothing is repeated a few times."""
     def case(dice):
         job, plan = draw(dice)
         for _ in range(8):
@@ -551,14 +551,14 @@ def case_sound(dice):
 
 
 def case_number(dice):
-    """One number after the key is another one."""
+    """One number after the key is replaced by another."""
     job, plan = draw(dice)
     numbers = change_numbers(dice, job, plan.numbers(), 1)
     return job, as_bytes(key_numbers(job) + numbers), lent_for(dice, job, plan)
 
 
 def case_numbers(dice):
-    """Several numbers, those of the key among them, are others; some are left out, put in or exchanged."""
+    """Several numbers, the key's included, are replaced, left out, put in or exchanged."""
     job, plan = draw(dice)
     key, numbers = key_numbers(job), plan.numbers()
     for _ in range(dice.between(1, 3)):
@@ -596,7 +596,7 @@ def case_more(dice):
 
 
 def case_bytes(dice):
-    """Some bytes, anywhere, are other ones."""
+    """Some bytes, anywhere, are replaced by others."""
     job, plan = draw(dice)
     data = written(job, plan)
     first = dice.pick([0, len(as_bytes(key_numbers(job)))])
@@ -621,7 +621,7 @@ def long_form(dice, x):
 
 
 def case_long(dice):
-    """A number after the key, or rarely in it, is longer than need be; sometimes the bytes end within some bytes of its start."""
+    """A number after the key, or rarely in it, is longer than it must be; sometimes the bytes end within some bytes of its start."""
     job, plan = draw(dice)
     numbers = key_numbers(job) + plan.numbers()
     first = 0 if dice.often(8) else len(key_numbers(job))
@@ -757,7 +757,7 @@ def case_bad_job(dice):
 
 
 def case_mixed(dice):
-    """Several faults at once: which comes first is what is asked."""
+    """Several faults at once: the case asks which is answered."""
     job, plan = draw(dice)
     true_rows = plan.rows()
     if dice.often(40):
@@ -792,7 +792,7 @@ def case_large(dice):
 
 
 def fits(case):
-    """A line stays shorter than the program has room for."""
+    """A line stays shorter than the longest that the program reads."""
     job, data, lent = case
     return len(data) <= 1500 and lent["frows"] <= 400
 

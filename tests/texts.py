@@ -1,19 +1,18 @@
 #!/usr/bin/env python3
-"""Job texts, each with what a plain reading of the rules has the listing program print for it.
+"""Job texts, each with what the listing program must print for it by a plain reading of the rules.
 
     python3 tests/texts.py > crates/trial_text/stdin
 
-The program `trial_text` reads them and holds the proved listing against every one. The first half of this file is that reading: it takes a
-text apart line by line and word by word, fills by dense elimination, sorts siblings by the mark's key and sums up room on a stack. It
-shares neither code nor definitions with the product. It is no second opinion on tests/damage.py, which stood beside it when it was written;
-the draws are taken from there. The second half makes the texts: each refusal that a text can meet, each size met exactly and passed by
-one, trees of many forms, real patterns, and texts drawn from a seed, whole and damaged. A draw depends on the seed alone, so the file comes
-out the same everywhere. How many cases there are of each number goes to standard error.
+The program `trial_text` reads them and compares what the proved listing prints with every one. The first half of this file is that reading: it
+takes a text apart line by line and word by word, fills by dense elimination, sorts siblings by the mark's key and sums up room on a stack. It
+shares neither code nor definitions with the product. It is not independent of tests/damage.py: its author knew that file, and takes the draws
+from it. The second half makes the texts: each refusal that a text can meet, each size met exactly and exceeded by one, trees of many forms,
+real patterns, and texts drawn from a seed, whole and damaged. A draw depends on the seed alone, so the file is the same everywhere. The script
+prints to standard error how many cases each number has.
 
-A case is a head of 14 bytes, `ttttt m lllll` and a newline, then t bytes of text and l bytes that have to be printed. A text longer than
-the program's buffer is handed over as far as the buffer goes, with m 1, for more input; else m is 0. One that is longer by a little comes
-a second time, as a whole. The last cases say m 1 of short texts; that this is 26 is the word of
-`listing`, not of the paper, whose program never asks it.
+A case is a head of 14 bytes, `ttttt m lllll` and a newline, then t bytes of text and l bytes that must be printed. Of a text longer than the
+program's buffer, a case contains as much as the buffer holds, with m 1, for more input; else m is 0. A text that is a little longer comes a
+second time, whole. The last cases give m 1 with short texts: `listing` answers 26 for these, and the paper's program never asks.
 """
 import json
 import pathlib
@@ -125,8 +124,8 @@ class Tree:
             self.children[j].sort(key=self.sibling_key)
 
     def sibling_key(self, c):
-        """Ascending by this is descending by the mark's measure, lower number first where that is the same. A child's own
-        children are sorted before it is, since they are lower."""
+        """A sort by this key puts the greatest measure of the mark first, and of equals the lower number. A child's own
+        children are sorted before it, since they are lower."""
         update = t(len(self.lists[c]))
         if self.mark == 0:
             return c
@@ -146,7 +145,7 @@ class Tree:
         return max(self.rooms(self.subtree(j)))
 
     def rooms(self, order):
-        """The room in use at each step. The stack has the columns whose updates are held."""
+        """The room in use at each step. The stack lists the columns whose updates are held."""
         stack, used = [], []
         for j in order:
             taken = len(self.children[j])
@@ -315,7 +314,7 @@ def pieces():
 
 
 def real():
-    """Patterns of real matrices that the program has room for."""
+    """Patterns of real matrices that fit the program's buffers."""
     folder = pathlib.Path(__file__).resolve().parent.parent / "bench" / "real"
     for path in sorted(folder.glob("*.job")):
         first, *lines = [[int(word) for word in line.split()] for line in path.read_text().splitlines()]
@@ -356,7 +355,7 @@ def spread(total):
 
 
 def padded(length, last=b""):
-    """A good text of so many bytes, with something behind it: as many rows as there is room for, and then more digits in the limit."""
+    """A good text of so many bytes, with something behind it: as many rows as fit, and then more digits in the limit."""
     def text(rows, digits):
         return text_of(spread(rows), 10 ** (digits - 1)) + last
     rows = max(rows for rows in range(1700, 2000) if len(text(rows, 8)) <= length)
@@ -412,7 +411,7 @@ def row_sizes():
 
 
 def factor_sizes():
-    """4,096 factor rows, and one more; the limit is not looked at where they are too many."""
+    """4,096 factor rows, and one more; if they are too many the limit is not tested."""
     for columns in (fan(90), fan(91), fan(92), fan(200), grid(16, 16), grid(17, 15), beside(fan(64), fan(65)), beside(fan(80), fan(80))):
         yield text_of(columns, MOST_ROOM)
     bases = [fan(91), beside(fan(64), fan(64)), beside(fan(65), fan(63))]
@@ -477,7 +476,7 @@ BAD_TEXTS = [
     b"0 3\n1 2\n0\n", b"256 3\n", b"257 3\n", b"257 3", b"257  3\n", b"257\n", b"257 3 0 0\n", b"257 3 x\n", b"257 3\nx", b"257 03\n",
     b"0257 3\n", b"9999999999999 0\n", b"99999999999999 0\n", b"9999999999999 9999999999999 9999999999999\n",
     b"9999999999999 9999999999999 99999999999999\n",
-    # The text before the job, and the job's faults in their order.
+    # Faults of the text come before those of the job, and these in their order.
     b"2 3 7\n1 2\nx\n", b"2 1099511627777\n1 2\n0\n\n", b"2 3\n1 1\n0", b"2 3\n1 1\n0\n\n", b"2 3 7\n1 1\n0\n",
     b"2 1099511627777 7\n1 1\n0\n", b"2 1099511627777 1\n1 1\n0\n", b"2 1099511627776 1\n1 1\n0\n", b"2 0\n1 1\n0\n", b"2 0 2\n1 2\n0\n",
     b"2 0 3\n1 2\n0\n", b"2 3 3\n1 2\n0\n", b"1 0\n1 1\n", b"1 0\n1 0\n", b"1 0\n1 2\n", b"2 3\n1 3\n0\n", b"2 3\n1 0\n0\n",
@@ -504,7 +503,7 @@ def swept():
 
 
 def given():
-    """Texts that others drew up; what they print is found here."""
+    """Texts that others wrote; this file works out what they print."""
     for line in (pathlib.Path(__file__).resolve().parent / "given_texts.jsonl").read_text().splitlines():
         yield json.loads(line).encode("latin-1")
 
@@ -602,7 +601,7 @@ def draw_over(dice):
 
 
 def draw_coupled(dice):
-    """As many factor rows as there is room for, or more: two fans, the second as great as can be, and a chain for the rest."""
+    """As many factor rows as fit, or more: two fans, the second as large as possible, and a chain for the rest."""
     total, first = FACTOR_ROWS + dice.pick([0, 1, 1, 2, dice.below(500)]), dice.between(40, 91)
     left = total - t(first - 1)
     second = max(n for n in range(1, 93) if t(n - 1) <= left)
@@ -611,13 +610,13 @@ def draw_coupled(dice):
 
 
 def draw_words(dice):
-    """Words and ends of lines as they fall."""
+    """Random words and line ends."""
     words = [b"0", b"1", b"2", b"3", b"1 2", b"1 3", b"2 2 3", b"\n", b"\n", b"\n", b" ", b"12", b"00", b"257", b"x"]
     return dice.pick([b"1 9\n", b"2 9\n", b"3 9\n", b"3 9 1\n", b""]) + b"".join(dice.pick(words) for _ in range(dice.below(10)))
 
 
 def draw_lines(dice):
-    """Lines as they fall; now and then they make a job."""
+    """Random lines; now and then they make a job."""
     n = dice.between(0, 3)
     lines = [b"0", b"0", b"0", b"1 2", b"1 3", b"2 2 3", b"1 4", b"", b"0 "]
     count = max(n + dice.pick([-1, 0, 0, 0, 0, 1]), 0)

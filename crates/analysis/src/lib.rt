@@ -1,4 +1,4 @@
-// The analysis of a job: its entry point.
+// The entry point of the analysis of a job.
 use papers::Answer;
 use papers::JobHead;
 ghost use Rattle.papers.specs.Job.{jobOf};
@@ -6,8 +6,8 @@ ghost use Rattle.papers.specs.Refusals.{EndsAs};
 ghost use Rattle.papers.specs.Analysis.{analysed};
 ghost use Rattle.lent.specs.Six.{six};
 
-// The analysis of a job: 1 to 6, 7, 8, 9; done, the slices hold parents, order, pops, factor starts and rows, then zeros, and the count
-// is the peak. What 8 or 9 left in the slices is cleared.
+// Analyses a job. Tests 1 to 6, then 7, 8 and 9. When done, the slices hold parents, order, pops, factor starts and factor rows, then
+// zeros, and the count is the peak. Clears the slices after 8 and 9.
 pub fn analyse(
     head: JobHead,
     starts: &[u64],

@@ -1,11 +1,11 @@
-// What many crates need of machine numbers: a number widened or narrowed, the lesser and the greater of two; and an answer made of its
-// three numbers.
+// Functions of machine numbers that many crates use: they widen and narrow a number, take the lesser or the greater of two, and make an
+// answer of three numbers.
 ghost use mathlib.Core.Path.{_≡_};
 ghost use Prim.Native.Nat.{_<_, _^_, min, max};
 ghost use Rattle.papers.specs.Refusals.{answer};
 use papers::Answer;
 
-// A byte as a number of 64 bits, which stays below 256.
+// A byte as a number of 64 bits; it stays below 256.
 pub fn wide8(b: u8) -> u64
     ensures { λ r. ⌜ (r ≡ b) × (r < 256) ⌝ }
 {

@@ -1,5 +1,5 @@
--- Each byte of the key stands in the plan, so the plan begins with it; behind it the plan's numbers stand up to the end. So bytes that pass 11 to 15
--- are the bytes of one plan of the job, and no others are.
+-- Proves that bytes pass 11 to 15 exactly when they are the bytes of a plan of the job. If each byte of the key agrees, the plan begins
+-- with the key; behind it are the plan's numbers, up to the end.
 -- Assumes nothing.
 use Prim.Native.Nat.{ℕ, zero, suc, _-_, _*_, _^_, _<_, _≤_}
 use mathlib.Core.Path.{_≡_, refl, sym, ap, _∙_}
@@ -24,7 +24,7 @@ use Rattle.list_laws.proofs.Leasts.{least-zero-iff}
 use Rattle.bytes_laws.proofs.Fields.{spans-end, spans-to-end}
 use Rattle.bytes_laws.proofs.Plans.{Fit, plan-back, plan-only}
 
--- byte p does not differ just where it is the key's
+-- byte p does not differ exactly when it is the key's byte
 agrees-iff : (key plan : List ℕ) (p : ℕ) → (keyDiffers key plan p ≡ false) ↔ Agrees key plan p
 unfolding keyDiffers
 agrees-iff key plan p = (there (test (leb p (length plan))), back)
@@ -37,7 +37,7 @@ agrees-iff key plan p = (there (test (leb p (length plan))), back)
     back : Agrees key plan p → keyDiffers key plan p ≡ false
     back a = rw (le-leb p (length plan) (a .0), eq-eqb (getD key (p - 1) 0) (getD plan (p - 1) 0) (a .1), keyDiffers)
 
--- every byte of the key agrees just where the plan begins with it
+-- every byte of the key agrees exactly when the plan begins with the key
 begins-iff : (key plan : List ℕ) → ((p : ℕ) → 1 ≤ p → p ≤ length key → Agrees key plan p) ↔ (take (length key) plan ≡ key)
 begins-iff key plan = (there, back)
   where
@@ -68,7 +68,7 @@ unfolding refusedAt
 at-passed-iff number zero count = (λ e. refl, λ e. refl)
 at-passed-iff number (suc p) count = (λ e. absurd (let z : _≡_ {A = ℕ} 0 1 = cc in omega arith), λ e. absurd (omega arith))
 
--- 11 passes just where the plan begins with the job's key
+-- 11 passes exactly when the plan begins with the job's key
 pub key-passed-iff : (call : CheckCall) → (keyTest call ≡ passed) ↔ (take (length (keyOf (call .job))) (call .plan) ≡ keyOf (call .job))
 unfolding keyTest
 key-passed-iff call =
@@ -80,7 +80,7 @@ key-passed-iff call =
       λ e. none .1 (each .1 (λ p l u. agrees-iff key (call .plan) p .1 (begins .1 e p l u))),
     )
 
--- Bytes pass 11 to 15 and hold a plan just where they are the bytes of that plan, whose numbers lie in their ranges.
+-- bytes pass 11 to 15 and encode a plan exactly when they are the bytes of that plan, whose numbers are in their ranges
 pub plan-bytes-iff : (call : CheckCall) (plan : Plan) (at : ℕ) → call .job .n < 2 ^ (7 * maxGroups) → ((i : ℕ) → getD (call .plan) i 0 < 256)
     → ((keyTest call ≡ passed) × (planRead call ≡ got plan at)) ↔ (Fit (call .job .n) plan × (call .plan ≡ planBytes (call .job) plan) ×
     (at ≡ length (call .plan)))

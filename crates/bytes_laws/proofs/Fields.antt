@@ -1,5 +1,5 @@
--- Reading in a row: each part is read behind the one before it, and a field that is read is a number of its range that stands there in shortest
--- form. So what is read are the bytes that stand there, number by number, and what stands there is read.
+-- Proves that parts are read one behind the other, and that a field that is read is a number of its range, in shortest form, at its place.
+-- So what is read are the bytes at that place, and bytes at a place are read.
 -- Assumes nothing.
 use Prim.Native.Nat.{ℕ, _+_, _*_, _^_, _<_, _≤_}
 use mathlib.Core.Path.{_≡_, refl, sym, ap, _∙_}
@@ -35,7 +35,7 @@ module _ {A B : Type 0} (next : A → ℕ → Read B) where
   unfolding then
   then-bad e = rw e
 
-  -- what is found behind a part is found behind the part that was found
+  -- if two parts are found one behind the other, the first is found, and the second behind it
   pub then-only : (r : Read A) {b : B} {to : ℕ} → then r next ≡ got b to → (a : A) × (at : ℕ) × (r ≡ got a at) × (next a at ≡ got b to)
   unfolding then
   then-only (got a at) e = (a, at, refl, e)
@@ -55,9 +55,9 @@ module _ {A : Type 0} (xs : List A) where
   onto-only (got ys to) e = let (p, q) = got-inj e in (ys, ap (got ys) q, p)
   onto-only (bad number place) e = absurd (got-bad e refl)
 
--- ---- bytes that stand at a place
+-- ---- bytes at a place
 
--- the bytes w stand from `at` up to next
+-- the bytes from `at` up to next are w
 pub record Spans (s : List ℕ) (at : ℕ) (w : List ℕ) (next : ℕ) : Type 0 where
   pub place : next ≡ at + length w
   pub form : drop at s ≡ w ++ drop next s
@@ -78,7 +78,7 @@ spans-cut {s} {at} {next} v w a =
     let b = stands-behind s at v (w ++ drop next s) f in
     (record { place = refl; form = f ∙ ap (λ (l : List ℕ). v ++ l) (sym b) }, record { place = omega (arith, length-append v w); form = b })
 
--- up to the end of the bytes, and no further
+-- w reaches to the end of the bytes
 pub spans-end : (s v w : List ℕ) → s ≡ v ++ w → Spans s (length v) w (length s)
 spans-end s v w e =
     record {
@@ -91,7 +91,7 @@ spans-to-end {s} w a h = a .form ∙ ap (λ (l : List ℕ). w ++ l) (drop-of-len
 
 -- ---- one field
 
--- a field that was read
+-- a field that was read: its number is in its range
 pub record Found (lo hi : ℕ) (s : List ℕ) (at v next : ℕ) : Type 0 where
   pub number : readNumber s at ≡ Value v next
   pub low : lo ≤ v
@@ -117,7 +117,7 @@ in-field lo hi at Ended v next e = absurd (got-bad e refl)
 in-field lo hi at TooLong v next e = absurd (got-bad e refl)
 in-field lo hi at NotShortest v next e = absurd (got-bad e refl)
 
--- a field that was read is a number of its range, inside the bytes
+-- a field that was read is a number of its range, and its bytes do not go past the end
 pub field-got : (lo hi : ℕ) (s : List ℕ) (at v next : ℕ) → field lo hi s at ≡ got v next → Found lo hi s at v next
 unfolding field
 field-got lo hi s at v next e =
@@ -125,12 +125,12 @@ field-got lo hi s at v next e =
     let (p, q) = reads-inside s at v next x in
     record { number = x; low = l; high = h; on = p; inside = q }
 
--- its bytes, in shortest form, stand there
+-- the bytes read are its number in shortest form
 pub field-only : (lo hi : ℕ) (s : List ℕ) (at v next : ℕ) → ((i : ℕ) → getD s i 0 < 256) → field lo hi s at ≡ got v next → Spans s at (bytesOf v) next
 field-only lo hi s at v next bytes e =
     let r = reads-shortest s at v next bytes (field-got lo hi s at v next e .number) in record { place = r .place; form = r .form }
 
--- where the bytes of a number of the range stand, it is read
+-- if the bytes at a place are those of a number of the range, that number is read
 pub field-back : (lo hi : ℕ) (s : List ℕ) (at v next : ℕ) → lo ≤ v → v ≤ hi → v < 2 ^ (7 * maxGroups) → Spans s at (bytesOf v) next
     → field lo hi s at ≡ got v next
 unfolding field inField

@@ -1,5 +1,5 @@
--- A column's rows by their gaps: a row is the one before it and the gap, so rows ascend up to n just where each gap is from 1 with its row at
--- most n. So the lists of columns are read back from their bytes, and what is read are the bytes of such lists.
+-- Proves that the lists of columns are read back from their bytes, and that what is read are the bytes of such lists. A row is the row
+-- before it plus its gap, so rows ascend up to n exactly when each gap is at least 1 and its row at most n.
 -- Assumes nothing.
 use Prim.Native.Nat.{ℕ, zero, suc, _+_, _-_, _*_, _^_, _<_, _≤_}
 use mathlib.Core.Path.{_≡_, refl, ap, _∙_}
@@ -16,7 +16,7 @@ use Rattle.bytes_laws.proofs.Numbers.{encode-append}
 use Rattle.bytes_laws.proofs.Fields.{got-inj, then-got, then-only, onto-got, onto-only, Spans, spans-none, spans-both}
 use Rattle.bytes_laws.proofs.Fields.{spans-cut, field-got, field-only, field-back}
 
--- rows behind row b that gaps can say: they ascend above b, up to n
+-- rows that gaps behind row b can give: they ascend, above b and up to n
 abbrev pub RowsFit : ℕ → ℕ → List ℕ → Type 0
 RowsFit n b l = Asc b l × ((i : ℕ) → i ∈ l → i ≤ n)
 
@@ -35,13 +35,13 @@ rows-fit-cons {n} {x = x} {xs = xs} l h f = ((l, f .0), within)
     within i (List·Memᴰ·head e) = omega arith
     within i (List·Memᴰ·tail m) = f .1 i m
 
--- a gap for each row
+-- there is a gap for each row
 pub length-gaps : (b : ℕ) (l : List ℕ) → length (gapsOf b l) ≡ length l
 unfolding gapsOf
 length-gaps b [] = refl
 length-gaps b (x ∷ l) = ap suc (length-gaps x l)
 
--- ---- what stands there is read
+-- ---- lists at a place are read
 
 module _ (n : ℕ) (fits : n < 2 ^ (7 * maxGroups)) (s : List ℕ) where
   rows-back : (b : ℕ) (l : List ℕ) (at next : ℕ) → RowsFit n b l → Spans s at (encode (gapsOf b l)) next → readRows n b (length l) s at ≡ got l next
@@ -61,7 +61,7 @@ module _ (n : ℕ) (fits : n < 2 ^ (7 * maxGroups)) (s : List ℕ) where
       let c = asc-length n j l (f .0) (f .1) in
       then-got _ (field-back 0 (n - j) s at (length l) _ (omega arith) c (omega arith) p) ∙ rows-back j l _ next f q
 
-  -- where the bytes of lists stand, the lists are read
+  -- if the bytes at a place are those of lists, these lists are read
   pub lists-back : (j : ℕ) (ls : List (List ℕ)) (at next : ℕ) → ListsFit n j ls → Spans s at (encode (listsNumbers j ls)) next
       → readLists n j (length ls) s at ≡ got ls next
   unfolding readLists listsNumbers encode
@@ -71,7 +71,7 @@ module _ (n : ℕ) (fits : n < 2 ^ (7 * maxGroups)) (s : List ℕ) where
       (rw (encode-append (listNumbers j l) (listsNumbers (suc j) ls)) at a) in
       then-got _ (list-back j l at _ (f .0) p) ∙ onto-got (l ∷ []) (lists-back (suc j) ls _ next (f .1) q)
 
--- ---- what is read stands there
+-- ---- lists that are read are at that place
 
 module _ (n : ℕ) (s : List ℕ) (bytes : (i : ℕ) → getD s i 0 < 256) where
   rows-only : (b k at : ℕ) (l : List ℕ) (next : ℕ) → readRows n b k s at ≡ got l next
@@ -99,7 +99,7 @@ module _ (n : ℕ) (s : List ℕ) (bytes : (i : ℕ) → getD s i 0 < 256) where
       let (c, fit, a) = rows-only j count mid l next g in
       (fit, rw c (spans-both (bytesOf count) (encode (gapsOf j l)) (field-only 0 (n - j) s at count mid bytes f) a))
 
-  -- lists that are read fit their columns, and their bytes stand there
+  -- lists that are read fit their columns, and the bytes read are theirs
   pub lists-only : (j k at : ℕ) (ls : List (List ℕ)) (next : ℕ) → readLists n j k s at ≡ got ls next
       → (length ls ≡ k) × ListsFit n j ls × Spans s at (encode (listsNumbers j ls)) next
   unfolding readLists listsNumbers encode

@@ -1,5 +1,5 @@
--- How a number's groups stand from a place on: the bytes end there, one group too many comes, or the first without the high bit is the last. Said at
--- once of all the groups, or of the first and then of the rest, it is the same.
+-- Proves two ways to say how a number's groups follow each other: of all groups at once, or of the first and then the rest. Either the
+-- bytes end, or one group too many comes, or the first group without the high bit is the last.
 -- Assumes nothing.
 use Prim.Native.Nat.{ℕ, zero, suc, _+_, _-_, _<_, _≤_}
 use mathlib.Core.Path.{_≡_, refl}
@@ -15,7 +15,7 @@ use Rattle.papers.specs.declared.Number.the-variants.{Value, Ended, TooLong, No
 use Rattle.list_laws.proofs.Tests.{below-or}
 use Rattle.bytes_laws.proofs.NumberReading.{Shown, shown-some, last-shown}
 
--- whether a group behind k others is the first of its number
+-- tests whether a group behind k others is the first of its number
 abbrev pub firstAt : Bool → ℕ → Bool
 firstAt first zero = first
 firstAt first (suc k) = false
@@ -24,7 +24,7 @@ later : (k : ℕ) → firstAt false k ≡ false
 later zero = refl
 later (suc k) = refl
 
--- the number whose groups stand from `at` on, of which m may still come, and whether the next is the first
+-- the number whose groups begin at `at`: at most m may still come, and the flag says whether the next is the first
 pub data Standing (m : ℕ) (first : Bool) (s : List ℕ) (at : ℕ) : Number → Type 0 where
   ends : {k : ℕ} → k ≤ m → length s ≤ at + k → Continues s at k → Standing m first s at Ended
   goes-on : at + m < length s → Continues s at m → Standing m first s at TooLong
@@ -33,7 +33,7 @@ pub data Standing (m : ℕ) (first : Bool) (s : List ℕ) (at : ℕ) : Number �
   last : {k : ℕ} → k < m → at + k < length s → Continues s at k → getD s (at + k) 0 < 128 → Shown (firstAt first k) (getD s (at + k) 0)
       → Standing m first s at (Value (groupsValue s at k) (at + k + 1))
 
--- the same by its first group
+-- the same, by its first group
 pub data ByGroup (first : Bool) (s : List ℕ) (at : ℕ) : ℕ → Number → Type 0 where
   no-group : {m : ℕ} → length s ≤ at → ByGroup first s at m Ended
   too-many : at < length s → ByGroup first s at 0 TooLong
@@ -55,7 +55,7 @@ module _ (s : List ℕ) (at : ℕ) where
   continue-both k b c zero h = let e : at + 0 ≡ at = omega arith in rw e b
   continue-both k b c (suc i) h = let e : at + suc i ≡ at + 1 + i = omega arith in rw e (c i (omega arith))
 
-  -- a group that is not 0 is there
+  -- if a place of the bytes is not 0, the bytes reach it
   there : 128 ≤ getD s at 0 → at < length s
   there b = go (below-or at (length s))
     where
@@ -63,7 +63,7 @@ module _ (s : List ℕ) (at : ℕ) where
       go (inl h) = h
       go (inr h) = absurd (omega (arith, List·getD-eq-default s 0 h))
 
-  -- ---- from all groups to the first
+  -- ---- from all groups to the first and the rest
 
   split-end : (m k : ℕ) {first : Bool} → k ≤ m → length s ≤ at + k → Continues s at k → ByGroup first s at m Ended
   unfolding over

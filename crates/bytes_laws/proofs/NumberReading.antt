@@ -1,5 +1,4 @@
--- Reading takes a group more where the byte says so, and stops at the first that does not. So where a number's groups stand they are read
--- as that number.
+-- Proves that a written number is read back. Reading takes one more group if the byte says so, and stops at the first that does not.
 -- Assumes nothing.
 use Prim.Native.Nat.{ℕ, zero, suc, _+_, _-_, _*_, _/_, _%_, _^_, _<_, _≤_}
 use mathlib.Core.Path.{_≡_, refl, sym, ap, _∙_}
@@ -34,7 +33,7 @@ module _ (first : Bool) (s : List ℕ) (at : ℕ) (there : at < length s) where
   unfolding readFrom
   read-more k b = rw (lt-ltb at (length s) there, le-ltb (getD s at 0) 128 b, readFrom)
 
--- what a last group may be: anything where it is the first, else not 0
+-- a last group may be anything if it is the first, else it is not 0
 abbrev pub Shown : Bool → ℕ → Type 0
 Shown true b = Unit {0}
 Shown false b = 0 < b
@@ -51,7 +50,7 @@ last-shown first (suc b) at h = refl
 
 -- ---- a number is read back
 
--- what stands at a place, and what behind it
+-- the byte at a place, and the bytes behind it
 pub record Stands (s : List ℕ) (at b : ℕ) (rest : List ℕ) : Type 0 where
   pub there : at < length s
   pub byte : getD s at 0 ≡ b
@@ -67,7 +66,7 @@ stands s at b rest e =
       behind = sym (drop-drop 1 at s) ∙ ap (λ (x : List ℕ). drop 1 x) e;
     }
 
--- behind the list that stands at a place stands the rest
+-- behind the first byte of a list at a place comes the rest of the list
 pub stands-behind : (s : List ℕ) (at : ℕ) (a rest : List ℕ) → drop at s ≡ a ++ rest → drop (at + length a) s ≡ rest
 stands-behind s at a rest e = sym (drop-drop (length a) at s) ∙ ap (drop (length a)) e ∙ drop-at a rest (length a) refl
 
@@ -88,12 +87,12 @@ groups-back {x = x} first s at rest (more {f = f} l r) h e =
     let q : at + 1 + length (groupsOf f (x / 128)) ≡ at + suc (length (groupsOf f (x / 128))) = omega arith in
     rw (g, read-more first s at (w .there) (suc f) (omega arith), b, i, v, q)
 
--- where the bytes of a number stand, it is read, up to their end
+-- if the bytes at a place are those of a number, it is read, up to their end
 pub read-back : (s : List ℕ) (at x : ℕ) (rest : List ℕ) → x < 2 ^ (7 * maxGroups) → drop at s ≡ bytesOf x ++ rest
     → readNumber s at ≡ Value x (at + length (bytesOf x))
 unfolding readNumber bytesOf
 read-back s at x rest h e = groups-back true s at rest (grouped (maxGroups - 1) x h) tt e
 
--- what is read is a value and a place
+-- equal readings have equal values and places
 pub value-inj : {x y m n : ℕ} → Value x m ≡ Value y n → (x ≡ y) × (m ≡ n)
 value-inj e = (cc, cc)

@@ -1,5 +1,5 @@
--- A number's groups: one below 128, else the low seven bits and the groups of the rest. By induction on how many groups may follow
--- the first each group is a byte, and m binary digits take m / 7 groups, rounded up, of which there is at least one.
+-- Proves the groups of a number: one below 128, else the low seven bits and the groups of the rest. By induction on the groups that may
+-- follow, each group is a byte, and m binary digits take m / 7 groups, rounded up, but at least one.
 -- Assumes nothing.
 use Prim.Native.Nat.{ℕ, zero, suc, _+_, _-_, _*_, _/_, _%_, _^_, _<_, _≤_, max}
 use mathlib.Core.Path.{_≡_, refl, sym, ap, _∙_}
@@ -19,7 +19,7 @@ abbrev pub Within : ℕ → List ℕ → Type 0
 Within b [] = Unit {0}
 Within b (x ∷ xs) = (x < b) × Within b xs
 
--- so is what stands at any place
+-- the number at any place of such a list is below b too
 pub within-at : (b : ℕ) (l : List ℕ) → 0 < b → Within b l → (i : ℕ) → getD l i 0 < b
 within-at b [] p w i = p
 within-at b (x ∷ xs) p w zero = w .0
@@ -31,7 +31,7 @@ unfolding groupsOf
 groups-small zero x h = refl
 groups-small (suc f) x h = rw (lt-ltb x 128 h, groupsOf)
 
--- from 128 on: the low seven bits, and the groups of the rest
+-- a number from 128 on is its low seven bits, and the groups of the rest
 pub groups-large : (f x : ℕ) → 128 ≤ x → groupsOf (suc f) x ≡ (x % 128 + 128) ∷ groupsOf f (x / 128)
 unfolding groupsOf
 groups-large f x h = rw (le-ltb x 128 h, groupsOf)
@@ -41,11 +41,11 @@ pub data Grouped : ℕ → ℕ → Type 0 where
   last : {f x : ℕ} → x < 128 → Grouped f x
   more : {f x : ℕ} → 128 ≤ x → Grouped f (x / 128) → Grouped (suc f) x
 
--- a group more holds seven bits more
+-- one more group gives seven more bits
 seven-more : (f : ℕ) → 2 ^ (7 * suc (suc f)) ≡ 128 * 2 ^ (7 * suc f)
 seven-more f = ap (λ (n : ℕ). 2 ^ n) (omega arith) ∙ pow-add 2 7 (7 * suc f)
 
--- x has at most f groups after its first just where it is below 2 ^ (7 * suc f)
+-- x has at most f groups after its first exactly when it is below 2 ^ (7 * suc f)
 pub grouped : (f x : ℕ) → x < 2 ^ (7 * suc f) → Grouped f x
 grouped zero x h = last h
 grouped (suc f) x h = go (below-or x 128) (grouped f (x / 128) (let e = seven-more f in omega arith))
@@ -58,7 +58,7 @@ pub grouped-below : {f x : ℕ} → Grouped f x → x < 2 ^ (7 * suc f)
 grouped-below {f} (last l) = let p : 2 ^ 7 ≤ 2 ^ (7 * suc f) = pow-mono {i = 7} {j = 7 * suc f} (omega arith) in omega arith
 grouped-below (more {f = f} l g) = let i = grouped-below g in let e = seven-more f in omega arith
 
--- there is a group, and there are at most f after it
+-- a number has at least one group, and at most f after the first
 pub groups-length : (f x : ℕ) → (0 < length (groupsOf f x)) × (length (groupsOf f x) ≤ suc f)
 groups-length zero x = unfold groupsOf in (omega arith, omega arith)
 groups-length (suc f) x = go (below-or x 128) (groups-length f (x / 128))
@@ -84,7 +84,7 @@ many-digits m x h l = go (below-or 7 m)
     go (inl w) = w
     go (inr w) = let p : 2 ^ m ≤ 2 ^ 7 = pow-mono w in omega arith
 
--- a number of m binary digits
+-- the groups of a number of m binary digits
 groups-of-digits : {f x : ℕ} (m : ℕ) → Grouped f x → x < 2 ^ m → 2 ^ m ≤ 2 * x + 1 → length (groupsOf f x) ≡ max 1 ((m + 6) / 7)
 groups-of-digits {f} {x} m (last l) h g = let s = few-digits m x g l in rw (groups-small f x l) (omega arith)
 groups-of-digits {x = x} m (more {f = f} l r) h g =
@@ -95,12 +95,12 @@ groups-of-digits {x = x} m (more {f = f} l r) h g =
 
 -- ---- with the paper's bound on groups
 
--- a number has a byte, and no more than the bound
+-- a number has at least one byte, and at most the bound
 pub bytes-length : (x : ℕ) → (0 < length (bytesOf x)) × (length (bytesOf x) ≤ maxGroups)
 unfolding bytesOf
 bytes-length x = groups-length (maxGroups - 1) x
 
--- the byte count follows from the leading zeros of w bits
+-- the byte count of a number, from the leading zeros of its w bits
 pub count-of-zeros : (w x z : ℕ) → x < 2 ^ w → x < 2 ^ (7 * maxGroups) → z ≡ leadingZeros w x
     → (z ≤ w) × (length (bytesOf x) ≡ max 1 ((w - z + 6) / 7))
 unfolding bytesOf
@@ -111,7 +111,7 @@ count-of-zeros w x z f h e =
 
 -- ---- numbers one after the other
 
--- more numbers are written behind the first ones
+-- the bytes of more numbers come behind those of the first ones
 pub encode-append : (xs ys : List ℕ) → encode (xs ++ ys) ≡ encode xs ++ encode ys
 unfolding encode
 encode-append [] ys = refl

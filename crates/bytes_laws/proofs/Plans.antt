@@ -1,5 +1,5 @@
--- A plan is read behind its key number by number, so where the numbers of a plan stand, in their ranges, that plan is read, and a plan that is read
--- stands there with nothing after it.
+-- Proves that a plan is read back from its bytes, and that a plan that is read has exactly these bytes, with nothing after them. A plan is
+-- read number by number, behind its key.
 -- Assumes nothing.
 use Prim.Native.Nat.{ℕ, zero, suc, _+_, _-_, _*_, _^_, _<_, _≤_}
 use mathlib.Core.Path.{_≡_, refl, ap, _∙_}
@@ -18,12 +18,12 @@ use Rattle.bytes_laws.proofs.Fields.{got-inj, got-bad, then-got, then-o
 use Rattle.bytes_laws.proofs.Fields.{spans-cut, field-got, field-only, field-back}
 use Rattle.bytes_laws.proofs.Gaps.{ListsFit, lists-back, lists-only}
 
--- steps of columns 1..n and pops 0..n−1
+-- each step has a column from 1 to n and pops from 0 to n - 1
 abbrev pub StepsFit : ℕ → List (ℕ × ℕ) → Type 0
 StepsFit n [] = Unit {0}
 StepsFit n (x ∷ xs) = ((1 ≤ x .0) × (x .0 ≤ n) × (x .1 ≤ n - 1)) × StepsFit n xs
 
--- every number of a plan lies in its range
+-- every number of a plan is in its range
 pub record Fit (n : ℕ) (plan : Plan) : Type 0 where
   pub all-steps : length (plan .steps) ≡ n
   pub steps : StepsFit n (plan .steps)
@@ -46,7 +46,7 @@ end-only a b s at next e = go (ltb at (length s)) refl e
     go true q f = absurd (got-bad f refl)
     go false q f = let (m, n) = got-inj f in (m, n, omega (arith, ltb-false at (length s) q))
 
--- ---- what stands there is read
+-- ---- a plan at a place is read
 
 module _ (n : ℕ) (fits : n < 2 ^ (7 * maxGroups)) (s : List ℕ) where
   steps-back : (xs : List (ℕ × ℕ)) (at next : ℕ) → StepsFit n xs → Spans s at (encode (stepNumbers xs)) next
@@ -75,7 +75,7 @@ module _ (n : ℕ) (fits : n < 2 ^ (7 * maxGroups)) (s : List ℕ) where
       ∙ then-got _ (field-back 0 maxPeak s _ (plan .peak) _ (omega arith) h (omega arith) r)
       ∙ end-got plan s (length s) (omega arith)
 
--- ---- what is read stands there
+-- ---- a plan that is read is at that place
 
 module _ (n : ℕ) (s : List ℕ) (bytes : (i : ℕ) → getD s i 0 < 256) where
   step-only : (at : ℕ) (x : ℕ × ℕ) (next : ℕ) → readStep n s at ≡ got x next
@@ -113,7 +113,7 @@ module _ (n : ℕ) (s : List ℕ) (bytes : (i : ℕ) → getD s i 0 < 256) where
             a b),
       )
 
-  -- a plan that is read lies in its ranges, and its numbers stand there, up to the end of the bytes
+  -- a plan that is read is in its ranges, and the bytes read are those of its numbers, up to the end
   pub plan-only : (plan : Plan) (at next : ℕ) → readPlan n s at ≡ got plan next
       → (next ≡ length s) × Fit n plan × Spans s at (encode (planNumbers plan)) next
   unfolding readPlan planNumbers encode

@@ -1,4 +1,5 @@
--- How far reading goes: each number takes a byte at least, so places only go forward, by as many bytes as there are numbers, and never past the end.
+-- Proves how far reading goes: each number takes at least one byte, so places only go forward, by at least as many bytes as there are
+-- numbers, and never past the end.
 -- Assumes nothing.
 use Prim.Native.Nat.{ℕ, zero, suc, _+_, _-_, _≤_}
 use mathlib.Core.Path.{_≡_, sym, ap, _∙_}
@@ -9,7 +10,7 @@ use Rattle.papers.specs.Lists.{flat}
 use Rattle.papers.specs.Plan.{got, field, readStep, readSteps, readRows, readList, readLists}
 use Rattle.bytes_laws.proofs.Fields.{got-inj, then-only, onto-only, field-got}
 
--- from `at` on, next is reached over at least so many numbers
+-- reading from `at` reaches next over at least this many numbers
 pub record Reach (s : List ℕ) (at numbers next : ℕ) : Type 0 where
   pub on : at + numbers ≤ next
   pub inside : at ≤ length s → next ≤ length s

@@ -1,4 +1,4 @@
--- Only a number's shortest form is read: the last group read is not 0 unless it is the first, so the number read is too great for
+-- Proves that only a number's shortest form is read. The last group read is not 0 unless it is the first, so the number is too large for
 -- fewer groups, and its remainders by 128 are the groups that were read.
 -- Assumes nothing.
 use Prim.Native.Nat.{ℕ, zero, suc, _+_, _-_, _*_, _/_, _%_, _^_, _<_, _≤_}
@@ -51,7 +51,7 @@ read-there k first s at x next e = go (below-or at (length s))
 none-left : (first : Bool) (s : List ℕ) (at x next : ℕ) → readFrom 0 first s at ≡ Value x next → ⊥
 none-left first s at x next e = no-value tt (sym (read-long first s at (read-there 0 first s at x next e)) ∙ e)
 
--- what a group of a number that was read is: its last, or one with the rest read behind it
+-- a group of a number that was read: it is the last, or the rest was read behind it
 data Group (k : ℕ) (first : Bool) (s : List ℕ) (at x next : ℕ) : Type 0 where
   ends : at < length s → x < 128 → getD s at 0 ≡ x → at + 1 ≡ next → Shown first x → Group k first s at x next
   goes : (v : ℕ) → at < length s → 128 ≤ getD s at 0 → x ≡ getD s at 0 - 128 + 128 * v → readFrom k false s (at + 1) ≡ Value v next
@@ -76,12 +76,12 @@ reaches (suc k) first s at x next e = go (group-read k first s at x next e) (λ 
     go (ends h l b q w) ih = (omega arith, omega arith)
     go (goes v h b p r) ih = let (m, n) = ih v r in (omega arith, n)
 
--- a number that was read lies inside the bytes
+-- the bytes of a number that was read do not go past the end
 pub reads-inside : (s : List ℕ) (at x next : ℕ) → readNumber s at ≡ Value x next → (at < next) × (next ≤ length s)
 unfolding readNumber
 reads-inside s at x next = reaches maxGroups true s at x next
 
--- x was read from `at` up to next, of at most f groups after the first
+-- x was read from `at` up to next, with at most f groups after the first
 record Only (f : ℕ) (first : Bool) (s : List ℕ) (at x next : ℕ) : Type 0 where
   few : Grouped f x
   shown : Shown first x
@@ -119,7 +119,7 @@ module _ (s : List ℕ) (bytes : (i : ℕ) → getD s i 0 < 256) where
       go (ends h l b q w) ih = only-last (suc f) first s at x next h l b q w
       go (goes v h b p r) ih = only-more f first at x next v h b p (ih v r)
 
--- a number that was read: its bytes, and no other form of it, stand from `at` up to next
+-- a number that was read: the bytes from `at` up to next are its bytes, and no other form of it
 pub record ReadShortest (s : List ℕ) (at x next : ℕ) : Type 0 where
   pub on : at < next
   pub inside : next ≤ length s

@@ -1,4 +1,4 @@
--- A number is read as it stands: reading takes the first group, and then the rest.
+-- Proves that a number is read as `Stands` says: reading takes the first group, and then the rest.
 -- Assumes nothing.
 use Prim.Native.Nat.{ℕ, zero, suc, _+_, _-_, _<_, _≤_}
 use mathlib.Core.Path.{_≡_, refl, ap, _∙_}
@@ -48,7 +48,7 @@ read-standing (suc m) first s at = go (below-or at (length s)) (below-or (getD s
 
 -- ---- the number that starts at a place
 
--- a number is read just as it stands
+-- a number is read exactly as `Stands` says
 pub number-stands-iff : (s : List ℕ) (at : ℕ) (x : Number) → (readNumber s at ≡ x) ↔ Stands s at x
 unfolding readNumber
 number-stands-iff s at x = (λ e. into (rw e at (read-standing maxGroups true s at)), λ t. standing-read maxGroups true s at x (out t))

@@ -1,5 +1,5 @@
--- Numbers written one after the other into a slice: what is left to write, from the place reached, is on top of what was written the whole. So one
--- number more is one rewriting, and where nothing is left the whole is written.
+-- Proves how numbers are written one after the other into a slice. At every point, writing what is left completes the whole; so one more
+-- number is one rewriting, and when nothing is left the whole is written.
 -- Assumes nothing.
 use Prim.Native.Nat.{ℕ, _+_, _*_, _≤_}
 use mathlib.Core.Path.{_≡_, refl, sym, ap, _∙_}
@@ -12,13 +12,14 @@ use Rattle.papers.specs.Numbers.{bytesOf, encode}
 use Rattle.list_laws.proofs.Stores.{sets-append}
 use Rattle.bytes_laws.proofs.Numbers.{bytes-length, encode-append}
 
--- the bytes of numbers are at most maxGroups times as many
+-- the bytes of numbers are at most maxGroups times as many as the numbers
 pub encode-short : (xs : List ℕ) → length (encode xs) ≤ maxGroups * length xs
 unfolding encode
 encode-short [] = omega arith
 encode-short (x ∷ xs) = omega (arith, encode-short xs, bytes-length x .1, length-append (bytesOf x) (encode xs))
 
--- of the numbers `whole`, whose bytes go into d₀ from `at` on, xs are left at place k: storing their bytes there in d leaves what storing all leaves
+-- of the numbers `whole`, whose bytes go into d₀ from `at` on, xs are left at place k: storing their bytes there in d gives what storing
+-- all gives
 pub record Writes (whole d₀ : List ℕ) (at : ℕ) (xs d : List ℕ) (k : ℕ) : Type 0 where
   pub place : k + length (encode xs) ≡ at + length (encode whole)
   pub stored : sets d k (encode xs) ≡ sets d₀ at (encode whole)
@@ -39,31 +40,31 @@ module _ {whole d₀ : List ℕ} {at : ℕ} where
         long = length-sets d k w ∙ s .long;
       })
 
-  -- a number more
+  -- one more number is written
   pub writes-number : {xs ys d e : List ℕ} {x k m : ℕ} → Writes whole d₀ at xs d k → xs ≡ x ∷ ys → m ≡ k + length (bytesOf x)
       → e ≡ sets d k (bytesOf x)
       → Writes whole d₀ at ys e m
   unfolding encode
   writes-number {x = x} s f g h = writes-bytes (bytesOf x) s (ap encode f) g h
 
-  -- numbers more
+  -- more numbers are written
   pub writes-numbers : {xs ys d e : List ℕ} {k m : ℕ} (zs : List ℕ) → Writes whole d₀ at xs d k → xs ≡ zs ++ ys → m ≡ k + length (encode zs)
       → e ≡ sets d k (encode zs)
       → Writes whole d₀ at ys e m
   writes-numbers {ys = ys} zs s f g h = writes-bytes (encode zs) s (ap encode f ∙ encode-append zs ys) g h
 
-  -- no place reached is far behind the first
+  -- the place reached is at most maxGroups bytes behind the first for each number
   pub writes-near : {xs d : List ℕ} {k : ℕ} → Writes whole d₀ at xs d k → k ≤ at + maxGroups * length whole
   writes-near s = let p = s .place in omega (arith, encode-short whole)
 
-  -- nothing is left
+  -- nothing is left to write
   pub writes-none : {xs d : List ℕ} {k : ℕ} → Writes whole d₀ at xs d k → xs ≡ [] → (k ≡ at + length (encode whole)) × (d ≡ sets d₀ at (encode whole))
   unfolding encode
   writes-none {d = d} {k = k} s e =
       let p = s .place in
       (omega (arith, ap (λ (xs : List ℕ). length (encode xs)) e), sym (ap (λ (xs : List ℕ). sets d k (encode xs)) e) ∙ s .stored)
 
-  -- all that is left is written
+  -- all that was left is written
   pub writes-last : {xs d e : List ℕ} {k m : ℕ} → Writes whole d₀ at xs d k → m ≡ k + length (encode xs) → e ≡ sets d k (encode xs)
       → (m ≡ at + length (encode whole)) × (e ≡ sets d₀ at (encode whole))
   writes-last s g h = (g ∙ s .place, h ∙ s .stored)

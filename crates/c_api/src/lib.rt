@@ -1,5 +1,5 @@
-// The entry points for C: a slice is a pointer and a length, the answer's number is the result, its place and count are stored. Each
-// calls its entry point and says what that says.
+// The entry points for C. A slice is a pointer and a length; a function returns the answer's number and stores its place and count. Each
+// calls its entry point and promises the same outcome.
 ghost use mathlib.Core.Path.{_≡_};
 ghost use mathlib.Core.List.{List};
 ghost use Prim.Native.Nat.{ℕ};
@@ -10,7 +10,7 @@ ghost use Rattle.papers.specs.Run.{ran};
 ghost use Rattle.lent.specs.Six.{six};
 use papers::JobHead;
 
-// The key of a job in bytes: key::write_key.
+// Writes the key of a job: key::write_key.
 #[no_mangle]
 pub extern "C" fn ls_write_key(
     n: u64,
@@ -34,7 +34,7 @@ pub extern "C" fn ls_write_key(
     answered.number
 }
 
-// The analysis of a job: analysis::analyse.
+// Analyses a job: analysis::analyse.
 #[no_mangle]
 pub extern "C" fn ls_analyse(
     n: u64,
@@ -79,7 +79,7 @@ pub extern "C" fn ls_analyse(
     answered.number
 }
 
-// The analysis of a job and its plan in bytes: plan_bytes::write_plan.
+// Analyses a job and writes its plan: plan_bytes::write_plan.
 #[no_mangle]
 pub extern "C" fn ls_write_plan(
     n: u64,
@@ -132,7 +132,7 @@ pub extern "C" fn ls_write_plan(
     answered.number
 }
 
-// The check of a plan for a job: checker::check_plan.
+// Checks a plan for a job: checker::check_plan.
 #[no_mangle]
 pub extern "C" fn ls_check_plan(
     n: u64,
@@ -179,7 +179,7 @@ pub extern "C" fn ls_check_plan(
     answered.number
 }
 
-// A run of steps on a stack: stack_run::run.
+// Runs steps on a stack: stack_run::run.
 #[no_mangle]
 pub extern "C" fn ls_run(
     n: u64,

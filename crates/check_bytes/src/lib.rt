@@ -1,4 +1,4 @@
-// The judgement on a plan's bytes: held against the key, read into the slices, and judged there.
+// The judgement on a plan's bytes: compares them with the key, reads them into the slices, and judges the plan there.
 use check_key::KeyMatch;
 use papers::Answer;
 use papers::JobHead;
@@ -9,7 +9,7 @@ ghost use Rattle.papers.specs.Refusals.{passed, first, jobTests};
 ghost use Rattle.lent.specs.Six.{six, LongEnough};
 ghost use Rattle.check_bytes.specs.Ruled.{callOf, Ruled, HeldIfWhole, Followed};
 
-// A fault that the reading found, or 8, or 16 to 20 and 9 of the plan that was read.
+// Answers the fault that reading found; else 8 if the rows do not fit; else tests 16 to 20 and 9 of the plan that was read.
 fn judge_reading(
     reading: PlanReading,
     head: JobHead,
@@ -54,8 +54,8 @@ fn judge_reading(
     }
 }
 
-// 11 to 15, 8, 16 to 20 and 9 for a job that passed its tests, in slices that are long enough. A plan that passes is left in them, with
-// zeros behind it; work, and after a refusal all of each slice, is still to be cleared.
+// Tests 11 to 15, 8, 16 to 20 and 9 for a job that passed its tests, in slices that are long enough. If the plan passes, the slices hold
+// it, then zeros. The caller clears work, and after a refusal every slice.
 pub fn judge_bytes(
     head: JobHead,
     starts: &[u64],

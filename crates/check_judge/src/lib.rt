@@ -14,7 +14,7 @@ ghost use Rattle.papers.specs.Refusals.{passed, first, jobTests};
 ghost use Rattle.lent.specs.Six.{six, LongEnough};
 ghost use Rattle.check_judge.specs.Judged.{HoldPlan, SomeOnTree, TreeJudged, Judged};
 
-// 18, 19, 20 and 9 of a plan whose lists are right; done, the count is the peak. parents are those of the lists.
+// Tests 18, 19, 20 and 9 of a plan whose lists are right; parents are those of its lists. When done, the count is the peak.
 fn judge_tree(
     limit: u64,
     peak: u64,
@@ -46,8 +46,8 @@ fn judge_tree(
     basics::answered(0, 0, greatest)
 }
 
-// 16 to 20 and 9 of a plan that was read, at the front of the slices; peak is what it declares. Where it passes, the job's parents are
-// stored, and the count is the peak.
+// Tests 16 to 20 and 9 of a plan that was read to the front of the slices; peak is what it declares. If the plan passes, stores the job's
+// parents, and the count is the peak.
 pub fn judge(
     head: JobHead,
     peak: u64,

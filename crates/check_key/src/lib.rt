@@ -1,4 +1,4 @@
-// A plan's bytes held against the job's key, number by number: the bytes of each number are made and compared where they should stand.
+// Compares a plan's bytes with the job's key, number by number: makes the bytes of each number and compares them with the plan's.
 ghost use mathlib.Core.Path.{_≡_};
 ghost use mathlib.Core.List.{[], _∷_};
 ghost use Prim.Native.Nat.{_≤_};
@@ -14,14 +14,14 @@ ghost use Rattle.write_gaps.specs.ListAt.{ListAt};
 ghost use Rattle.check_key.specs.Matches.{matchFrom, keyMatch};
 use papers::JobHead;
 
-// What the comparison finds: the plan begins with the key, and next is the place behind it; or the first byte, counted from 1, that is
-// not the key's, or that the plan has not.
+// What the comparison finds: the plan begins with the key, which ends before `next`; or the first byte, counted from 1, that differs from
+// the key's or that the plan lacks.
 pub enum KeyMatch {
     Begins { next: usize },
     Differs { place: u64 },
 }
 
-// Holds the bytes of x against the plan from `at` on. The first i are there.
+// Compares the bytes of x with the plan's from `at` on. In the loop the first i bytes agree.
 fn match_groups(plan: &[u8], at: usize, x: u64) -> KeyMatch
     requires { ⌜ Fits x × (at ≤ length (now plan)) ⌝ }
     ensures { λ r. ⌜ r ≡ matchFrom (bytesOf x) (now (plan .entry)) at ⌝ }
@@ -59,7 +59,7 @@ fn match_number(plan: &[u8], at: usize, x: u64) -> KeyMatch
     match_groups(plan, at, x)
 }
 
-// Two numbers, one behind the other.
+// Compares two numbers, one behind the other.
 fn match_two(plan: &[u8], at: usize, x: u64, y: u64) -> KeyMatch
     requires { ⌜ Fits x × Fits y × (at ≤ length (now plan)) ⌝ }
     ensures { λ r. ⌜ r ≡ matchFrom (encode (x ∷ y ∷ [])) (now (plan .entry)) at ⌝ }
@@ -74,8 +74,8 @@ fn match_two(plan: &[u8], at: usize, x: u64, y: u64) -> KeyMatch
     }
 }
 
-// The gaps of the rows of column j, which stand from `from` up to `to`. Those before i are there, up to k; `before` is the last of
-// them, or j.
+// Compares the gaps of the rows of column j, those at the places `from` up to `to`. In the loop the gaps before i agree, up to k; `before`
+// is the last of these rows, or j.
 fn match_gaps(plan: &[u8], at: usize, rows: &[u32], from: usize, to: usize, j: u64) -> KeyMatch
     requires { ⌜ (at ≤ length (now plan)) × ListAt j (now rows) from to ⌝ }
     ensures { λ r. ⌜ r ≡ matchFrom (encode (gapsOf j (slice from to (now (rows .entry))))) (now (plan .entry)) at ⌝ }
@@ -99,7 +99,7 @@ fn match_gaps(plan: &[u8], at: usize, rows: &[u32], from: usize, to: usize, j: u
     KeyMatch::Begins { next: k }
 }
 
-// The list of column j, its count and its gaps.
+// Compares the list of column j, its count and its gaps.
 fn match_list(plan: &[u8], at: usize, rows: &[u32], from: usize, to: usize, j: u64) -> KeyMatch
     requires { ⌜ (at ≤ length (now plan)) × ListAt j (now rows) from to ⌝ }
     ensures { λ r. ⌜ r ≡ matchFrom (encode (listNumbers j (slice from to (now (rows .entry))))) (now (plan .entry)) at ⌝ }
@@ -114,7 +114,7 @@ fn match_list(plan: &[u8], at: usize, rows: &[u32], from: usize, to: usize, j: u
     }
 }
 
-// The lists of the columns 1 to n. Those of the first `done` are there, up to k.
+// Compares the lists of the columns 1 to n. In the loop those of the first `done` columns agree, up to k.
 fn match_lists(n: u64, starts: &[u64], rows: &[u32], plan: &[u8], at: usize) -> KeyMatch
     requires inside { ⌜ at ≤ length (now plan) ⌝ }
     requires few { ⌜ n ≤ maxColumns ⌝ }
@@ -148,7 +148,7 @@ fn match_lists(n: u64, starts: &[u64], rows: &[u32], plan: &[u8], at: usize) -> 
     KeyMatch::Begins { next: k }
 }
 
-// Holds the key of a job that passes its tests against the beginning of the plan.
+// Compares the key of a job that passes its tests with the beginning of the plan.
 pub fn match_key(head: JobHead, starts: &[u64], rows: &[u32], plan: &[u8]) -> KeyMatch
     requires { ⌜ first jobTests (jobOf head (now starts) (now rows)) ≡ passed ⌝ }
     ensures { λ r. ⌜ r ≡ keyMatch (keyOf (jobOf head (now (starts .entry)) (now (rows .entry)))) (now (plan .entry)) ⌝ }

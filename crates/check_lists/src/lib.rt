@@ -1,5 +1,5 @@
-// Refusal 17: the first column whose list in a plan is not R(j). Columns are taken in ascending order, so that a list is held against
-// lists already found right.
+// Test 17: finds the first column whose list in a plan is not R(j). It takes the columns in ascending order, so each list is compared with
+// lists that were found right before.
 ghost use mathlib.Core.Path.{_≡_};
 ghost use Prim.Native.Nat.{_+_, _<_, _≤_};
 ghost use mathlib.Core.List.{map};
@@ -16,9 +16,9 @@ ghost use Rattle.child_lists.specs.Marks.{Changed};
 ghost use Rattle.column_list.specs.Stored.{Stored};
 ghost use Rattle.check_lists.specs.Lists.{HoldLists, FirstWrong};
 
-// Whether a list is R(m + 1), where the lists of the columns before are right. Most columns have one child, and most of their lists are
-// its rows and new pattern rows behind them: these are held against the child's list, and only pattern rows are marked. Any other is
-// judged by the marks of all its rows.
+// Tests whether a list is R(m + 1), if the lists of the columns before are right. Most columns have one child, and their list is mostly the
+// child's rows with new pattern rows behind them: such a list is compared with the child's, and only pattern rows are marked. For any other
+// list the rows of R(m + 1) are all marked.
 fn is_right(
     n: usize,
     m: usize,
@@ -50,8 +50,8 @@ fn is_right(
     check_marks::is_all_marked(n, m, list, starts, rows, fstarts, frows, work)
 }
 
-// The first column whose list is not R(j), 0 where each is; then the parents are stored. The lists of the columns up to m are right, and
-// each of these columns hangs under its parent, the least row of its list.
+// Finds the first column whose list is not R(j), 0 if there is none; then stores the parents. In the loop the lists of the columns up to m
+// are right, and each of these columns hangs under its parent, the least row of its list.
 pub fn first_wrong_list(
     n: usize,
     starts: &[u64],

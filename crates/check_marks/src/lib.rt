@@ -1,6 +1,6 @@
-// Rows marked and counted: those of R(j), of its pattern rows and of what its children hand on, each once. So a list is held against R(j)
-// without a second set of lists.
-// In work the first child of column j stands at j, the sibling behind column c at n + c, and the mark of row i at n + n + i.
+// Marks and counts the rows of R(j): its pattern rows and the rows that its children hand on, each once. So a list is compared with R(j)
+// without a second set of lists. In work, place j holds the first child of column j, place n + c the sibling behind column c, and place n +
+// n + i the mark of row i.
 ghost use mathlib.Core.Path.{_≡_};
 ghost use Prim.Native.Nat.{_+_, _<_};
 ghost use lib.ListN.{length};
@@ -13,8 +13,8 @@ ghost use Rattle.child_lists.specs.Marks.{marked, Markable, Changed};
 ghost use Rattle.column_list.specs.Stored.{Stored};
 ghost use Rattle.check_marks.specs.Marked.{newRows, Counted};
 
-// Marks the rows of a list for column j. Answers how many of them were not marked. Those before k are marked, count of them newly. Each
-// is stored, marked or not, so that no step depends on what was there.
+// Marks the rows of a list for column j, and answers how many of them were not marked before. In the loop the rows before k are marked,
+// `count` of them newly. Each mark is stored, new or not, so that no turn waits for what was read.
 fn mark_new(n: usize, j: usize, list: &[u32], work: &mut [u64]) -> usize
     requires once { ⌜ Distinct (now list) ⌝ }
     requires markable { ⌜ Markable n (now list) (now work) ⌝ }
@@ -37,8 +37,8 @@ fn mark_new(n: usize, j: usize, list: &[u32], work: &mut [u64]) -> usize
     count
 }
 
-// Marks the rows of R(m + 1), where the lists of the columns before are right: its pattern rows, and what its children hand on.
-// Answers how many they are. The children from c on are left.
+// Marks the rows of R(m + 1), if the lists of the columns before are right: its pattern rows, and what its children hand on. Answers how
+// many there are. In the loop the children from c on are left.
 pub fn mark_column(
     n: usize,
     m: usize,
@@ -67,7 +67,8 @@ pub fn mark_column(
     count
 }
 
-// Whether a list is R(m + 1), where the lists of the columns before are right: it has as many rows as are marked, and each of them is.
+// Tests whether a list is R(m + 1), if the lists of the columns before are right: it has as many rows as are marked, and each of them is
+// marked.
 pub fn is_all_marked(
     n: usize,
     m: usize,

@@ -1,5 +1,5 @@
-// Tests of a list of rows: whether it is another, whether it begins with another, and whether what it has besides are just the pattern
-// rows. In work the mark of row i stands at n + n + i.
+// Tests of a list of rows: whether it equals another, whether it begins with another, and whether the rest of it is the pattern rows. In
+// work, place n + n + i holds the mark of row i.
 ghost use mathlib.Core.Path.{_≡_};
 ghost use mathlib.Core.Bool.{true};
 ghost use Prim.Native.Nat.{_≤_};
@@ -8,8 +8,8 @@ ghost use Rattle.papers.specs.Lists.{keep, same};
 ghost use Rattle.child_lists.specs.Marks.{marked, isMarked, Markable};
 ghost use Rattle.check_rows.specs.Added.{addsOwn};
 
-// Whether two lists are the same. Those before k are alike, or a difference was seen; the loop goes on all the same, so that many rows
-// are compared at once.
+// Tests whether two lists are equal. In the loop those before k are equal, or a difference was seen; the loop goes on anyway, so that the
+// machine compares many rows at once.
 pub fn same_rows(a: &[u32], b: &[u32]) -> bool
     ensures { λ r. ⌜ r ≡ same (now (a .entry)) (now (b .entry)) ⌝ }
 {
@@ -29,7 +29,7 @@ pub fn same_rows(a: &[u32], b: &[u32]) -> bool
     alike
 }
 
-// Whether a list begins with the rows of another.
+// Tests whether a list begins with the rows of another.
 pub fn begins_with(list: &[u32], more: &[u32]) -> bool
     ensures { λ r. ⌜
         (r ≡ true → (length (now (more .entry)) ≤ length (now (list .entry)))
@@ -42,7 +42,7 @@ pub fn begins_with(list: &[u32], more: &[u32]) -> bool
     same_rows(&list[..more.len()], more)
 }
 
-// How many rows of a list are marked for column j. Of those before k it is count.
+// Counts the rows of a list that are marked for column j. In the loop `count` of those before k are.
 fn count_marked(n: usize, j: usize, list: &[u32], work: &[u64]) -> usize
     requires { ⌜ Markable n (now list) (now work) ⌝ }
     ensures { λ r. ⌜ r ≡ length (keep (isMarked n j (now (work .entry))) (now (list .entry))) ⌝ }
@@ -60,8 +60,8 @@ fn count_marked(n: usize, j: usize, list: &[u32], work: &[u64]) -> usize
     count
 }
 
-// Whether a list whose first rows, up to place p, are given otherwise has the pattern rows as well, and behind p nothing else. Marks
-// the pattern rows.
+// Tests whether a list, of which the first p rows are known, contains the pattern rows too, and behind place p nothing else. Marks the
+// pattern rows.
 pub fn adds_own(n: usize, j: usize, list: &[u32], p: usize, own: &[u32], work: &mut [u64]) -> bool
     requires own { ⌜ Markable n (now own) (now work) ⌝ }
     requires list { ⌜ Markable n (now list) (now work) × (p ≤ length (now list)) ⌝ }

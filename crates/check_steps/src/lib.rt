@@ -1,4 +1,4 @@
-// The tests of a plan's steps one by one: no column is done twice, and each step pops as many updates as its column has children.
+// Tests of a plan's steps one by one: 16, no column is done twice; 19, each step pops as many updates as its column has children.
 ghost use mathlib.Core.Path.{_≡_};
 ghost use Prim.Native.Nat.{_+_, _<_, _≤_};
 ghost use lib.ListN.{length, getD};
@@ -16,7 +16,8 @@ fn column_at(order: &[u32], i: usize) -> usize
     order[i] as usize
 }
 
-// 16: the first step whose column stood at an earlier step; 0 where there is none. work has a mark for each column of the first i steps.
+// Test 16: finds the first step whose column an earlier step has done, 0 if there is none. In the loop work marks the columns of the first
+// i steps.
 pub fn first_repeat(order: &[u32], work: &mut [u64]) -> u64
     requires columns { ⌜ Within (length (now order)) (now order) ⌝ }
     requires room { ⌜ (length (now order) ≤ maxColumns) × (length (now order) < length (now work)) ⌝ }
@@ -36,8 +37,8 @@ pub fn first_repeat(order: &[u32], work: &mut [u64]) -> u64
     0
 }
 
-// 19: the first step whose pops are not the number of its column's children; 0 where there is none. work has the numbers of children;
-// those of the first i steps are right.
+// Test 19: finds the first step whose pops are not its column's number of children, 0 if there is none. work holds the numbers of children.
+// In the loop the pops of the first i steps are right.
 pub fn first_wrong_pops(parents: &[u32], order: &[u32], pops: &[u32], work: &mut [u64]) -> u64
     requires tree { ⌜ TreeIn (now parents) ⌝ }
     requires columns { ⌜ Within (length (now order)) (now order) ⌝ }

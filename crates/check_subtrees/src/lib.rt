@@ -1,7 +1,7 @@
-// The test of refusal 18: the first step whose column's subtree does not take consecutive steps that end there.
-// A subtree of w columns whose top is done at step s should take the w steps that end at s. It does just where every column under its top
-// lies in that window, and that is seen from child to parent: a column strays if it is done after its parent, or if its own window begins
-// before its parent's. The least step of a parent that a child strays from is the answer: at every step before it all is well.
+// Test 18: finds the first step whose column's subtree does not take consecutive steps that end there. A subtree of w columns whose top is
+// done at step s must take the w steps that end at s. It does exactly when every column under its top is done in that window, and comparing
+// child with parent shows this: a column strays if it is done after its parent, or if its own window begins before its parent's. The answer
+// is the least step of a parent from which a child strays: before that step all is well.
 ghost use mathlib.Core.Path.{_≡_};
 ghost use Prim.Native.Nat.{_+_, _<_, _≤_};
 ghost use lib.ListN.{length};
@@ -12,7 +12,7 @@ ghost use Rattle.tree.specs.Parents.{parentIn, TreeIn};
 ghost use Rattle.check_subtrees.specs.Steps.{EachOnce, listed, StepsIn};
 ghost use Rattle.check_subtrees.specs.Strays.{strayStep, earlier, earliest, Placed};
 
-// The step of each column. The first k steps are written.
+// Writes the step of each column. In the loop the first k steps are written.
 fn write_steps(order: &[u32], steps: &mut [u64])
     requires { ⌜ EachOnce (length (now order)) (now order) × (length (now steps) ≡ length (now order) + 1) ⌝ }
     ensures { λ _. ⌜ StepsIn (now (order .entry)) (now (steps .exit)) ⌝ }
@@ -24,8 +24,8 @@ fn write_steps(order: &[u32], steps: &mut [u64])
     }
 }
 
-// The step of the parent of the column at place i, if the column strays from it; else 0. Its window begins at own less its count of
-// descendants, its parent's at top less the parent's; the counts change sides, so that nothing falls below 0.
+// Answers the step of the parent of the column at place i, if the column strays from it; else 0. Its window begins at own less its count of
+// descendants, its parent's at top less the parent's count; the counts change sides, so that no difference falls below 0.
 fn stray_step(parents: &[u32], steps: &[u64], below: &[u64], i: usize) -> u64
     requires { ⌜ Placed (now parents) (now steps) (now below) × (i < length (now parents)) ⌝ }
     ensures { λ r. ⌜ r ≡ strayStep (parentIn (now (parents .entry))) (listed (now (steps .entry))) (listed (now (below .entry))) (i + 1) ⌝ }
@@ -42,7 +42,7 @@ fn stray_step(parents: &[u32], steps: &[u64], below: &[u64], i: usize) -> u64
     top
 }
 
-// The lesser of two steps; 0 stands for none.
+// The lesser of two steps, where 0 means no step.
 fn earlier(a: u64, b: u64) -> u64
     ensures { λ r. ⌜ r ≡ earlier a b ⌝ }
 {
@@ -58,7 +58,7 @@ fn earlier(a: u64, b: u64) -> u64
     b
 }
 
-// The least step of a parent that a child strays from, 0 if none does. The first i columns are judged.
+// Finds the least step of a parent from which a child strays, 0 if none does. In the loop the first i columns are judged.
 fn first_stray(parents: &[u32], steps: &[u64], below: &[u64]) -> u64
     requires { ⌜ Placed (now parents) (now steps) (now below) ⌝ }
     ensures { λ r. ⌜
@@ -75,8 +75,8 @@ fn first_stray(parents: &[u32], steps: &[u64], below: &[u64]) -> u64
     first
 }
 
-// The first step whose column's subtree is scattered, 0 if none is. In work stand the steps of the columns, and behind them the counts of
-// their descendants.
+// Finds the first step whose column's subtree is scattered, 0 if none is. work holds the steps of the columns, and behind them the counts
+// of their descendants.
 pub fn first_scattered(parents: &[u32], order: &[u32], work: &mut [u64]) -> u64
     requires tree { ⌜ TreeIn (now parents) × (length (now parents) ≤ maxColumns) ⌝ }
     requires order { ⌜ EachOnce (length (now parents)) (now order) × (length (now order) ≡ length (now parents)) ⌝ }

@@ -1,4 +1,4 @@
-// The check of a plan's bytes for a job: its entry point.
+// The entry point of the check of a plan's bytes for a job.
 use papers::Answer;
 use papers::JobHead;
 ghost use Rattle.papers.specs.Job.{jobOf};
@@ -6,8 +6,8 @@ ghost use Rattle.papers.specs.Refusals.{EndsAs};
 ghost use Rattle.papers.specs.Check.{checked};
 ghost use Rattle.lent.specs.Six.{six};
 
-// The check of a plan's bytes: 1 to 7, 11 to 15, 8, 16 to 20, 9; done, the slices hold the parents and the plan's order, pops, factor
-// starts and rows, then zeros, and the count is the peak.
+// Checks a plan's bytes. Tests the job, the slices (7), the bytes (11 to 15), the rows (8), then the plan (16 to 20, 9). When done, the
+// slices hold the parents and the plan's order, pops, factor starts and factor rows, then zeros, and the count is the peak.
 pub fn check_plan(
     head: JobHead,
     starts: &[u64],

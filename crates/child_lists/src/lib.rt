@@ -1,5 +1,5 @@
-// The rows of a column's children joined to its own: children are linked in work, and a child that brings no new row is passed over.
-// In work the first child of column j stands at j, the sibling behind column c at n + c, and the mark of row i at n + n + i.
+// Joins the rows of a column's children to its own. Children are linked in work, and a child that brings no new row is skipped. In work,
+// place j holds the first child of column j, place n + c the sibling behind column c, and place n + n + i the mark of row i.
 ghost use mathlib.Core.Path.{_≡_};
 ghost use Prim.Native.Nat.{_-_};
 ghost use lib.ListN.{length};
@@ -8,7 +8,7 @@ ghost use Rattle.child_lists.specs.Marks.{marked, isMarked, Markable};
 ghost use Rattle.child_lists.specs.Buffers.{held, Roomy};
 ghost use Rattle.child_lists.specs.Joining.{Joining, Joined};
 
-// Where a gathered list stands: its first len rows in the first buffer where turn is 0, else in the second.
+// Where a gathered list is: the first len rows of the first buffer if turn is 0, else of the second.
 pub struct Gathered {
     pub turn: usize,
     pub len: usize,
@@ -26,7 +26,7 @@ pub fn mark(n: usize, j: usize, list: &[u32], work: &mut [u64])
     }
 }
 
-// Whether every row of a list is marked for column j. All rows before k are.
+// Tests whether every row of a list is marked for column j. In the loop all rows before k are.
 pub fn covered(n: usize, j: usize, list: &[u32], work: &[u64]) -> bool
     requires { ⌜ Markable n (now list) (now work) ⌝ }
     ensures { λ r. ⌜ r ≡ every (isMarked n j (now (work .entry))) (now (list .entry)) ⌝ }
@@ -41,7 +41,8 @@ pub fn covered(n: usize, j: usize, list: &[u32], work: &[u64]) -> bool
     true
 }
 
-// Joins further rows to the list of len rows that the buffer of this turn holds, into the other buffer. Answers how many there are then.
+// Joins more rows to the list of len rows in the buffer of this turn, and writes the result to the other buffer. Answers how many rows it
+// has.
 pub fn join_rows(turn: usize, len: usize, more: &[u32], x: &mut [u32], y: &mut [u32]) -> usize
     requires { ⌜ Roomy turn len (now more) (now x) (now y) ⌝ }
     ensures counts { λ r. ⌜ r ≡ length (merge (held turn len (now (x .entry)) (now (y .entry))) (now (more .entry))) ⌝ }
@@ -56,8 +57,8 @@ pub fn join_rows(turn: usize, len: usize, more: &[u32], x: &mut [u32], y: &mut [
     }
 }
 
-// Joins the rows of the children from c on to the len rows of x. A child all of whose rows are marked brings nothing and is passed over;
-// of one that is joined only its own rows are marked.
+// Joins the rows of the children from c on to the len rows of x. A child whose rows are all marked brings nothing and is skipped; of a
+// child that is joined, the rows are marked.
 pub fn join_children(
     n: usize,
     j: usize,

@@ -1,4 +1,4 @@
--- Columns listed by links: where the list ends, what comes next, and that a list does not change where its own links do not.
+-- Proves facts of columns listed by links: where the list ends, what comes next, and that the list stays the same while its own links do.
 -- Assumes nothing.
 use Prim.Native.Nat.{ℕ, suc, _+_, _<_, _≤_}
 use mathlib.Core.Path.{_≡_, refl, sym}
@@ -13,7 +13,7 @@ pub chain-end : (w : List ℕ) (o c : ℕ) (l : List ℕ) → Chain w o c l → 
 chain-end w o c [] h e = refl
 chain-end w o c (x ∷ xs) h e = absurd (omega (arith, h .0, h .1 .0))
 
--- what a chain from c on is, where it has not ended
+-- a chain from c on that has not ended: its first column, and the rest
 pub record Linked (w : List ℕ) (o c : ℕ) (l : List ℕ) : Type 0 where
   pub rest : List ℕ
   pub is : l ≡ c ∷ rest
@@ -24,7 +24,7 @@ pub chain-on : (w : List ℕ) (o c : ℕ) (l : List ℕ) → Chain w o c l → c
 chain-on w o c [] h e = absurd (e h)
 chain-on w o c (x ∷ xs) h e = rw (h .0) (record { rest = xs; is = refl; positive = h .1 .0; chain = h .1 .1 })
 
--- the links fix the list
+-- the links decide the list
 pub chain-only : (w : List ℕ) (o c : ℕ) (l k : List ℕ) → Chain w o c l → Chain w o c k → l ≡ k
 chain-only w o c [] k h g = sym (chain-end w o c k g h)
 chain-only w o c (x ∷ xs) [] h g = absurd (omega (arith, h .0, h .1 .0))
@@ -33,7 +33,7 @@ chain-only w o c (x ∷ xs) (y ∷ ys) h g =
     let tails = chain-only w o (getD w (o + x) 0) xs ys (h .1 .1) (rw heads (g .1 .1)) in
     cc
 
--- another work with the same links
+-- if another work has the same links, it has the same chain
 pub chain-ext : (w w′ : List ℕ) (o c : ℕ) (l : List ℕ) → ((x : ℕ) → x ∈ l → getD w′ (o + x) 0 ≡ getD w (o + x) 0) → Chain w o c l → Chain w′ o c l
 chain-ext w w′ o c [] f h = h
 chain-ext w w′ o c (x ∷ xs) f h =

@@ -1,4 +1,5 @@
--- The pattern of a tested job: its rows stand strictly below the diagonal, and the rows of a column are the part between its two starts.
+-- Proves facts of the pattern of a tested job: its rows are strictly below the diagonal, and the rows of a column are the part between its
+-- two starts.
 -- Assumes nothing.
 use Prim.Native.Nat.{ℕ, suc, _+_, _-_, _<_, _≤_}
 use mathlib.Core.Path.{_≡_, ap}
@@ -22,7 +23,7 @@ pub column-part : (starts rows : List ℕ) (m : ℕ) → part (getD starts m 0) 
 unfolding columnOf
 column-part starts rows m = rw (add-one m, start-at starts m, start-at starts (suc m)) (part-slice (getD starts m 0) (getD starts (suc m) 0) rows)
 
--- the rows of column j are a slice
+-- the rows of column j are a slice of all rows
 column-slice : (starts rows : List ℕ) (j : ℕ) → columnOf starts rows j ≡ slice (getD starts (j - 1) 0) (getD starts j 0) rows
 unfolding columnOf start
 column-slice starts rows j = ap (λ e. slice (getD starts (j - 1) 0) e rows) (start-at starts j)
@@ -31,7 +32,7 @@ module _ {n : ℕ} {starts rows : List ℕ} (t : Tested n starts rows) where
   lists : PassedLists n starts rows
   lists = lists-iff n starts rows .0 (t .starts-pass, t .rows-pass)
 
-  -- rows strictly below the diagonal
+  -- the rows are strictly below the diagonal
   pub tested-below : Below n (columnOf starts rows)
   tested-below = lists-below n starts rows lists
 
@@ -50,7 +51,7 @@ module _ {n : ℕ} {starts rows : List ℕ} (t : Tested n starts rows) where
     pub row-at : (i : ℕ) → i ∈ columnOf starts rows c → At i (getD starts (c - 1) 0) (getD starts c 0) rows
     row-at i m = in-slice rows (getD starts c 0) (starts-fit c high) (getD starts (c - 1) 0) i (rw (column-slice starts rows c) at m)
 
-    -- a row of the column: above it, at most n
+    -- a row of a column is above the column, and at most n
     pub row-range : (q : ℕ) → getD starts (c - 1) 0 ≤ q → q < getD starts c 0
         → (getD rows q 0 ∈ columnOf starts rows c) × ((c < getD rows q 0) × ((getD rows q 0 ≤ n) × (q < length rows)))
     row-range q a b =

@@ -1,4 +1,5 @@
--- The lists of the columns 1 to m one behind the other: one column more, and where the list of one of them stands.
+-- Proves facts of the lists of the columns 1 to m, one behind the other: how one more column adds to them, and where the list of a column
+-- is.
 -- Assumes nothing.
 use Prim.Native.Nat.{ℕ, zero, suc, _+_, _-_, _<_, _≤_}
 use mathlib.Core.Path.{_≡_, refl, sym, ap, _∙_}
@@ -52,7 +53,7 @@ module _ (B : ℕ → List ℕ) where
       (λ (l : k ≡ suc m). rw l (take-all (length (flat (listsOf (suc m) B))) (flat (listsOf (suc m) B)) (omega arith)))
       (le-suc-iff .0 h)
 
-  -- where the lists of m columns stand at the front of rows, that of column k + 1 stands between the ends of k and of k + 1
+  -- if rows begins with the lists of m columns, the list of column k + 1 is between the ends of k and of k + 1
   pub list-at : (k m : ℕ) (rows : List ℕ) → k < m → take (length (flat (listsOf m B))) rows ≡ flat (listsOf m B)
       → part (length (flat (listsOf k B))) (length (flat (listsOf (suc k) B))) rows ≡ B (suc k)
   list-at k m rows h e =

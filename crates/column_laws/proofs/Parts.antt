@@ -1,4 +1,4 @@
--- Parts of a list: as slices, and a part less its first number.
+-- Proves facts of parts of a list: as slices, and without their first number.
 -- Assumes nothing.
 use Prim.Native.Nat.{ℕ, zero, suc, _+_, _-_, _<_, _≤_}
 use mathlib.Core.Path.{_≡_, refl}
@@ -15,12 +15,12 @@ part-slice (suc s) zero l = let q : 0 - suc s ≡ 0 = omega arith in rw q
 part-slice (suc s) (suc e) [] = take-nil (suc e - suc s)
 part-slice (suc s) (suc e) (x ∷ l) = let q : suc e - suc s ≡ e - s = omega arith in rw q (part-slice s e l)
 
--- a part from one place further on lacks its first number
+-- the part that begins one place later lacks the first number
 pub part-rest : (s e : ℕ) (l : List ℕ) → s < e → e ≤ length l → part (s + 1) e l ≡ drop 1 (part s e l)
 part-rest s e l h g =
     let k : e - s ≡ suc (e - (s + 1)) = omega arith in
     rw (k, drop-cons l s 0 (omega arith), add-one s)
 
--- what is stored at the front stands there
+-- a slice begins with what was stored at its front
 pub front-stored : (l v : List ℕ) → length v ≤ length l → take (length v) (sets l 0 v) ≡ v
 front-stored l v h = rw (sets-eq v l 0 (omega arith)) (take-at v (drop (0 + length v) l) (length v) refl)

@@ -1,4 +1,4 @@
--- The number at a place of a list stands in it, and is 0 in a cleared one; two numbers are the same or not.
+-- Proves that the number at a place of a list is in the list, and is 0 in a cleared one; and that two numbers are equal or not.
 -- Assumes nothing.
 use Prim.Native.Nat.{ℕ, zero, suc, _<_}
 use mathlib.Core.Path.{_≡_, refl}
@@ -16,7 +16,7 @@ at-place [] k h = absurd (omega arith)
 at-place (x ∷ l) zero h = List·Memᴰ·head refl
 at-place (x ∷ l) (suc k) h = List·Memᴰ·tail (at-place l k (omega arith))
 
--- two numbers are the same, or not
+-- two numbers are equal, or not
 pub same-or : (x y : ℕ) → (x ≡ y) ⊎ (x ≢ y)
 same-or x y = go (test (eqb x y))
   where

@@ -1,4 +1,5 @@
--- The numbers of a slice by their places in the list. A slice that is not empty is its first number and the slice from the next place on.
+-- Proves facts of the numbers of a slice, by their places in the list. A slice that is not empty is its first number and the slice from the
+-- next place on.
 -- Assumes nothing.
 use Prim.Native.Nat.{ℕ, zero, suc, _+_, _<_, _≤_}
 use mathlib.Core.Path.{_≡_, sym, ap}
@@ -12,7 +13,7 @@ use Rattle.list_laws.proofs.Tests.{below-or}
 use Rattle.list_laws.proofs.Ascending.{asc-above}
 use Rattle.column_laws.proofs.Places.{same-or}
 
--- i stands at a place from a on, before b
+-- i is at a place from a on, before b
 pub record At (i a b : ℕ) (l : List ℕ) : Type 0 where
   pub place : ℕ
   pub low : a ≤ place
@@ -23,7 +24,7 @@ module _ (l : List ℕ) (b : ℕ) (fits : b ≤ length l) where
   none-left : (a : ℕ) → b ≤ a → slice a b l ≡ []
   none-left a h = let q : length (take b l) ≤ a = rw length-take (omega arith) in drop-of-length-le (take b l) q
 
-  -- what is true of the empty slice, and of a slice once of the one from the next place on, is true of all
+  -- induction: what holds of the empty slice, and of a slice if it holds of the slice from the next place on, holds of all slices
   slice-ind : (P : ℕ → List ℕ → Type 0) → ((a : ℕ) → b ≤ a → P a []) → ((a : ℕ) → a < b → P (suc a) (slice (suc a) b l)
       → P a (getD l a 0 ∷ slice (suc a) b l)) → (a : ℕ) → P a (slice a b l)
   slice-ind P none some a = go b a (omega arith)
@@ -51,7 +52,7 @@ module _ (l : List ℕ) (b : ℕ) (fits : b ≤ length l) where
       go a ih u v (inl e) = List·Memᴰ·head (ap (λ z. getD l z 0) e)
       go a ih u v (inr e) = List·Memᴰ·tail (ih (omega arith) v)
 
-  -- an ascending slice rises from place to place
+  -- in an ascending slice a later place has a greater number
   pub slice-rises : (a x p q : ℕ) → Asc x (slice a b l) → a ≤ p → p < q → q < b → getD l p 0 < getD l q 0
   slice-rises a x p q =
       slice-ind (λ a s. (x : ℕ) → Asc x s → a ≤ p → p < q → q < b → getD l p 0 < getD l q 0) (λ a h x s u v t. absurd (omega arith))

@@ -1,4 +1,4 @@
--- A job that passes its tests leaves lists that are tested.
+-- Proves that the lists of a job that passes its tests are tested lists.
 -- Assumes nothing.
 use mathlib.Core.Path.{_≡_}
 use Rattle.papers.specs.Job.{Job}

@@ -1,4 +1,4 @@
--- What the tests of a job leave to be known of its lists.
+-- Defines what the tests of a job say of its lists.
 -- Assumes nothing.
 use Prim.Native.Nat.{ℕ, _≤_}
 use mathlib.Core.Path.{_≡_}

@@ -1,5 +1,5 @@
-// The list R(j) of one column: its pattern rows joined with the rows that its children hand on.
-// In work the first child of column j stands at j, the sibling behind column c at n + c, and the mark of row i at n + n + i.
+// Makes the list R(j) of one column: joins its pattern rows with the rows that its children hand on. In work, place j holds the first child
+// of column j, place n + c the sibling behind column c, and place n + n + i the mark of row i.
 use child_lists::Gathered;
 ghost use mathlib.Core.Path.{_≡_};
 ghost use Prim.Native.Nat.{_+_, _≤_};
@@ -19,8 +19,8 @@ pub fn pattern_rows<'a>(m: usize, starts: &[u64], rows: &'a [u32]) -> &'a [u32]
     &rows[s..e]
 }
 
-// Gathers R(m + 1) in the buffers: the pattern rows joined with those that the longest child hands on, then with those of the other
-// children. Rows are marked only where there is more than one child.
+// Gathers R(m + 1) in the buffers: joins the pattern rows with those that the longest child hands on, then with those of the other
+// children. Rows are marked only if there are several children.
 pub fn gather<'a>(
     n: usize,
     m: usize,

@@ -1,5 +1,5 @@
--- R(j) comes from the pattern and the children of j alone: an earlier column that holds j stands in the subtree of j, and its rows above j
--- climb from parent to parent, so a child of j has them too.
+-- Proves that R(j) comes from the pattern and the children of j alone. An earlier column that has j as a row is in the subtree of j, and
+-- its rows above j climb from parent to parent, so a child of j has them too.
 -- Assumes nothing.
 use Prim.Native.Nat.{ℕ, _<_, _≤_}
 use mathlib.Core.Path.{_≡_}
@@ -18,7 +18,7 @@ use Rattle.fill_laws.proofs.Parents.{child-cons, parent-above, parent-l
 use Rattle.fill_laws.proofs.Subtrees.{under-le, row-under}
 use Rattle.fill_laws.proofs.Joins.{joinAll, join-asc, join-acc, join-into, join-from}
 
--- a child of j with the row i, above j
+-- a child of j that has the row i above j
 pub record FromChild (A : Pattern) (j i : ℕ) : Type 0 where
   pub child : ℕ
   pub child-of : parent A child ≡ j
@@ -37,7 +37,7 @@ module _ {n : ℕ} {A : Pattern} (good : Below n A) where
       go (inl e) ih = record { child = k; child-of = e; row = m; above = l }
       go (inr q) ih = ih q
 
-  -- a row of R(j) is in the pattern, or is a row above j of a child of j; and those are its rows
+  -- the rows of R(j) are its pattern rows and the rows above j of its children, and no others
   pub R-children : (j i : ℕ) → (i ∈ R A j) ↔ ((i ∈ A j) ⊎ FromChild A j i)
   R-children j i = (λ m. into (R-cases A j i m), back)
     where
@@ -51,7 +51,7 @@ module _ {n : ℕ} {A : Pattern} (good : Below n A) where
           let e = c .child-of in
           rw e at (hands-on good (c .child) i (parent-least good (c .child) i (c .row) .0) (c .row) (rw e (c .above)))
 
-  -- R(j) is its pattern rows joined with the lists of its children less j
+  -- R(j) is its pattern rows joined with the lists of its children without j
   pub R-joined : (j : ℕ) → 1 ≤ j → (cs : List ℕ) → ((c : ℕ) → (c ∈ cs) ↔ (parent A c ≡ j)) → joinAll (λ c. drop 1 (R A c)) cs (A j) ≡ R A j
   R-joined j h cs exact = asc-ext j _ _
       (join-asc rest j cs (A j) (good .ascending j) (λ c m. rest-asc c (exact c .0 m)))

@@ -1,5 +1,5 @@
--- R(j) holds exactly the filled rows. A row of R(j) is in the pattern or was put there by an earlier column that holds j; both are the
--- clauses of fill, read in one direction or the other.
+-- Proves that R(j) contains exactly the filled rows. A row of R(j) is in the pattern, or an earlier column that has j as a row put it
+-- there; these are the two clauses of fill, read in either direction.
 -- Assumes nothing.
 use Prim.Native.Nat.{ℕ, zero, suc, _<_, _≤_}
 use mathlib.Core.Path.{_≡_, refl}
@@ -14,7 +14,7 @@ use Rattle.list_laws.proofs.Tests.{strong}
 use Rattle.list_laws.proofs.Ascending.{asc-above, asc-weaken, asc-ext}
 use Rattle.fill_laws.proofs.Gathers.{Held, gather-acc, gather-into, gather-from, gather-asc}
 
--- a column before j whose list holds j and, above it, i
+-- a column before j whose list contains j and i, with i above j
 pub record Earlier (A : Pattern) (j i : ℕ) : Type 0 where
   pub column : ℕ
   pub before : column < j
@@ -22,7 +22,7 @@ pub record Earlier (A : Pattern) (j i : ℕ) : Type 0 where
   pub row : i ∈ R A column
   pub above : j < i
 
--- R(j) is the list that the table of j has more than the table before it
+-- the lists up to column j are R(j) and the lists before it
 pub lists-suc : (A : Pattern) (m : ℕ) → lists A (suc m) ≡ R A (suc m) ∷ lists A m
 unfolding lists R
 lists-suc A m = refl
@@ -46,7 +46,7 @@ module _ (A : Pattern) where
       go (inl t) ih = List·Memᴰ·tail (ih t)
       go (inr e) ih = rw e (List·Memᴰ·head refl)
 
-  -- a row of R(j) is in the pattern, or is a row above j of an earlier list that holds j
+  -- a row of R(j) is in the pattern, or is a row above j of an earlier list that contains j
   pub R-cases : (j i : ℕ) → i ∈ R A j → (i ∈ A j) ⊎ Earlier A j i
   unfolding R
   R-cases zero i m = absurd (List·Memᴰ·not-nil m)
@@ -58,7 +58,7 @@ module _ (A : Pattern) where
           let (k, b, e) = lists-from j (h .list) (h .among) in
           inr (record { column = k; before = omega arith; holds = rw e at (h .holds); row = rw e at (h .row); above = h .above })
 
-  -- elimination of column k: each of its rows becomes a row of its rows below it
+  -- eliminating column k makes each of its rows a row of every lower one of them
   pub R-step : (k j i : ℕ) → k < j → j ∈ R A k → i ∈ R A k → j < i → i ∈ R A j
   unfolding R
   R-step k zero i b hj hi l = absurd (omega arith)
@@ -72,7 +72,7 @@ module _ {n : ℕ} {A : Pattern} (good : Below n A) where
   R-pattern zero i m = rw (good .none) at m
   R-pattern (suc j) i m = gather-acc (suc j) (A (suc j)) (lists A j) m
 
-  -- R(j) is ascending, above j
+  -- R(j) ascends, and its rows are above j
   pub R-asc : (j : ℕ) → Asc j (R A j)
   unfolding R
   R-asc = strong (λ j. Asc j (R A j)) step
@@ -98,7 +98,7 @@ module _ {n : ℕ} {A : Pattern} (good : Below n A) where
       go j ih i l (inl m) = given l m
       go j ih i l (inr e) = filled l (e .before) (ih (e .column) (e .before) i (e .row)) (ih (e .column) (e .before) j (e .holds))
 
-  -- i is a row of R(j) just where (i, j) is filled
+  -- i is a row of R(j) exactly when (i, j) is filled
   pub row-iff-filled : (i j : ℕ) → (i ∈ R A j) ↔ Filled A i j
   row-iff-filled i j = (filled-from j i, filled-into)
 
@@ -110,6 +110,6 @@ module _ {n : ℕ} {A : Pattern} (good : Below n A) where
   pub R-range : (j i : ℕ) → i ∈ R A j → (j < i) × (i ≤ n)
   R-range j i m = (R-above j i m, filled-within (filled-from j i m))
 
-  -- R(j) is the one ascending list of the rows filled in column j
+  -- R(j) is the only ascending list of the rows filled in column j
   pub R-only : (j : ℕ) (l : List ℕ) → Asc j l → ((i : ℕ) → (i ∈ l) ↔ Filled A i j) → l ≡ R A j
   R-only j l s f = asc-ext j l (R A j) s (R-asc j) (λ i m. filled-into (f i .0 m)) (λ i m. f i .1 (filled-from j i m))

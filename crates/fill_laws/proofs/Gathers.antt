@@ -1,4 +1,4 @@
--- One step of elimination: the rows gathered at column j are the given ones and the rows above j of the lists that hold j.
+-- Proves one step of elimination: gathering at column j gives the rows that it is given, and the rows above j of the lists that contain j.
 -- Assumes nothing.
 use Prim.Native.Nat.{ℕ, _<_}
 use mathlib.Core.Path.{_≡_, refl}
@@ -15,7 +15,7 @@ use Rattle.list_laws.proofs.Merges.{merge-asc, merge-left, merge-right, merge-f
 use Rattle.list_laws.proofs.Members.{member-true, member-into}
 use Rattle.list_laws.proofs.Keeps.{keep-from, keep-into, keep-asc}
 
--- one of the lists holds both j and, above it, i
+-- one of the lists contains j and i, with i above j
 pub record Held (j i : ℕ) (ls : List (List ℕ)) : Type 0 where
   pub list : List ℕ
   pub among : List·Memᴰ list ls
@@ -75,7 +75,7 @@ module _ (j : ℕ) (acc : List ℕ) where
       go (passes e) ih = pick e (merge-from (keep (ltb j) l) (gather j ls acc) (rw (gather-yes l ls e) at m)) ih
       go (fails e) ih = later (ih (rw (gather-no l ls e) at m))
 
-  -- ascending lists give an ascending one
+  -- if the lists ascend, what is gathered ascends
   pub gather-asc : (ls : List (List ℕ)) → ((l : List ℕ) → List·Memᴰ l ls → Asc 0 l) → Asc j acc → Asc j (gather j ls acc)
   unfolding gather
   gather-asc [] h s = s

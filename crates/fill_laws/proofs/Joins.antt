@@ -1,4 +1,4 @@
--- The lists of several columns joined one after the other: the numbers of all, ascending where each is.
+-- Proves that the lists of several columns, joined one after the other, give the numbers of all of them, ascending if each list ascends.
 -- Assumes nothing.
 use Prim.Native.Nat.{ℕ}
 use mathlib.Core.Path.{_≡_, refl}

@@ -1,4 +1,4 @@
--- The parent is the least row, so it is above its column, and all other rows of the column are rows of the parent too.
+-- Proves that a parent is above its column, since it is the least row, and that all other rows of the column are rows of the parent too.
 -- Assumes nothing.
 use Prim.Native.Nat.{ℕ, zero, suc, _<_, _≤_}
 use mathlib.Core.Path.{_≡_, refl}
@@ -18,7 +18,7 @@ unfolding head0
 head0-cons [] j h e = absurd (omega arith)
 head0-cons (x ∷ xs) j h e = cc
 
--- the list of a child of j is j, then the rest
+-- the list of a child of j begins with j
 pub child-cons : (A : Pattern) (j c : ℕ) → 0 < j → parent A c ≡ j → R A c ≡ j ∷ drop 1 (R A c)
 unfolding parent
 child-cons A j c h e = head0-cons (R A c) j h e
@@ -50,6 +50,6 @@ module _ {n : ℕ} {A : Pattern} (good : Below n A) where
           least (inl e) = omega arith
           least (inr t) = omega (arith, asc-above x xs (s .1) t)
 
-  -- a column's rows but the parent are rows of the parent
+  -- every row of a column except its parent is a row of its parent
   pub hands-on : (k i : ℕ) → 0 < parent A k → i ∈ R A k → parent A k < i → i ∈ R A (parent A k)
   hands-on k i h m l = R-step A k (parent A k) i (parent-above k h) (parent-mem A k h) m l

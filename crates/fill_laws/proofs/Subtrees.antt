@@ -1,5 +1,5 @@
--- Rows by the tree: a row climbs from parent to parent until the parent is the row itself, so i is a row of column k just where the pattern
--- has i at a column of the subtree of k and k is below i.
+-- Proves which rows a column has, by the tree: i is a row of column k exactly when the pattern has i at a column of the subtree of k and k
+-- is below i. A row climbs from parent to parent until the parent is the row itself.
 -- Assumes nothing.
 use Prim.Native.Nat.{ℕ, zero, suc, _+_, _<_, _≤_}
 use mathlib.Core.Path.{_≡_}
@@ -21,18 +21,18 @@ pub record Reached (A : Pattern) (i k : ℕ) : Type 0 where
   pub under : Under (parent A) k column
   pub above : k < i
 
--- the subtree of a column of a subtree is a part of it
+-- if k is in the subtree of j, then all of the subtree of k is
 pub under-trans : (par : ℕ → ℕ) (j k l : ℕ) → Under par j k → Under par k l → Under par j l
 under-trans par j k l u top = u
 under-trans par j k l u (up h v) = up h (under-trans par j k (par l) u v)
 
--- where parents are above their columns, the top is the greatest
+-- if parents are above their columns, the top is the greatest column of its subtree
 pub under-le : (par : ℕ → ℕ) → ((k : ℕ) → 0 < par k → k < par k) → (j k : ℕ) → Under par j k → k ≤ j
 under-le par rises j k top = omega arith
 under-le par rises j k (up h u) = omega (arith, under-le par rises j (par k) u, rises k h)
 
 module _ {n : ℕ} {A : Pattern} (good : Below n A) where
-  -- the rows above j of the columns of its subtree are rows of j
+  -- the rows above j of the columns of j's subtree are rows of j
   pub subtree-rows : (j k i : ℕ) → Under (parent A) j k → i ∈ R A k → j < i → i ∈ R A j
   subtree-rows j k i top m l = m
   subtree-rows j k i (up h u) m l =
@@ -49,7 +49,7 @@ module _ {n : ℕ} {A : Pattern} (good : Below n A) where
       go (inl e) ih = rw e top
       go (inr q) ih = ih q
 
-  -- a column stands in the subtree of each of its rows
+  -- a column is in the subtree of each of its rows
   pub row-under : (k i : ℕ) → i ∈ R A k → Under (parent A) i k
   row-under k i m = climb i k i (omega arith) m
 
@@ -67,6 +67,6 @@ module _ {n : ℕ} {A : Pattern} (good : Below n A) where
             above = e .above;
           }
 
-  -- i is a row of column k just where the pattern has i at a column of the subtree of k, and k is below i
+  -- i is a row of column k exactly when the pattern has i at a column of the subtree of k, and k is below i
   pub row-subtree : (i k : ℕ) → (i ∈ R A k) ↔ Reached A i k
   row-subtree i k = (reached k i, λ r. subtree-rows k (r .column) i (r .under) (R-pattern good (r .column) i (r .given)) (r .above))

@@ -1,1 +1,1 @@
-// Laws of fill: R(j) holds exactly what is filled, and how it comes from the children's lists. No code.
+// Laws of fill: R(j) contains exactly the filled rows, and comes from the children's lists. No code.

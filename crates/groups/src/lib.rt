@@ -1,4 +1,4 @@
-// Numbers in groups of seven bits: their length and their bytes.
+// Cuts numbers into groups of seven bits: how many groups a number has, and their bytes.
 ghost use mathlib.Core.Path.{_≡_};
 ghost use Prim.Native.Nat.{_+_, _<_};
 ghost use lib.ListN.{length, replicate};
@@ -7,13 +7,13 @@ ghost use Rattle.papers.specs.Bounds.{maxGroups};
 ghost use Rattle.papers.specs.Numbers.{bytesOf};
 ghost use Rattle.groups.specs.Fits.{Fits};
 
-// The bytes of a number in a little array: the first count of them, then zeros.
+// The bytes of a number in a little array: the first `count` of it, then zeros.
 pub struct Groups {
     pub bytes: [u8; papers::MAX_GROUPS],
     pub count: usize,
 }
 
-// How many groups of seven bits x has: one below 128; else its bits, which follow from its leading zeros, by sevens.
+// Counts the groups of seven bits of x: one below 128; else its bits, known from its leading zeros, divided by seven and rounded up.
 pub fn length(x: u64) -> usize
     requires { ⌜ Fits x ⌝ }
     ensures { λ r. ⌜ r ≡ length (bytesOf x) ⌝ }
@@ -25,7 +25,7 @@ pub fn length(x: u64) -> usize
     ((bits + 6) / 7) as usize
 }
 
-// The bytes of x. The groups before count are stored, and v is what is left of x.
+// Makes the bytes of x. In the loop the groups before count are stored, and v is what is left of x.
 pub fn number(x: u64) -> Groups
     requires { ⌜ Fits x ⌝ }
     ensures { λ r. ⌜ (r .bytes ≡ sets (replicate maxGroups 0) 0 (bytesOf x)) × (r .count ≡ length (bytesOf x)) ⌝ }

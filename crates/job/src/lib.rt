@@ -1,11 +1,11 @@
-// The tests of a job, 1 to 6: the answer of the first that refuses, in the order of the paper's table.
+// The tests of a job, 1 to 6, in the order of the rules' table.
 use papers::Answer;
 use papers::JobHead;
 ghost use mathlib.Core.Path.{_≡_};
 ghost use Rattle.papers.specs.Job.{jobOf};
 ghost use Rattle.papers.specs.Refusals.{answerOf, first, jobTests};
 
-// 1 to 6, the first that refuses. Nothing is computed from n before it is known to be within its bound.
+// Answers the first of 1 to 6 that refuses. Computes nothing from n before n is known to be within its bound.
 pub fn first_fault(head: JobHead, starts: &[u64], rows: &[u32]) -> Answer
     ensures { λ r. ⌜ r ≡ answerOf (first jobTests (jobOf head (now (starts .entry)) (now (rows .entry)))) ⌝ }
 {

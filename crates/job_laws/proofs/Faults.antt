@@ -1,5 +1,5 @@
--- A test that names the first place at fault, of 1 to n: it passes just where no place has a fault, and else refuses with the fault, the place and
--- the count of the least. The rows of a job and the steps of a run are tested so.
+-- Proves a test that names the first place at fault, of 1 to n. It passes exactly when no place has a fault; else it refuses with the
+-- fault, the place and the count of the least. The rows of a job and the steps of a run are tested so.
 -- Assumes nothing.
 use Prim.Native.Nat.{ℕ, zero, suc, _<_, _≤_}
 use mathlib.Core.Path.{_≡_, refl}
@@ -13,12 +13,12 @@ use Rattle.papers.specs.Refusals.{answer, Leaves, Verdict, passed, refused, ref
 use Rattle.list_laws.proofs.Leasts.{least-none, least-here, least-zero-iff, least-found-iff}
 use Rattle.job_laws.proofs.Firsts.{refused-passed}
 
--- whether place k has a fault
+-- tests whether place k has a fault
 abbrev pub faulty : (ℕ → ℕ) → ℕ → Bool
 faulty fault k = ltb 0 (fault k)
 
 module _ (fault : ℕ → ℕ) where
-  -- one place more without a fault
+  -- one more place without a fault
   pub faults-next : (k : ℕ) → least (faulty fault) k ≡ 0 → fault (suc k) ≡ 0 → least (faulty fault) (suc k) ≡ 0
   faults-next k z e = least-none (faulty fault) k z (le-ltb 0 (fault (suc k)) (omega arith))
 
@@ -45,7 +45,7 @@ module _ (fault : ℕ → ℕ) where
         → faultTest ≡ refused (answer (fault (suc k)) (suc k) (count (suc k))) leaves
     faults-refuse k z l h = at-place k (least-here (faulty fault) k n z (lt-ltb 0 (fault (suc k)) h) l)
 
-    -- what holds of passing and of each place's refusal holds of the verdict
+    -- what holds of passing, and of the refusal of each place, holds of the verdict
     pub faults-each : (P : Verdict → Type 0) → P passed → ((k : ℕ) → 1 ≤ k → k ≤ n → 0 < fault k → P (refused (answer (fault k) k (count k)) leaves))
         → P faultTest
     faults-each P p h = go (least (faulty fault) n) refl
@@ -56,7 +56,7 @@ module _ (fault : ℕ → ℕ) where
             let f = least-found-iff (faulty fault) n k .0 e in
             rw (at-place k e) (h (suc k) (omega arith) (f .0) (ltb-true 0 (fault (suc k)) (f .1)))
 
-    -- passed just where no place has a fault
+    -- the test passes exactly when no place has a fault
     pub faults-passed-iff : (faultTest ≡ passed) ↔ ((k : ℕ) → 1 ≤ k → k ≤ n → fault k ≡ 0)
     faults-passed-iff = (λ e. faults-none-iff n .0 (there e (least (faulty fault) n) refl), λ h. faults-pass (faults-none-iff n .1 h))
       where

@@ -1,5 +1,5 @@
--- The first test that refuses. Tests that pass may be left out in front, tests behind one that refuses do not matter, and what holds of each
--- test's verdict holds of the first's.
+-- Proves facts of the first test that refuses. Tests in front that pass can be left out, tests behind one that refuses do not matter, and
+-- what holds of each test's verdict holds of the first refusal.
 -- Assumes nothing.
 use Prim.Native.Nat.{ℕ, _<_, _≤_}
 use mathlib.Core.Path.{_≡_, refl, sym, _∙_}
@@ -38,7 +38,7 @@ module _ {C : Type 0} where
   Each P [] c = Unit {0}
   Each P (t ∷ ts) c = P (t c) × Each P ts c
 
-  -- nothing is refused just where each test passes
+  -- nothing is refused exactly when each test passes
   pub first-passed-iff : (ts : List (C → Verdict)) (c : C) → (first ts c ≡ passed) ↔ Each (λ v. v ≡ passed) ts c
   unfolding first
   first-passed-iff [] c = (λ e. tt, λ h. refl)
@@ -47,13 +47,13 @@ module _ {C : Type 0} where
       let k = first-passed-iff ts c in
       (λ e. (i .0 e .0, k .0 (i .0 e .1)), λ h. i .1 (h .0, k .1 (h .1)))
 
-  -- tests in front that pass leave the verdict to those behind
+  -- if the tests in front pass, those behind decide
   pub first-append-passed : (ts us : List (C → Verdict)) (c : C) → first ts c ≡ passed → first (ts ++ us) c ≡ first us c
   first-append-passed [] us c e = refl
   first-append-passed (t ∷ ts) us c e =
       let h = one-more-iff t ts c .0 e in first-passes t (ts ++ us) c (h .0) ∙ first-append-passed ts us c (h .1)
 
-  -- tests in front that refuse decide
+  -- if a test in front refuses, it decides
   pub first-append-refused : (ts us : List (C → Verdict)) (c : C) {a : Answer} {l : Leaves} → first ts c ≡ refused a l
       → first (ts ++ us) c ≡ refused a l
   unfolding first
@@ -64,7 +64,7 @@ module _ {C : Type 0} where
       go passed q ih = first-passes t (ts ++ us) c q ∙ ih (sym (first-passes t ts c q) ∙ e)
       go (refused b m) q ih = first-refuses t (ts ++ us) c q ∙ sym (first-refuses t ts c q) ∙ e
 
-  -- tests of a part of the call are the part's tests
+  -- tests of a part of the call find what the part's tests find
   pub first-map : {D : Type 0} (part : C → D) (ts : List (D → Verdict)) (c : C) → first (map (λ test call. test (part call)) ts) c ≡ first ts (part c)
   unfolding first
   first-map part [] c = refl
@@ -87,7 +87,7 @@ module _ {C : Type 0} where
 
 -- ---- one test
 
--- refused just where the condition holds
+-- the test refuses exactly when the condition holds
 pub refused-if : (b : Bool) (a : Answer) (l : Leaves) → b ≡ true → refusedIf b a l ≡ refused a l
 unfolding refusedIf
 refused-if b a l e = rw (e, refusedIf)
@@ -103,7 +103,7 @@ passed-if-iff b a l = (there b refl, passed-if b a l)
     there true e p = absurd (refused-passed (refused-if b a l e) p)
     there false e p = e
 
--- a test that x is over a bound refuses just where it is
+-- a test that x is over a bound refuses exactly when it is
 pub over-refuses : (bound x : ℕ) (a : Answer) (l : Leaves) → bound < x → refusedIf (ltb bound x) a l ≡ refused a l
 over-refuses bound x a l h = refused-if (ltb bound x) a l (lt-ltb bound x h)
 
@@ -122,7 +122,7 @@ pub answer-passed : {v : Verdict} {r : Answer} → v ≡ passed → r ≡ answer
 unfolding answerOf
 answer-passed e q = rw e q
 
--- a test that answers another number than 0 refuses, so it decides before those behind it
+-- a test whose answer has a number other than 0 refuses, so it decides before those behind it
 pub first-answers : {C : Type 0} (test : C → Verdict) (tests : List (C → Verdict)) (c : C) → answerOf (test c) .number ≢ 0
     → first (test ∷ tests) c ≡ test c
 unfolding answerOf
@@ -132,7 +132,7 @@ first-answers test tests c h = go (test c) refl
     go passed e = absurd (h (rw e))
     go (refused a l) e = first-refuses test tests c e ∙ sym e
 
--- the last test has the last word
+-- if all other tests pass, the last decides
 pub first-last : {C : Type 0} (test : C → Verdict) (c : C) → first (test ∷ []) c ≡ test c
 unfolding first
 first-last test c = go (test c) refl

@@ -1,5 +1,5 @@
--- A key is read back as its job: its numbers one by one, and the lists of the columns, laid one behind the other, are the job's starts and rows. So
--- two jobs have one key just where they agree in size, mark, limit and pattern, and then they are one job.
+-- Proves that a key is read back as its job: its numbers one by one, and its lists as the job's starts and rows. So two jobs have the same
+-- key exactly when they agree in size, mark, limit and pattern, and then they are the same job.
 -- Assumes nothing.
 use Prim.Native.Nat.{ℕ, zero, suc, _+_, _<_, _≤_}
 use mathlib.Core.Path.{_≡_, refl, sym, ap, _∙_}
@@ -29,7 +29,7 @@ fit-more : (n j : ℕ) (ls : List (List ℕ)) (l : List ℕ) → ListsFit n j ls
 fit-more n j [] l f g = let e : j + 0 ≡ j = omega arith in (rw e at g, tt)
 fit-more n j (k ∷ ls) l f g = let e : j + suc (length ls) ≡ suc j + length ls = omega arith in (f .0, fit-more n (suc j) ls l (f .1) (rw e at g))
 
--- columns whose rows ascend above them, up to n
+-- the rows of each column ascend above it, up to n
 pub lists-fit : (n : ℕ) (A : Pattern) → ((j : ℕ) → RowsFit n j (A j)) → (k : ℕ) → ListsFit n 1 (listsOf k A)
 lists-fit n A f zero = rw (lists-none A) tt
 lists-fit n A f (suc k) =
@@ -62,7 +62,7 @@ key-back job p =
     ∙ end-got _ s (length s) (omega arith)
     ∙ rw (rows-laid (p .lists .whole), starts-laid (p .lists .whole))
 
--- ---- two jobs with one key
+-- ---- two jobs with the same key
 
 same-lists : (n : ℕ) (A B : Pattern) → ((j : ℕ) → 1 ≤ j → j ≤ n → A j ≡ B j) → listsOf n A ≡ listsOf n B
 same-lists n A B h =
@@ -72,7 +72,7 @@ same-lists n A B h =
     (omega arith) ∙ sym (lists-at B n k q))
 
 module _ (a b : Job) (pa : first jobTests a ≡ passed) (pb : first jobTests b ≡ passed) where
-  -- jobs that agree so are one job, its starts and rows too
+  -- jobs that agree in these are the same job, with the same starts and rows
   pub same-job : Same a b → a ≡ b
   same-job s =
       let p = passes-iff a .0 pa .lists .whole in
@@ -83,7 +83,7 @@ module _ (a b : Job) (pa : first jobTests a ≡ passed) (pb : first jobTests b �
       let rows : a .rows ≡ b .rows = sym (rows-laid p) ∙ ap flat lists ∙ rows-laid q in
       λ i. record { n = s .columns i; starts = starts i; rows = rows i; mark = s .marks i; limit = s .limits i }
 
-  -- two jobs have one key just where they agree in n, mark, limit and the pattern rows of each column
+  -- two jobs have the same key exactly when they agree in n, mark, limit and the pattern rows of each column
   pub key-same-iff : (keyOf a ≡ keyOf b) ↔ Same a b
   key-same-iff =
       (λ e. agree (got-inj (sym (key-back a (passes-iff a .0 pa)) ∙ ap readKey e ∙ key-back b (passes-iff b .0 pb)) .0), λ s. ap keyOf (same-job s))

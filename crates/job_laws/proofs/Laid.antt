@@ -1,5 +1,5 @@
--- Lists laid one behind the other are taken out again by their starts: what is between two of them is the list laid there. And starts that pass 4,
--- with their rows, are the lists of the columns laid so: the first k columns take the rows up to start k + 1.
+-- Proves that lists written one behind the other are found again by their starts: each list is the part between two of them. And starts
+-- that pass 4, with their rows, are the lists of the columns, one behind the other: the first k columns take the rows up to start k + 1.
 -- Assumes nothing.
 use Prim.Native.Nat.{ℕ, zero, suc, _+_, _-_, _<_, _≤_}
 use mathlib.Core.Path.{_≡_, refl, sym, ap, _∙_}
@@ -31,7 +31,7 @@ module _ (A : Pattern) where
   length-lists zero = refl
   length-lists (suc n) = rw (lists-more n, length-append (listsOf n A) (A (suc n) ∷ []), length-lists n) (omega arith)
 
-  -- list j of them is that of column j
+  -- list j of all columns is that of column j
   pub lists-at : (n k : ℕ) → k < n → getD (listsOf n A) k [] ≡ A (suc k)
   lists-at zero k h = absurd (omega arith)
   lists-at (suc n) k h = go (le-suc-iff .0 h) (λ l. lists-at n k l)
@@ -44,14 +44,14 @@ module _ (A : Pattern) where
           let q = length-lists n in
           rw (lists-more n, getD-at (listsOf n A) (A (suc n)) [] [] k (omega arith)) (ap A (sym e))
 
--- ---- lists laid and taken out again
+-- ---- lists written one behind the other, and found again
 
 starts-head : (t : ℕ) (ls : List (List ℕ)) → getD (startsFrom t ls) 0 0 ≡ t
 unfolding startsFrom
 starts-head t [] = refl
 starts-head t (l ∷ ls) = refl
 
--- what is between starts k and k + 1, counted from 0, where the lists stand behind the rows p
+-- the part between starts k and k + 1, counted from 0, of lists that begin behind the rows p
 between : (p : List ℕ) (t : ℕ) (ls : List (List ℕ)) (k : ℕ) → length p ≡ t → k < length ls
     → (getD (startsFrom t ls) (suc k) 0 ≡ getD (startsFrom t ls) k 0 + length (getD ls k []))
     × (slice (getD (startsFrom t ls) k 0) (getD (startsFrom t ls) (suc k) 0) (p ++ flat ls) ≡ getD ls k [])
@@ -69,7 +69,7 @@ starts-last t [] = omega arith
 starts-last t (l ∷ ls) = let i = starts-last (t + length l) ls in omega (arith, length-append l (flat ls))
 
 module _ (ls : List (List ℕ)) where
-  -- column j of lists that are laid is the j-th of them
+  -- column j of lists one behind the other is the j-th of them
   pub laid-column : (k : ℕ) → k < length ls → columnOf (startsFrom 0 ls) (flat ls) (suc k) ≡ getD ls k []
   laid-column k h = column-at (startsFrom 0 ls) (flat ls) k ∙ between [] 0 ls k refl h .1
 
@@ -79,7 +79,7 @@ module _ (ls : List (List ℕ)) where
       let e = length-lists A (length ls) in
       ext-getD [] (listsOf (length ls) A) ls e (λ k h. let l : k < length ls = omega arith in lists-at A (length ls) k l ∙ laid-column k l)
 
-  -- the starts of lists that are laid pass 4
+  -- the starts of lists one behind the other pass 4
   pub laid-starts : Starts (length ls) (startsFrom 0 ls) (flat ls)
   laid-starts =
       record {
@@ -93,15 +93,15 @@ module _ (ls : List (List ℕ)) where
       rises zero l h = absurd (omega arith)
       rises (suc k) l h = rw (start-at (startsFrom 0 ls) k, start-at (startsFrom 0 ls) (suc k)) (omega (arith, between [] 0 ls k refl h .0))
 
--- ---- starts that pass 4 lay the lists of their columns
+-- ---- starts that pass 4 are those of their columns' lists, one behind the other
 
 module _ {n : ℕ} {starts rows : List ℕ} (s : Starts n starts rows) where
-  -- a column has as many rows as lie between its starts
+  -- a column has as many rows as there are between its starts
   pub column-length : (k : ℕ) → k < n → length (columnOf starts rows (suc k)) ≡ start starts (suc (suc k)) - start starts (suc k)
   unfolding columnOf
   column-length k h = length-slice (start starts (suc k)) (start starts (suc (suc k))) rows (start-within s (suc (suc k)) (omega arith) (omega arith))
 
-  -- the first k columns' lists are the rows up to start k + 1, and their starts the first k + 1
+  -- the lists of the first k columns are the rows up to start k + 1, and their starts are the first k + 1
   rows-front : (k : ℕ) → k ≤ n → flat (listsOf k (columnOf starts rows)) ≡ take (start starts (suc k)) rows
   unfolding columnOf flat
   rows-front zero h = rw (lists-none (columnOf starts rows), s .from-zero)
@@ -138,7 +138,7 @@ module _ {n : ℕ} {starts rows : List ℕ} (s : Starts n starts rows) where
         ← start-at starts (suc k),
       )
 
-  -- so the lists of the columns, laid, are the rows, and their starts the starts
+  -- the lists of all columns, one behind the other, are the rows, and their starts are the starts
   pub rows-laid : flat (listsOf n (columnOf starts rows)) ≡ rows
   rows-laid = rows-front n (omega arith) ∙ take-all (start starts (suc n)) rows (let e = s .last in omega arith)
 

@@ -1,5 +1,5 @@
--- The outcome of a call by the verdict of its tests; and tests of a job in front of others: they decide where they refuse, and leave it to the others
--- where they pass.
+-- Proves the outcome of a call from the verdict of its tests, and how the tests of a job in front of others decide: if they refuse, they
+-- decide; if they pass, the others do.
 -- Assumes nothing.
 use mathlib.Core.Path.{_≡_, refl, sym, ap, _∙_}
 use mathlib.Core.Logic.{_≢_}
@@ -11,13 +11,13 @@ use Rattle.job_laws.proofs.Firsts.{first-append-passed, first-append-re
 use Rattle.job_laws.proofs.Untouched.{job-untouched, answer-zero}
 
 module _ {C S : Type 0} (tests : List (C → Verdict)) (done : C → Outcome S) (zeroing : S → S) (call : C) (lent : S) where
-  -- a refusal that leaves the lent slices as they were
+  -- the outcome of a refusal that leaves the lent slices as they were
   pub outcome-untouched : {a : Answer} → first tests call ≡ refused a untouched
       → outcome tests done zeroing call lent ≡ record { answer = a; lent = lent }
   unfolding outcome
   outcome-untouched e = rw (e, outcome)
 
-  -- a refusal that leaves zeros
+  -- the outcome of a refusal that leaves zeros
   pub outcome-zeroed : {a : Answer} → first tests call ≡ refused a zeroed
       → outcome tests done zeroing call lent ≡ record { answer = a; lent = zeroing lent }
   unfolding outcome
@@ -34,7 +34,7 @@ pub job-answered : (job : Job) {r : Answer} → r ≡ answerOf (first jobTests j
 job-answered job e z = answer-zero job (sym (ap (λ (a : Answer). a .number) e) ∙ z)
 
 module _ {C : Type 0} (part : C → Job) (others : List (C → Verdict)) (call : C) where
-  -- a job that is refused is refused by any call on it, whatever else it tests
+  -- a job that is refused is refused by any call on it, whatever else the call tests
   pub job-refuses : {r : Answer} → r ≡ answerOf (first jobTests (part call)) → r .number ≢ 0
       → first (map (λ test call. test (part call)) jobTests ++ others) call ≡ refused r untouched
   unfolding answerOf
@@ -47,6 +47,6 @@ module _ {C : Type 0} (part : C → Job) (others : List (C → Verdict)) (call :
           let same : r ≡ a = e ∙ ap answerOf q in
           first-append-refused (map (λ test call. test (part call)) jobTests) others call (first-map part jobTests call ∙ q ∙ rw (leaves, same))
 
-  -- one that passes leaves it to the other tests
+  -- if the job passes, the other tests decide
   pub job-passes : first jobTests (part call) ≡ passed → first (map (λ test call. test (part call)) jobTests ++ others) call ≡ first others call
   job-passes e = first-append-passed (map (λ test call. test (part call)) jobTests) others call (first-map part jobTests call ∙ e)

@@ -1,4 +1,4 @@
--- How long the lists of a plan of n columns are, so which parts of slices that hold it are its own.
+-- Proves how long the lists of a plan of n columns are, and so which parts of slices that hold the plan are its lists.
 -- Assumes nothing.
 use Prim.Native.Nat.{ℕ, suc, _+_, _≤_}
 use mathlib.Core.Path.{_≡_, refl, sym, ap, _∙_}
@@ -16,7 +16,7 @@ use Rattle.job_laws.specs.Parts.{InSlices, Parts}
 use Rattle.job_laws.proofs.Starts.{start-at}
 use Rattle.job_laws.proofs.Laid.{laid-starts}
 
--- slices that hold a plan have it in them
+-- slices that hold a plan begin with its lists
 pub holding-in-slices : (job : Job) (plan : Plan) (lent : Lent) {after : Lent} → after ≡ holdingPlan job plan lent
     → InSlices plan lent (after .order) (after .pops) (after .factorStarts) (after .factorRows)
 unfolding holdingPlan holding
@@ -37,7 +37,7 @@ module _ {n : ℕ} {plan : Plan} (fit : Fit n plan) where
   pub length-begins : length (startsFrom 0 (plan .lists)) ≡ n + 1
   length-begins = length-starts 0 (plan .lists) ∙ ap (λ m. m + 1) (fit .all-lists)
 
-  -- the last start is behind the last row
+  -- the last start is the number of rows
   pub last-begin : start (startsFrom 0 (plan .lists)) (suc n) ≡ length (flat (plan .lists))
   last-begin = rw (fit .all-lists) at (laid-starts (plan .lists) .last)
 
@@ -48,7 +48,7 @@ module _ {n : ℕ} {plan : Plan} (fit : Fit n plan) where
         rw (held .begins, List·getD-append (startsFrom 0 (plan .lists)) _ 0 n (omega (arith, length-begins)))
         (sym (start-at (startsFrom 0 (plan .lists)) n) ∙ last-begin)
 
-    -- a slice keeps its length, and its part is the list that it holds
+    -- a slice keeps its length, and its first part is the list that it holds
     pub parts-held : n ≤ length (before .order) → n ≤ length (before .pops) → n + 1 ≤ length (before .factorStarts)
         → length (flat (plan .lists)) ≤ length (before .factorRows)
         → Parts n plan order pops starts rows

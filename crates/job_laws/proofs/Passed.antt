@@ -1,5 +1,5 @@
--- What a job that passes 1 to 6 is. The test of the starts makes each column's rows a part of the rows, the test of the rows makes them ascend
--- above the column, and there are no further columns: starts behind the last read 0, so their parts are empty.
+-- Proves what a job that passes its tests is. The test of the starts makes each column's rows a part of all rows; the test of the rows
+-- makes them ascend above the column. A start behind the last counts as 0, so columns over n are empty.
 -- Assumes nothing.
 use Prim.Native.Nat.{ℕ, zero, suc, _<_, _≤_}
 use mathlib.Core.Path.{_≡_}
@@ -19,14 +19,14 @@ use Rattle.job_laws.proofs.Rows.{rows-iff}
 
 -- ---- lists of n columns: a job's pattern, and the factor that a run is given
 
--- Lists that pass 4, 5 and 6.
+-- lists that pass 4, 5 and 6
 pub record PassedLists (n : ℕ) (starts rows : List ℕ) : Type 0 where
   pub whole : Starts n starts rows
   pub ascending : (j : ℕ) → 1 ≤ j → j ≤ n → Asc j (columnOf starts rows j)
   pub within : (j : ℕ) → 1 ≤ j → j ≤ n → (i : ℕ) → i ∈ columnOf starts rows j → i ≤ n
 
 module _ (n : ℕ) (starts rows : List ℕ) where
-  -- the two tests of the lists pass just there
+  -- the two tests of the lists pass exactly when the lists are such
   pub lists-iff : ((startsTest n starts rows ≡ passed) × (rowsTest n starts rows ≡ passed)) ↔ PassedLists n starts rows
   lists-iff =
       let s = starts-iff n starts rows in
@@ -40,7 +40,7 @@ module _ (n : ℕ) (starts rows : List ℕ) where
   no-column-0 = slice-empty (getD starts 0 0) rows
 
   module _ (p : PassedLists n starts rows) where
-    -- there are no rows of a column over n
+    -- a column over n has no rows
     pub no-column-over : (j : ℕ) → n < j → columnOf starts rows j ≡ []
     unfolding columnOf
     no-column-over j h =
@@ -48,7 +48,7 @@ module _ (n : ℕ) (starts rows : List ℕ) where
         let q : length starts ≤ j = omega arith in
         rw (start-at starts j, List·getD-eq-default starts 0 q) (drop-nil (start starts j))
 
-    -- rows strictly below the diagonal
+    -- the rows are strictly below the diagonal
     pub lists-below : Below n (columnOf starts rows)
     lists-below = record { none = no-column-0; ascending = ascends; within = inside }
       where
@@ -68,14 +68,14 @@ module _ (n : ℕ) (starts rows : List ℕ) where
 
 -- ---- a job
 
--- A job that passes 1 to 6.
+-- a job that passes all its tests
 pub record Passed (job : Job) : Type 0 where
   pub few : job .n ≤ maxColumns
   pub marked : job .mark ≤ maxMark
   pub limited : job .limit ≤ maxLimit
   pub lists : PassedLists (job .n) (job .starts) (job .rows)
 
--- a job passes 1 to 6 just where it is such a job
+-- a job passes its tests exactly when it is such a job
 pub passes-iff : (job : Job) → (first jobTests job ≡ passed) ↔ Passed job
 unfolding jobTests columnsTest markTest limitTest
 passes-iff job =
@@ -94,6 +94,6 @@ passes-iff job =
       λ p. let l = lists .1 (p .lists) in each .1 (columns .1 (p .few), (mark .1 (p .marked), (limit .1 (p .limited), (l .0, (l .1, tt))))),
     )
 
--- its rows stand strictly below the diagonal
+-- the rows of a job that passes are strictly below the diagonal
 pub passed-below : (job : Job) → Passed job → Below (job .n) (pattern job)
 passed-below job p = lists-below (job .n) (job .starts) (job .rows) (p .lists)

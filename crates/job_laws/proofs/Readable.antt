@@ -1,5 +1,5 @@
--- A key is readable just where it reads through to its end: the job that is read passes its tests, since its lists lie in their ranges, and has just
--- these bytes as its key; and the key of a job that passes is read as that job.
+-- Proves that a key is readable exactly when it reads through to its end. The job that is read passes its tests, since its lists are in
+-- their ranges, and its key has exactly these bytes. And the key of a job that passes is read as that job.
 -- Assumes nothing.
 use Prim.Native.Nat.{ℕ, zero, suc, _+_, _<_, _≤_}
 use mathlib.Core.Path.{_≡_, sym, _∙_}
@@ -22,13 +22,13 @@ use Rattle.job_laws.proofs.Passed.{Passed, PassedLists, passes-iff}
 use Rattle.job_laws.proofs.Laid.{laid-column, laid-lists, laid-starts}
 use Rattle.job_laws.proofs.Keys.{key-back}
 
--- the k-th of lists that fit
+-- the k-th of lists that fit their columns fits its column
 fit-at : (n j : ℕ) (ls : List (List ℕ)) (k : ℕ) → ListsFit n j ls → k < length ls → RowsFit n (j + k) (getD ls k [])
 fit-at n j [] k f h = absurd (omega arith)
 fit-at n j (l ∷ ls) zero f h = let e : j + 0 ≡ j = omega arith in rw e (f .0)
 fit-at n j (l ∷ ls) (suc k) f h = let e : j + suc k ≡ suc j + k = omega arith in rw e (fit-at n (suc j) ls k (f .1) (omega arith))
 
--- lists that fit, laid one behind the other, pass 4, 5 and 6
+-- lists that fit, one behind the other, pass 4, 5 and 6
 pub laid-pass : (n : ℕ) (ls : List (List ℕ)) → length ls ≡ n → ListsFit n 1 ls → PassedLists n (startsFrom 0 ls) (flat ls)
 laid-pass n ls e f =
     record {
@@ -44,7 +44,7 @@ laid-pass n ls e f =
         let q : 1 + k ≡ suc k = omega arith in
         rw (laid-column ls k u) (rw q at (fit-at n 1 ls k f u))
 
--- the job that is read passes its tests, and its key is just what was read
+-- the job that is read passes its tests, and its key is exactly what was read
 pub record KeyRead (key : List ℕ) (job : Job) (at : ℕ) : Type 0 where
   pub passes : Passed job
   pub whole : keyOf job ≡ key
@@ -94,11 +94,11 @@ key-only s bytes job at e =
 pub readable-read : (key : List ℕ) (r : Readable key) → readKey key ≡ got (r .job) (length key)
 readable-read key r = rw (← r .whole) (key-back (r .job) (passes-iff (r .job) .0 (r .passes)))
 
--- so it is the key of one job alone
+-- a readable key is the key of one job only
 pub readable-one : (key : List ℕ) (r q : Readable key) → r .job ≡ q .job
 readable-one key r q = got-inj (sym (readable-read key r) ∙ readable-read key q) .0
 
--- a key is readable just where it reads through
+-- a key is readable exactly when it reads through
 pub readable-iff : (key : List ℕ) → ((i : ℕ) → getD key i 0 < 256) → Readable key ↔ ((job : Job) × (at : ℕ) × (readKey key ≡ got job at))
 readable-iff key bytes = (
   λ r. (r .job, length key, readable-read key r),

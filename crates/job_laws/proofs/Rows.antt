@@ -1,5 +1,5 @@
--- The test of the rows (refusals 5 and 6): a row's fault, the first of a column, the first of all; and that a column is without fault just where
--- its rows ascend above it, up to n.
+-- Proves the test of the rows (5 and 6): the fault of a row, the first of a column, the first of all; and that a column has no fault
+-- exactly when its rows ascend above it, up to n.
 -- Assumes nothing.
 use Prim.Native.Nat.{ℕ, zero, suc, _<_, _≤_}
 use mathlib.Core.Path.{_≡_, refl, sym, _∙_}
@@ -33,7 +33,7 @@ module _ (n j before r : ℕ) where
     unfolding rowFault
     row-fine d = rw (lt-leb r j a, le-ltb n r b, lt-leb r before d, rowFault)
 
-  -- a row with its fault: 5 and 6, or it is above its column and the one before it, and at most n
+  -- a row with its fault: 5, or 6, or none, and then it is above its column and the row before it, and at most n
   data Row : Type 0 where
     wrong : 0 < rowFault n j before r → rowFault n j before r ≤ 6 → Row
     right : rowFault n j before r ≡ 0 → j < r → r ≤ n → before < r → Row
@@ -71,7 +71,7 @@ rows-at-most n j before (r ∷ rs) = go (row n j before r) (rows-at-most n j r r
     go (wrong f l) ih = rw (rows-fault n j before r rs f) l
     go (right e a b d) ih = rw (rows-next n j before r rs e) ih
 
--- rows behind one that is at least j are without fault just where they ascend above it, up to n
+-- rows behind a number not below j have no fault exactly when they ascend above it, up to n
 pub rows-fine-iff : (n j before : ℕ) (rs : List ℕ) → j ≤ before → (rowsFault n j before rs ≡ 0) ↔ (Asc before rs × ((i : ℕ) → i ∈ rs → i ≤ n))
 unfolding rowsFault
 rows-fine-iff n j before [] l = (λ e. (tt, λ i m. absurd (List·Memᴰ·not-nil m)), λ h. refl)
@@ -96,7 +96,7 @@ rows-fine-iff n j before (r ∷ rs) l = go (row n j before r) (λ k. rows-fine-i
 -- ---- the rows of all columns
 
 module _ (n : ℕ) (starts rows : List ℕ) where
-  -- column j is without fault just where its rows ascend above j, up to n
+  -- column j has no fault exactly when its rows ascend above j, up to n
   pub column-fine-iff : (j : ℕ) → (columnFault n starts rows j ≡ 0) ↔ (Asc j (columnOf starts rows j) × ((i : ℕ) → i ∈ columnOf starts rows j
       → i ≤ n))
   unfolding columnFault
@@ -107,7 +107,7 @@ module _ (n : ℕ) (starts rows : List ℕ) where
   unfolding rowsTest
   rows-test-is = refl
 
-  -- rows pass just where each column's rows ascend above it, up to n
+  -- rows pass exactly when each column's rows ascend above it, up to n
   pub rows-iff : (rowsTest n starts rows ≡ passed)
       ↔ ((j : ℕ) → 1 ≤ j → j ≤ n → Asc j (columnOf starts rows j) × ((i : ℕ) → i ∈ columnOf starts rows j → i ≤ n))
   rows-iff =

@@ -1,5 +1,5 @@
--- The test of the starts (refusal 4): what each way out of it answers, and that starts pass it just where there are n + 1 of them, from 0 up to
--- the row count, none below the one before.
+-- Proves the test of the starts (4): what each way out answers, and that starts pass exactly when there are n + 1 of them, from 0 up to the
+-- row count, none below the one before.
 -- Assumes nothing.
 use Prim.Native.Nat.{ℕ, zero, suc, _+_, _-_, _≤_}
 use mathlib.Core.Path.{_≡_, refl}
@@ -18,19 +18,19 @@ use Rattle.list_laws.proofs.Tests.{Test, passes, fails, test}
 use Rattle.list_laws.proofs.Leasts.{least-zero-iff}
 use Rattle.job_laws.proofs.Firsts.{refused-passed}
 
--- Starts that pass: n + 1 of them, from 0 up to the row count.
+-- starts that pass: n + 1 of them, from 0 up to the row count
 pub record Starts (n : ℕ) (starts rows : List ℕ) : Type 0 where
   pub long : length starts ≡ n + 1
   pub from-zero : start starts 1 ≡ 0
   pub rising : (j : ℕ) → 1 ≤ j → j ≤ n → start starts j ≤ start starts (suc j)
   pub last : start starts (suc n) ≡ length rows
 
--- start j + 1 stands at j, counted from 0
+-- start j + 1 is the number at place j, counted from 0
 pub start-at : (starts : List ℕ) (j : ℕ) → start starts (suc j) ≡ getD starts j 0
 unfolding start
 start-at starts j = let e : suc j - 1 ≡ j = omega arith in rw e
 
--- so the rows of column j + 1 are those from the number at j to the one behind it
+-- the rows of column j + 1 are those from the number at place j to the next one
 pub column-at : (starts rows : List ℕ) (j : ℕ) → columnOf starts rows (suc j) ≡ slice (getD starts j 0) (getD starts (suc j) 0) rows
 unfolding columnOf
 column-at starts rows j = rw (start-at starts j, start-at starts (suc j))
@@ -39,7 +39,7 @@ pub falls-at : (starts : List ℕ) (j : ℕ) → falls starts (suc j) ≡ ltb (g
 unfolding falls
 falls-at starts j = rw (start-at starts j, start-at starts (suc j))
 
--- column j's start does not fall just where the one behind its rows is no less
+-- column j's start does not fall exactly when the next start is no less
 pub falls-false-iff : (starts : List ℕ) (j : ℕ) → (falls starts j ≡ false) ↔ (start starts j ≤ start starts (suc j))
 unfolding falls
 falls-false-iff starts j = (ltb-false (start starts (suc j)) (start starts j), le-ltb (start starts (suc j)) (start starts j))
@@ -47,24 +47,24 @@ falls-false-iff starts j = (ltb-false (start starts (suc j)) (start starts j), l
 -- ---- the ways out of the test
 
 module _ (n : ℕ) (starts rows : List ℕ) where
-  -- not n + 1 starts
+  -- way out: there are not n + 1 starts
   pub starts-few : length starts ≢ n + 1 → startsTest n starts rows ≡ refused (answer 4 0 0) untouched
   unfolding startsTest
   starts-few h = rw (ne-eqb (length starts) (n + 1) h, startsTest)
 
   module _ (long : length starts ≡ n + 1) where
-    -- the first is not 0
+    -- way out: the first start is not 0
     pub starts-from : start starts 1 ≢ 0 → startsTest n starts rows ≡ refused (answer 4 0 0) untouched
     unfolding startsTest
     starts-from h = rw (eq-eqb (length starts) (n + 1) long, ne-eqb (start starts 1) 0 h, startsTest)
 
     module _ (from-zero : start starts 1 ≡ 0) where
-      -- a start falls: its column
+      -- way out: a start falls, and the place is its column
       pub starts-fall : (j : ℕ) → least (falls starts) n ≡ suc j → startsTest n starts rows ≡ refused (answer 4 (suc j) 0) untouched
       unfolding startsTest
       starts-fall j h = rw (eq-eqb (length starts) (n + 1) long, eq-eqb (start starts 1) 0 from-zero, h, startsTest)
 
-      -- the last is not the row count
+      -- way out: the last start is not the row count
       pub starts-end : least (falls starts) n ≡ 0 → start starts (suc n) ≢ length rows → startsTest n starts rows ≡ refused (answer 4 n 0) untouched
       unfolding startsTest refusedIf
       starts-end z h =
@@ -75,7 +75,7 @@ module _ (n : ℕ) (starts rows : List ℕ) where
       starts-pass z h =
           rw (eq-eqb (length starts) (n + 1) long, eq-eqb (start starts 1) 0 from-zero, z, eq-eqb (start starts (suc n)) (length rows) h, startsTest)
 
-  -- the verdict on the starts: 4 at some place, or they are as they should be
+  -- the verdict on the starts: 4 at some place, or they are right
   pub data StartsVerdict : Type 0 where
     four : (place : ℕ) → startsTest n starts rows ≡ refused (answer 4 place 0) untouched → StartsVerdict
     fine : startsTest n starts rows ≡ passed → Starts n starts rows → StartsVerdict
@@ -106,7 +106,7 @@ module _ (n : ℕ) (starts rows : List ℕ) where
             last = last;
           })
 
-  -- starts pass just where they are n + 1, from 0 up to the row count
+  -- starts pass exactly when there are n + 1 of them, from 0 up to the row count
   pub starts-iff : (startsTest n starts rows ≡ passed) ↔ Starts n starts rows
   starts-iff = (λ p. there p starts-verdict, back)
     where
@@ -118,7 +118,7 @@ module _ (n : ℕ) (starts rows : List ℕ) where
       back s =
           starts-pass (s .long) (s .from-zero) (least-zero-iff (falls starts) n .1 (λ j l h. falls-false-iff starts j .1 (s .rising j l h))) (s .last)
 
--- ---- where the rows of a column lie
+-- ---- where the rows of a column are
 
 module _ {n : ℕ} {starts rows : List ℕ} (s : Starts n starts rows) where
   rise : (j d : ℕ) → 1 ≤ j → j + d ≤ suc n → start starts j ≤ start starts (j + d)
@@ -129,7 +129,7 @@ module _ {n : ℕ} {starts rows : List ℕ} (s : Starts n starts rows) where
       let e : j + suc d ≡ suc (j + d) = omega arith in
       rw e (omega arith)
 
-  -- no start lies behind the rows
+  -- no start is greater than the number of rows
   pub start-within : (j : ℕ) → 1 ≤ j → j ≤ suc n → start starts j ≤ length rows
   start-within j l h =
       let q = rise j (suc n - j) l (omega arith) in

@@ -1,4 +1,5 @@
--- A refusal of a job is one of 1 to 6, counts nothing and leaves the lent slices untouched: each of its tests refuses so, hence the first does.
+-- Proves that a refusal of a job is one of 1 to 6, has count 0 and leaves the lent slices untouched: each test of a job refuses so, hence
+-- the first does.
 -- Assumes nothing.
 use Prim.Native.Nat.{ℕ, _≤_}
 use mathlib.Core.Path.{_≡_, refl, ap}
@@ -16,7 +17,7 @@ use Rattle.job_laws.proofs.Faults.{faults-each}
 use Rattle.job_laws.proofs.Starts.{StartsVerdict, four, fine, starts-verdict}
 use Rattle.job_laws.proofs.Rows.{rows-at-most, rows-test-is}
 
--- a verdict that, if it refuses, has a number of 1 to 6, counts nothing, and leaves what stood there
+-- if the verdict refuses, its number is one of 1 to 6, its count 0, and it leaves the slices as they were
 abbrev pub Early : Verdict → Type 0
 Early passed = Unit {0}
 Early (refused a l) = (l ≡ untouched) × (1 ≤ a .number) × (a .number ≤ 6) × (a .count ≡ 0)
@@ -54,12 +55,12 @@ job-early job =
       ),
     )
 
--- 1 to 6 leave all lent slices untouched, and count nothing
+-- 1 to 6 leave all lent slices untouched, and their count is 0
 pub job-untouched : (job : Job) {a : Answer} {l : Leaves} → first jobTests job ≡ refused a l
     → (l ≡ untouched) × (1 ≤ a .number) × (a .number ≤ 6) × (a .count ≡ 0)
 job-untouched job e = rw e at (job-early job)
 
--- the number 0 is given only where nothing is refused
+-- the number is 0 only if nothing is refused
 pub early-zero : (v : Verdict) → Early v → (r : Answer) → r ≡ answerOf v → r .number ≡ 0 → v ≡ passed
 unfolding answerOf
 early-zero passed h r e z = refl

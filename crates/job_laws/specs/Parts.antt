@@ -1,4 +1,4 @@
--- A plan in lent slices, and the parts of them that hold it.
+-- Defines when lent slices hold a plan, and which parts of them hold it.
 -- Assumes nothing.
 use Prim.Native.Nat.{ℕ, _+_, _≤_}
 use mathlib.Core.Path.{_≡_}
@@ -8,14 +8,15 @@ use Rattle.papers.specs.Lists.{flat, startsFrom, thenZeros}
 use Rattle.papers.specs.Plan.{Plan, columnsIn, popsIn}
 use Rattle.papers.specs.Refusals.{Lent}
 
--- the plan in the slices, with zeros behind it
+-- the slices hold the plan, then zeros
 pub record InSlices (plan : Plan) (before : Lent) (order pops starts rows : List ℕ) : Type 0 where
   pub columns : order ≡ thenZeros (columnsIn (plan .steps)) (before .order)
   pub popped : pops ≡ thenZeros (popsIn (plan .steps)) (before .pops)
   pub begins : starts ≡ thenZeros (startsFrom 0 (plan .lists)) (before .factorStarts)
   pub listed : rows ≡ thenZeros (flat (plan .lists)) (before .factorRows)
 
--- the slices are long enough for a plan of n columns, and these parts of them are its steps and lists; the last start says how many rows there are
+-- the slices are long enough for a plan of n columns, and these parts of them are its steps and lists; the last start says how many rows
+-- there are
 pub record Parts (n : ℕ) (plan : Plan) (order pops starts rows : List ℕ) : Type 0 where
   pub order-long : n ≤ length order
   pub pops-long : n ≤ length pops

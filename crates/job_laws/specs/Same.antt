@@ -1,4 +1,4 @@
--- Two jobs that agree in what a key tells: size, sibling mark, room limit, and the pattern rows of every column.
+-- Defines when two jobs agree in all that a key says: size, sibling mark, room limit, and the pattern rows of every column.
 -- Assumes nothing.
 use Prim.Native.Nat.{ℕ, _≤_}
 use mathlib.Core.Path.{_≡_}

@@ -1,1 +1,1 @@
-// Laws of a job's tests: what a job that passes them is, and the key that it gets. No code.
+// Laws of a job's tests: what a job that passes them is, and what its key is. No code.

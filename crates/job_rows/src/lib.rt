@@ -1,11 +1,11 @@
-// The test of a job's rows, 5 and 6.
+// Tests 5 and 6: the rows of a job.
 use papers::Answer;
 ghost use mathlib.Core.Path.{_≡_};
 ghost use Prim.Native.Nat.{_≤_};
 ghost use Rattle.papers.specs.Bounds.{maxColumns};
 ghost use Rattle.papers.specs.Refusals.{passed, answerOf, startsTest, rowFault, rowsTest};
 
-// The fault of a row of column j: 5 where it is not above its column or is over n, 6 where it is not above the row before it, 0 for none.
+// The fault of a row of column j: 5 if it does not exceed j or exceeds n, 6 if it does not exceed the row before it, 0 if it has none.
 fn row_fault(n: u64, j: u64, before: u64, row: u64) -> u64
     ensures { λ r. ⌜ r ≡ rowFault n j before row ⌝ }
 {
@@ -18,8 +18,9 @@ fn row_fault(n: u64, j: u64, before: u64, row: u64) -> u64
     0
 }
 
-// 5 and 6: the first row at fault in reading order, at its column. The first fault leaves both loops. The first `done` columns are
-// without fault, and so are the rows of column j before i; `before` is the last of these rows, or j where there is none yet.
+// Tests 5 and 6: finds the first row at fault in reading order, and answers its column. The first fault leaves both loops. In the loops the
+// first `done` columns have no fault, nor have the rows of column j before i; `before` is the last of these rows, or j if there is none
+// yet.
 pub fn rows_fault(n: u64, starts: &[u64], rows: &[u32]) -> Answer
     requires few { ⌜ n ≤ maxColumns ⌝ }
     requires starts_pass { ⌜ startsTest n (now starts) (now rows) ≡ passed ⌝ }

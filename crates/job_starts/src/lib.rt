@@ -1,12 +1,12 @@
-// The test of a job's starts, 4.
+// Test 4: the starts of a job.
 use papers::Answer;
 ghost use mathlib.Core.Path.{_≡_};
 ghost use Prim.Native.Nat.{_≤_};
 ghost use Rattle.papers.specs.Bounds.{maxColumns};
 ghost use Rattle.papers.specs.Refusals.{answerOf, startsTest};
 
-// 4: not n + 1 starts, or the first not 0; the first column that would end before it begins; the last start not the row count.
-// One pass over the columns: no start of the first `done` columns falls.
+// Test 4, in this order: not n + 1 starts, or the first is not 0; the first column that would end before it begins; the last start is not
+// the number of rows. One pass over the columns: in the loop no start of the first `done` columns falls.
 pub fn starts_fault(n: u64, starts: &[u64], rows: &[u32]) -> Answer
     requires few { ⌜ n ≤ maxColumns ⌝ }
     ensures { λ r. ⌜ r ≡ answerOf (startsTest n (now (starts .entry)) (now (rows .entry))) ⌝ }

@@ -1,4 +1,4 @@
-// The key of a job, written into a lent slice.
+// Writes the key of a job into a lent slice.
 ghost use mathlib.Core.Path.{_≡_};
 ghost use lib.ListN.{length};
 ghost use lib.Seq.{sets};
@@ -9,7 +9,7 @@ ghost use Rattle.papers.specs.Analysis.{keyWritten};
 use papers::Answer;
 use papers::JobHead;
 
-// Writes the key of a job to the front of a slice, as far as it has places, and answers the place behind it: the bytes needed.
+// Writes the key of a job to the front of a slice, as far as the slice goes, and answers the place behind it: the bytes needed.
 pub fn put_key(head: JobHead, starts: &[u64], rows: &[u32], bytes: &mut [u8]) -> usize
     requires { ⌜ first jobTests (jobOf head (now starts) (now rows)) ≡ passed ⌝ }
     ensures place { λ r. ⌜ r ≡ length (keyOf (jobOf head (now (starts .entry)) (now (rows .entry)))) ⌝ }
@@ -24,7 +24,8 @@ pub fn put_key(head: JobHead, starts: &[u64], rows: &[u32], bytes: &mut [u8]) ->
     write_lists::write_lists(head.n, starts, rows, bytes, limit)
 }
 
-// The key of a job in a lent slice, then zeros: 1 to 6, then 10 with the bytes needed.
+// The entry point of writing a key. Tests 1 to 6, then 10, which counts the bytes needed. When done, the slice holds the key, then zeros,
+// and the count is the bytes of the key.
 pub fn write_key(head: JobHead, starts: &[u64], rows: &[u32], bytes: &mut [u8]) -> Answer
     ensures { λ r. ⌜
         EndsAs r (now (bytes .exit)) (keyWritten (jobOf head (now (starts .entry)) (now (rows .entry))) (now (bytes .entry)))

@@ -1,11 +1,12 @@
-// The slices lent to an analysis or a check: whether they are long enough, and clearing them all.
+// The slices lent to an analysis or a check: tests whether they are long enough, and clears them all.
 ghost use mathlib.Core.Path.{_≡_};
 ghost use Prim.Native.Nat.{_≤_};
 ghost use Rattle.papers.specs.Bounds.{maxColumns};
 ghost use Rattle.papers.specs.Refusals.{Lent, allZero};
 ghost use Rattle.lent.specs.Six.{six, isShort};
 
-// 7: whether a slice is below its fixed length for n columns. The lengths are those of parents, order, pops, factor starts and work.
+// Test 7: whether a slice is below its fixed length for n columns. The arguments are the lengths of parents, order, pops, factor starts and
+// work.
 pub fn too_short(
     n: usize,
     parents: usize,
@@ -32,7 +33,7 @@ pub fn too_short(
     work < 8 * n + 8
 }
 
-// All of each slice zero.
+// Sets all of each slice to zero.
 pub fn clear_all(
     parents: &mut [u32],
     order: &mut [u32],

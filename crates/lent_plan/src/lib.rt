@@ -1,4 +1,4 @@
-// The plan of a job in the six lent slices: its lists and its order, or what is asked for where they do not fit.
+// Makes the plan of a job in the six lent slices, its lists and its order, or answers 8 or 9.
 use papers::Answer;
 use papers::JobHead;
 ghost use Rattle.lent_plan.specs.Ordering.{Orderable, Ordering};
@@ -10,8 +10,8 @@ ghost use mathlib.Core.Path.{_≡_};
 ghost use Rattle.papers.specs.Refusals.{passed, first, jobTests};
 ghost use Rattle.lent_plan.specs.Made.{Made};
 
-// The order of the columns by the mark and the pops of its steps, in the front of their slices, from the parents and factor starts
-// there; answers the peak, and leaves work zero.
+// Writes the order of the columns by the mark, and the pops of its steps, to the front of their slices, from the parents and factor starts
+// there. Answers the peak, and leaves work zero.
 fn order_columns(
     mark: u64,
     n: usize,
@@ -39,8 +39,9 @@ fn order_columns(
     peak
 }
 
-// The lists of the columns in the front of the slices, as far as they fit; answers how many columns are done. Order and pops are the
-// joiner's buffers here. Where all are done zeros stand behind the lists, and behind the first n places of order and pops.
+// Writes the lists of the columns to the front of the slices, as far as they fit, and answers how many columns are done. Order and pops
+// serve as the joiner's buffers here. If all columns are done, clears what is behind the lists, and behind the first n places of order and
+// pops.
 fn list_columns(
     n: usize,
     starts: &[u64],
@@ -84,8 +85,8 @@ fn list_columns(
     done
 }
 
-// A job that passed its tests, in slices that are long enough: the lists; 8, with the rows counted, where they do not fit; the order; 9
-// where its peak is over the limit. A refusal leaves what was made so far.
+// Makes the plan of a job that passed its tests, in slices that are long enough: the lists, or 8 with the rows needed; then the order, or 9
+// if its peak is over the limit. A refusal leaves what was made so far.
 pub fn planned(
     head: JobHead,
     starts: &[u64],

@@ -1,11 +1,11 @@
-// A column's children, linked in work: the rows that each hands on, and the child with the most rows.
-// In work the first child of column j stands at j, and the sibling behind column c at n + c.
+// A column's children, linked in work: the rows that each hands on, and the child with the most rows. In work, place j holds the first
+// child of column j, and place n + c the sibling behind column c.
 ghost use mathlib.Core.Path.{_≡_};
 ghost use Prim.Native.Nat.{_≤_};
 ghost use lib.ListN.{length, getD};
 ghost use Rattle.linked_children.specs.Children.{Child, handedOn, Linked, Longest};
 
-// The rows that column c hands on to its parent: its list but the least row, which is the parent.
+// The rows that column c hands on to its parent: its list without the least row, which is the parent.
 pub fn handed_on<'a>(c: usize, fstarts: &[u64], frows: &'a [u32]) -> &'a [u32]
     requires child { ⌜ Child (now fstarts) c ⌝ }
     requires stored { ⌜ getD (now fstarts) c 0 ≤ length (now frows) ⌝ }
@@ -16,7 +16,7 @@ pub fn handed_on<'a>(c: usize, fstarts: &[u64], frows: &'a [u32]) -> &'a [u32]
     &frows[s + 1..e]
 }
 
-// The child with the most rows of those linked from c on. Of those before d none has more than best.
+// Finds the child with the most rows of those linked from c on. In the loop none of those before d has more rows than best.
 pub fn longest(n: usize, c: usize, fstarts: &[u64], work: &[u64]) -> usize
     requires { ⌜ Linked n c (now fstarts) (now work) ⌝ }
     ensures { λ r. ⌜ Longest n c (now (fstarts .entry)) (now (work .entry)) r ⌝ }

@@ -1,4 +1,4 @@
--- Ascending lists: their numbers stand above the bound and none twice, and the numbers alone fix the list.
+-- Proves facts of ascending lists: each number is above the bound, none occurs twice, and the numbers alone decide the list.
 -- Assumes nothing.
 use Prim.Native.Nat.{ℕ, _-_, _<_, _≤_}
 use mathlib.Core.Path.{_≡_, refl, sym}
@@ -8,7 +8,7 @@ use native.Mathlib.Omega.{arith}
 use lib.ListN.{length}
 use Rattle.papers.specs.Lists.{_∈_, Asc, Distinct}
 
--- a bound below every number will do
+-- the bound may be any number below all of the list
 pub asc-bound : (a b : ℕ) (l : List ℕ) → Asc b l → ((i : ℕ) → i ∈ l → a < i) → Asc a l
 asc-bound a b [] s h = tt
 asc-bound a b (x ∷ xs) s h = (h x (List·Memᴰ·head refl), s .1)
@@ -28,12 +28,12 @@ pub asc-distinct : (b : ℕ) (l : List ℕ) → Asc b l → Distinct l
 asc-distinct b [] s = tt
 asc-distinct b (x ∷ xs) s = (λ m. omega (arith, asc-above x xs (s .1) m), asc-distinct x xs (s .1))
 
--- one number more, above all
+-- a number above all others may be put at the end
 pub asc-append : (b : ℕ) (xs : List ℕ) (y : ℕ) → Asc b xs → b < y → ((i : ℕ) → i ∈ xs → i < y) → Asc b (xs ++ (y ∷ []))
 asc-append b [] y s l h = (l, tt)
 asc-append b (x ∷ xs) y s l h = (s .0, asc-append x xs y (s .1) (h x (List·Memᴰ·head refl)) (λ i m. h i (List·Memᴰ·tail m)))
 
--- above b and at most n there are n - b numbers
+-- there are at most n - b numbers above b and up to n
 pub asc-length : (n b : ℕ) (l : List ℕ) → Asc b l → ((i : ℕ) → i ∈ l → i ≤ n) → length l ≤ n - b
 asc-length n b [] s h = omega arith
 asc-length n b (x ∷ xs) s h = omega (arith, asc-length n x xs (s .1) (λ i m. h i (List·Memᴰ·tail m)), h x (List·Memᴰ·head refl))
@@ -42,7 +42,7 @@ pub drop-head : {i : ℕ} (x : ℕ) {xs : List ℕ} → ¬ (i ≡ x) → i ∈ (
 drop-head x h (List·Memᴰ·head e) = absurd (h e)
 drop-head x h (List·Memᴰ·tail m) = m
 
--- two ascending lists with the same numbers are one list
+-- two ascending lists with the same numbers are the same list
 pub asc-ext : (b : ℕ) (xs ys : List ℕ) → Asc b xs → Asc b ys → ((i : ℕ) → i ∈ xs → i ∈ ys) → ((i : ℕ) → i ∈ ys → i ∈ xs) → xs ≡ ys
 asc-ext b [] [] s t f g = refl
 asc-ext b [] (y ∷ ys) s t f g = absurd (List·Memᴰ·not-nil (g y (List·Memᴰ·head refl)))

@@ -1,4 +1,5 @@
--- Lists without repeats: one whose numbers another has is no longer than it, and two that share no number join.
+-- Proves facts of lists without repeats: if another list has all of its numbers, it is no longer than that list; and two such lists that
+-- share no number may be put together.
 -- Assumes nothing.
 use Prim.Native.Nat.{ℕ, suc, _≤_}
 use mathlib.Core.Path.{_≡_, refl, sym, ap, _∙_}
@@ -14,7 +15,7 @@ use Rattle.papers.specs.Lists.{_∈_, Distinct, member}
 use Rattle.list_laws.proofs.Tests.{Test, passes, fails, test, true-false}
 use Rattle.list_laws.proofs.Members.{member-true, member-into}
 
--- the list less one x
+-- the list without one x
 without : ℕ → List ℕ → List ℕ
 without x [] = []
 without x (y ∷ ys) = elim (eqb x y) [ true ↦ ys | false ↦ y ∷ without x ys ]
@@ -41,7 +42,7 @@ without-keeps x i (y ∷ ys) h m = go (test (eqb x y)) (List·Memᴰ·cases-cons
     go (fails q) (inl e) ih = rw (q, without) (List·Memᴰ·head e)
     go (fails q) (inr t) ih = rw (q, without) (List·Memᴰ·tail (ih t))
 
--- a list without repeats whose numbers another has is no longer than it
+-- a list without repeats is no longer than a list that has all its numbers
 pub distinct-length : (xs ys : List ℕ) → Distinct xs → ((i : ℕ) → i ∈ xs → i ∈ ys) → length xs ≤ length ys
 distinct-length [] ys d h = omega arith
 distinct-length (x ∷ xs) ys d h =
@@ -69,7 +70,7 @@ distinct-join (x ∷ xs) ys d e h = (λ m. go (List·Memᴰ·append-cases xs m),
     go (inl m) = d .0 m
     go (inr m) = h x (List·Memᴰ·head refl) m
 
--- as many different numbers of a list as it has are all of it
+-- if a list has as many different numbers of another as that one is long, it has all of them
 pub all-there : (xs ys : List ℕ) → Distinct xs → ((i : ℕ) → i ∈ xs → i ∈ ys) → length ys ≤ length xs → (y : ℕ) → y ∈ ys → y ∈ xs
 all-there xs ys d h l y m = go (test (member y xs))
   where

@@ -1,4 +1,4 @@
--- The numbers of which a test holds: `keep` keeps just those, in their order.
+-- Proves that `keep` keeps exactly the numbers that pass the test, in their order.
 -- Assumes nothing.
 use Prim.Native.Nat.{ℕ}
 use mathlib.Core.Path.{_≡_, refl, ap, _∙_}

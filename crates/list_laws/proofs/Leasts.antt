@@ -1,5 +1,5 @@
--- The least place with a fault: `least f n` keeps the first place that it meets, so it is 0 just where no place of 1 to n has f, and p + 1 just
--- where p + 1 is one of them, has f, and none before it has.
+-- Proves what `least f n` is: 0 exactly when no place of 1 to n passes f; p + 1 exactly when p + 1 is one of these places, passes f, and no
+-- place before it does. It keeps the first place that it meets.
 -- Assumes nothing.
 use Prim.Native.Nat.{ℕ, zero, suc, _≤_}
 use mathlib.Core.Path.{_≡_, refl, sym, _∙_}
@@ -11,7 +11,7 @@ use Rattle.papers.specs.Lists.{least}
 use Rattle.list_laws.proofs.Tests.{Test, passes, fails, test}
 
 module _ (f : ℕ → Bool) where
-  -- a step: no place up to n has f, and the next has it or not; or a place is found already
+  -- one more place: if no place up to n passes f, the next decides; if one is found, it stays
   pub least-none : (n : ℕ) → least f n ≡ 0 → f (suc n) ≡ false → least f (suc n) ≡ 0
   unfolding least
   least-none n z e = rw (z, e, least)
@@ -24,7 +24,7 @@ module _ (f : ℕ → Bool) where
   unfolding least
   least-kept n p e = rw (e, least)
 
-  -- the first place with f is the least of any longer range
+  -- the first place that passes f is the least of any longer range
   pub least-here : (n m : ℕ) → least f n ≡ 0 → f (suc n) ≡ true → suc n ≤ m → least f m ≡ suc n
   least-here n zero z e l = absurd (omega arith)
   least-here n (suc m) z e l = go (le-suc-iff .0 l) (λ k. least-here n m z e k)
@@ -33,7 +33,7 @@ module _ (f : ℕ → Bool) where
       go (inl k) ih = least-kept m n (ih k)
       go (inr k) ih = let q : n ≡ m = omega arith in rw (← q) (least-next n z e)
 
-  -- what `least f n` is, with what that says
+  -- `least f n`, with what its value says
   data Found (n : ℕ) : Type 0 where
     nowhere : least f n ≡ 0 → ((k : ℕ) → 1 ≤ k → k ≤ n → f k ≡ false) → Found n
     at : (p : ℕ) → least f n ≡ suc p → suc p ≤ n → f (suc p) ≡ true → ((k : ℕ) → 1 ≤ k → k ≤ p → f k ≡ false) → Found n
@@ -55,7 +55,7 @@ module _ (f : ℕ → Bool) where
       go (nowhere z h) (fails e) = nowhere (least-none n z e) (one-more h e)
       go (at p q l e h) t = at p (least-kept n p q) (omega arith) e h
 
-  -- 0 just where no place of 1 to n has f
+  -- it is 0 exactly when no place of 1 to n passes f
   pub least-zero-iff : (n : ℕ) → (least f n ≡ 0) ↔ ((k : ℕ) → 1 ≤ k → k ≤ n → f k ≡ false)
   least-zero-iff n = (λ z. there z (found n), λ h. back h (found n))
     where
@@ -67,7 +67,7 @@ module _ (f : ℕ → Bool) where
       back h (nowhere q g) = q
       back h (at p q l e g) = absurd (let z : _≡_ {A = ℕ} 0 1 = cc (h (suc p) (omega arith) l) in omega arith)
 
-  -- p + 1 just where it is a place of 1 to n, has f, and none before it has
+  -- it is p + 1 exactly when p + 1 is a place of 1 to n, passes f, and no place before it does
   pub least-found-iff : (n p : ℕ) → (least f n ≡ suc p) ↔ ((suc p ≤ n) × (f (suc p) ≡ true) × ((k : ℕ) → 1 ≤ k → k ≤ p → f k ≡ false))
   least-found-iff n p = (λ q. there q (found n), λ h. least-here p n (least-zero-iff p .1 (h .2)) (h .1) (h .0))
     where
@@ -75,7 +75,7 @@ module _ (f : ℕ → Bool) where
       there q (nowhere z h) = absurd (omega arith)
       there q (at r s l e h) = let d : r ≡ p = omega arith in rw (← d) (l, e, h)
 
--- two tests that agree have one least place
+-- two tests that agree find the same least place
 pub least-same : (f g : ℕ → Bool) (n : ℕ) → ((k : ℕ) → 1 ≤ k → k ≤ n → f k ≡ g k) → least f n ≡ least g n
 least-same f g n h = go (least g n) refl
   where

@@ -1,5 +1,5 @@
--- The tests on lists: `member` passes just where the number stands in the list, `same` just where the lists are one. And what
--- stands at a place of a list is one of it.
+-- Proves that the tests on lists are right: `member` passes exactly when the number is in the list, `same` exactly when the lists are the
+-- same. And the number at a place of a list is in the list.
 -- Assumes nothing.
 use Prim.Native.Nat.{ℕ, zero, suc, _<_}
 use mathlib.Core.Path.{_≡_, refl}
@@ -55,7 +55,7 @@ unfolding same
 same-refl [] = refl
 same-refl (x ∷ xs) = rw (eq-eqb x x refl, same) (same-refl xs)
 
--- the number at a place is one of the list
+-- the number at a place of the list is in it
 pub at-place : (l : List ℕ) (k : ℕ) → k < length l → getD l k 0 ∈ l
 at-place [] k h = absurd (omega arith)
 at-place (y ∷ l) zero h = List·Memᴰ·head refl

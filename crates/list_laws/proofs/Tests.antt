@@ -1,4 +1,4 @@
--- The two sides of a test, the three ways two numbers compare, and induction on anything smaller.
+-- Proves the two sides of a test, the three ways in which two numbers compare, and induction on all smaller numbers.
 -- Assumes nothing.
 use Prim.Native.Nat.{ℕ, zero, suc, _<_, _≤_}
 use mathlib.Core.Path.{_≡_, refl}
@@ -8,7 +8,7 @@ use native.Mathlib.Omega.{arith}
 use lib.Dec.{ltb}
 use borrow.Author.Tests.{ltb-true, ltb-false}
 
--- a test with its outcome: a clause on it keeps the equation
+-- a test with its outcome, so that a clause on the outcome keeps the equation
 pub data Test (b : Bool) : Type 0 where
   passes : b ≡ true → Test b
   fails : b ≡ false → Test b
@@ -52,7 +52,7 @@ pub and-both : (a b : Bool) → (a && b) ≡ true → (a ≡ true) × (b ≡ tru
 and-both true b e = (refl, e)
 and-both false b e = absurd (true-false e refl)
 
--- what holds of n once it holds of every smaller number holds of all
+-- if a statement holds of n whenever it holds of every smaller number, it holds of all numbers
 pub strong {ℓ} : (P : ℕ → Type ℓ) → ((n : ℕ) → ((m : ℕ) → m < n → P m) → P n) → (n : ℕ) → P n
 strong P step n = step n (below-it n)
   where

@@ -1,4 +1,4 @@
--- The numbers 1 to n: exactly those, ascending, so each once, and n of them.
+-- Proves that `upTo n` consists of the numbers 1 to n, ascending, each once: n numbers.
 -- Assumes nothing.
 use Prim.Native.Nat.{ℕ, zero, suc, _≤_}
 use mathlib.Core.Path.{_≡_, refl}

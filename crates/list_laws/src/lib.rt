@@ -1,1 +1,1 @@
-// Laws of the list words of papers, and the two sides of a test. No code.
+// Laws of the words about lists that papers defines, and of the two sides of a test. No code.

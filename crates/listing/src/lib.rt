@@ -1,5 +1,5 @@
-// The listing of a job text, in fixed zeroed buffers of the program's sizes, into a lent slice: its entry point. What is printed is the
-// line of the text's refusal, or what is printed of its job.
+// The entry point of the listing: prints a job text's listing into a lent slice, in fixed zeroed buffers of the program's sizes. It prints
+// the line of the text's refusal, or what is printed of its job.
 ghost use mathlib.Core.Path.{_≡_};
 ghost use Prim.Native.Nat.{_≤_};
 ghost use lib.ListN.{length};
@@ -50,8 +50,8 @@ fn print_job(head: JobHead, starts: &[u64], rows: &[u32], bytes: &mut [u8]) -> u
     )
 }
 
-// Writes what is printed of a text, of which `more` says whether it goes on behind what is lent, to the front of bytes, and answers its
-// length.
+// Writes what is printed of a text to the front of bytes, and answers its length. `more` says whether the text continues behind what is
+// lent.
 fn print_text(text: &[u8], more: bool, bytes: &mut [u8]) -> usize
     requires { ⌜ length (programPrints (record { text = now text; more = more })) ≤ length (now bytes) ⌝ }
     ensures place { λ r. ⌜ r ≡ length (programPrints (record { text = now (text .entry); more = more })) ⌝ }
@@ -77,8 +77,9 @@ fn print_text(text: &[u8], more: bool, bytes: &mut [u8]) -> usize
     }
 }
 
-// What the program prints of a text, of which `more` says whether it goes on behind what is lent, into bytes, then zeros: the listing
-// of its job, or the line of a refusal. The count is the bytes printed; 7 where the slice is shorter than any listing may need.
+// Writes what the program prints of a text into bytes, then zeros: the listing of its job, or the line of a refusal. `more` says whether
+// the text continues behind what is lent. The count is the bytes printed; the answer is 7 if the slice is shorter than any listing may
+// need.
 pub fn listing(text: &[u8], more: bool, bytes: &mut [u8]) -> Answer
     ensures { λ r. ⌜ EndsAs r (now (bytes .exit)) (listed (record { text = now (text .entry); more = more }) (now (bytes .entry))) ⌝ }
 {

@@ -1,5 +1,5 @@
--- The answers that a listing may print of a job are refusals of numbers that are not large: places are columns, and counts the rows needed or a peak,
--- which a job that passes its tests keeps small.
+-- Proves that the answers which a listing may print of a job have small numbers: places are columns, and counts are rows needed or a peak,
+-- which are small for a job that passes its tests.
 -- Assumes nothing.
 use Prim.Native.Nat.{ℕ, zero, suc, _+_, _*_, _^_, _<_, _≤_}
 use mathlib.Core.Path.{_≡_, refl, _∙_}
@@ -34,11 +34,11 @@ use Rattle.job_laws.proofs.Laid.{lists-none, lists-more}
 use Rattle.order_laws.proofs.Patterns.{rows-fit, order-ordered}
 use Rattle.order_laws.proofs.RoomBounds.{ordered-peak-fits}
 
--- a refusal, of numbers that a machine number holds
+-- a refusal whose three numbers fit machine numbers
 abbrev pub Small : Answer → Type 0
 Small a = (0 < a .number) × (a .number < 2 ^ 64) × (a .place < 2 ^ 64) × (a .count < 2 ^ 64)
 
--- a verdict that refuses by no other
+-- a verdict that gives no other refusals
 abbrev pub SmallIn : Verdict → Type 0
 SmallIn passed = Unit {0}
 SmallIn (refused a leaves) = Small a
@@ -102,7 +102,7 @@ job-small job h =
 
 -- ---- 7 to 9
 
--- lists of at most so many rows each
+-- lists of at most this many rows each
 flat-few : (B : Pattern) (b m : ℕ) → ((j : ℕ) → length (B j) ≤ b) → length (flat (listsOf m B)) ≤ m * b
 unfolding flat
 flat-few B b zero h = rw (lists-none B) (omega arith)

@@ -1,4 +1,5 @@
--- Any listing fits: it has at most 256 steps and 4,096 rows, and each number of it but the rooms has at most three digits.
+-- Proves that any listing fits its slice: it has at most 256 steps and 4,096 rows, and each of its numbers except the rooms has at most
+-- three digits.
 -- Assumes nothing.
 use Prim.Native.Nat.{ℕ, _+_, _*_, _≤_}
 use mathlib.Core.Bool.{Bool}
@@ -25,7 +26,7 @@ use Rattle.order_laws.proofs.RoomBounds.{ordered-peak-fits}
 use Rattle.listing_laws.proofs.Parts.{distinct-flat}
 use Rattle.listing_laws.proofs.Lengths.{three-short, steps-short}
 
--- there are at most n children
+-- a column has at most n children
 pops-few : (n : ℕ) (A : Pattern) (j : ℕ) → popsOf n A j ≤ n
 unfolding children
 pops-few n A j =
@@ -43,7 +44,7 @@ module _ {n : ℕ} {A : Pattern} (below : Below n A) (few : n ≤ programColumns
     unfolding listsOf
     order-rows = omega (arith, distinct-flat (R A) order (upTo n) (ordered .once) (λ i m. let (l, u) = ordered .each i .0 m in upTo-into n i l u))
 
-    -- the lines of the steps
+    -- the lines of the steps fit
     pub steps-fit : length (stepLines n A order (roomsOf n A order)) ≤ 22 * programColumns + 4 * programFactorRows
     steps-fit =
         omega (
@@ -55,7 +56,7 @@ module _ {n : ℕ} {A : Pattern} (below : Below n A) (few : n ≤ programColumns
           order-rows,
         )
 
--- the whole listing
+-- the whole listing fits
 pub listing-fits : (job : Job) → Below (job .n) (pattern job) → job .n ≤ programColumns → job .mark ≤ maxMark
     → length (flat (listsOf (job .n) (R (pattern job)))) ≤ programFactorRows
     → length (listingOf job (peak (job .n) (pattern job) (orderOf (job .mark) (job .n) (pattern job)))) ≤ listingBytes

@@ -1,4 +1,4 @@
--- How long lines are: a number of at most three digits takes four bytes behind the first word of its line, and any room 14.
+-- Proves how long lines are: a number of at most three digits takes four bytes behind the first word of its line, and any room 14.
 -- Assumes nothing.
 use Prim.Native.Nat.{ℕ, _+_, _*_, _^_, _<_, _≤_}
 use mathlib.Core.Path.{_≡_, refl}
@@ -24,7 +24,7 @@ length-next : (word : List ℕ) (x : ℕ) (xs : List ℕ) → length (printed wo
 unfolding printed
 length-next word x xs = omega (arith, length-append word (space ∷ printed (decimalOf x) xs))
 
--- of numbers with at most three digits
+-- the length of a line of numbers with at most three digits
 length-printed : (word xs : List ℕ) → ((x : ℕ) → x ∈ xs → x < 1000) → length (printed word xs) ≤ length word + 4 * length xs + 1
 length-printed word [] h = omega (arith, length-none word)
 length-printed word (x ∷ xs) h =
@@ -35,7 +35,7 @@ length-printed word (x ∷ xs) h =
       length-decimal 2 x (h x (List·Memᴰ·head refl)),
     )
 
--- the line of a refusal, whatever 64-bit numbers it has
+-- the line of a refusal is short, whatever 64-bit numbers it has
 pub refusal-short : (a : Answer) → a .number < 2 ^ 64 → a .place < 2 ^ 64 → a .count < 2 ^ 64 → length (refusalLine a) ≤ 71
 unfolding refusalLine
 refusal-short a n p c =
@@ -50,7 +50,7 @@ refusal-short a n p c =
       length-decimal 19 (a .count) (omega arith),
     )
 
--- a line of three numbers, the first two of at most three digits
+-- the length of a line of three numbers, the first two of at most three digits
 pub three-short : (word : List ℕ) (x y z : ℕ) → x < 1000 → y < 1000 → z ≤ maxPeak → length (printed word (x ∷ y ∷ z ∷ [])) ≤ length word + 23
 three-short word x y z a b c =
     omega (
@@ -66,7 +66,7 @@ three-short word x y z a b c =
 
 -- ---- the lines of steps
 
--- one step's: room apart, three digits for each number
+-- the length of a step's line: its room, and three digits for each other number
 step-short : (j pops room : ℕ) (rows : List ℕ) → j < 1000 → pops < 1000 → room ≤ maxPeak → ((x : ℕ) → x ∈ rows → x < 1000)
     → length (printed (decimalOf j) (pops ∷ room ∷ rows)) ≤ 22 + 4 * length rows
 step-short j pops room rows a b c h =

@@ -1,4 +1,5 @@
--- Lists of distinct columns: those of some columns have no more rows than those of all, since each column can be taken out of all once.
+-- Proves that the lists of some distinct columns have no more rows than the lists of all columns: each of them can be taken out of all
+-- once.
 -- Assumes nothing.
 use Prim.Native.Nat.{ℕ, _+_, _≤_}
 use mathlib.Core.Path.{_≡_, refl, sym, ap}
@@ -10,7 +11,7 @@ use lib.ListN.{length, length-append}
 use Rattle.papers.specs.Lists.{_∈_, Distinct, flat}
 use Rattle.list_laws.proofs.Stores.{flat-append}
 
--- a list around one of its numbers
+-- a list split at one of its numbers
 record Around (x : ℕ) (l : List ℕ) : Type 0 where
   before : List ℕ
   behind : List ℕ
@@ -41,7 +42,7 @@ module _ (B : ℕ → List ℕ) where
   unfolding rows flat
   rows-cons x b = length-append (B x) (flat (map B b))
 
-  -- the columns of xs, no two the same, are among those of ys
+  -- if the columns of xs are distinct and all in ys, they have no more rows
   distinct-rows : (xs ys : List ℕ) → Distinct xs → ((i : ℕ) → i ∈ xs → i ∈ ys) → rows xs ≤ rows ys
   distinct-rows [] ys d h = omega (arith, rows-none)
   distinct-rows (x ∷ xs) ys d h =

@@ -1,5 +1,5 @@
--- What the listing program prints fits the listing's slice, whatever it reads: a refusal is one short line, and a listing is that of a job of the
--- program's sizes.
+-- Proves that what the listing program prints fits the listing's slice, whatever it reads: a refusal is one short line, and a listing is
+-- that of a job within the program's sizes.
 -- Assumes nothing.
 use Prim.Native.Nat.{ℕ, zero, suc, _≤_}
 use mathlib.Core.Path.{_≡_, refl, sym, ap, _∙_}
@@ -29,7 +29,7 @@ use Rattle.listing_laws.proofs.TextAnswers.{text-small, text-columns}
 refusal-fits : (a : Answer) → Small a → length (refusalLine a) ≤ listingBytes
 refusal-fits a s = omega (arith, refusal-short a (s .1) (s .2) (s .3))
 
--- a refusal prints its line
+-- a refusal prints one line
 line : (job : Job) (a : Answer) → Small a → jobPrinted job a ≡ refusalLine a
 unfolding jobPrinted
 line job a s = go (a .number) refl

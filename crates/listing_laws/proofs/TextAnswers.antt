@@ -1,4 +1,4 @@
--- The answers that a listing may print of a text are refusals of numbers that are not large: places are lines, and n has at most 13 digits.
+-- Proves that the answers which a listing may print of a text have small numbers: places are lines, and n has at most 13 digits.
 -- Assumes nothing.
 use Prim.Native.Nat.{ℕ, zero, suc, _+_, _^_, _<_, _≤_}
 use mathlib.Core.Path.{_≡_, refl}
@@ -71,6 +71,6 @@ text-small input =
       ),
     )
 
--- n of a text
+-- n of a text has at most 13 digits
 pub text-columns : (text : List ℕ) → textHead text .n < 2 ^ 64
 text-columns text = let n = head-short text in omega arith

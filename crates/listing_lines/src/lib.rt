@@ -1,5 +1,5 @@
-// The lines of a word and three numbers that the listing program prints: the header, and the line of a refusal. Each is written to the
-// front of a lent slice, and the place behind it is answered.
+// Writes numbers in decimal, and the two lines of a word and three numbers that the listing program prints: the header, and the line of a
+// refusal. Each function answers the place behind what it writes.
 use papers::Answer;
 ghost use mathlib.Core.Path.{_≡_};
 ghost use Prim.Native.Nat.{_+_, _≤_};
@@ -9,7 +9,7 @@ ghost use Rattle.papers.specs.Text.{decimalOf, space, printed, wordPlan, refusa
 ghost use mathlib.Core.List.{_∷_, []};
 ghost use Rattle.listing_lines.specs.Numbered.{numbered};
 
-// Writes x in decimal: the digits of its tenth, where it has one, then its last digit.
+// Writes x in decimal: the digits of its tenth, if that is not 0, then its last digit.
 pub fn write_decimal(x: u64, bytes: &mut [u8], at: usize) -> usize
     requires { ⌜ at + length (decimalOf x) ≤ length (now bytes) ⌝ }
     ensures place { λ r. ⌜ r ≡ at + length (decimalOf x) ⌝ }
@@ -24,7 +24,7 @@ pub fn write_decimal(x: u64, bytes: &mut [u8], at: usize) -> usize
     last + 1
 }
 
-// Writes a number of a line behind its first word: a space, then x in decimal.
+// Writes a number behind the first word of a line: a space, then x in decimal.
 pub fn write_number(x: u64, bytes: &mut [u8], at: usize) -> usize
     requires { ⌜ at + length (space ∷ decimalOf x) ≤ length (now bytes) ⌝ }
     ensures place { λ r. ⌜ r ≡ at + length (space ∷ decimalOf x) ⌝ }
@@ -34,7 +34,7 @@ pub fn write_number(x: u64, bytes: &mut [u8], at: usize) -> usize
     write_decimal(x, bytes, at + 1)
 }
 
-// Writes the numbers of a slice so. The first i are written, up to next.
+// Writes the numbers of a slice, each behind a space. In the loop the first i are written, up to next.
 pub fn write_rows(rows: &[u32], bytes: &mut [u8], at: usize) -> usize
     requires { ⌜ at + length (numbered (now rows)) ≤ length (now bytes) ⌝ }
     ensures place { λ r. ⌜ r ≡ at + length (numbered (now (rows .entry))) ⌝ }
@@ -49,7 +49,7 @@ pub fn write_rows(rows: &[u32], bytes: &mut [u8], at: usize) -> usize
     next
 }
 
-// Writes a word of letters. The first i are written.
+// Writes a word of letters. In the loop the first i are written.
 fn write_word(word: &[u8], bytes: &mut [u8], at: usize) -> usize
     requires { ⌜ at + length (now word) ≤ length (now bytes) ⌝ }
     ensures place { λ r. ⌜ r ≡ at + length (now (word .entry)) ⌝ }

@@ -1,4 +1,4 @@
-// What is printed of a job: its analysis in lent slices, then its listing from them, or the line of its refusal.
+// Prints what is printed of a job: analyses it in lent slices, then writes its listing from them, or the line of its refusal.
 ghost use mathlib.Core.Path.{_≡_};
 ghost use Prim.Native.Nat.{_<_, _≤_};
 ghost use lib.ListN.{length};
@@ -11,7 +11,7 @@ ghost use Rattle.listing_steps.specs.Steps.{Printable};
 ghost use Rattle.listing_plan.specs.PlanLines.{planLines};
 use papers::JobHead;
 
-// Writes the listing of a plan that lies in slices to the front of another, and answers its length.
+// Writes the listing of a plan, which the slices hold, to the front of bytes, and answers its length.
 fn print_plan(
     head: JobHead,
     peak: u64,
@@ -41,8 +41,7 @@ fn print_plan(
     listing_steps::write_steps(order, pops, fstarts, frows, below, bytes, first)
 }
 
-// Analyses a job in lent slices and writes what is printed of it, its listing or the line of its refusal, to the front of bytes;
-// answers its length.
+// Analyses a job in lent slices, writes its listing or the line of its refusal to the front of bytes, and answers its length.
 pub fn print_analysis(
     head: JobHead,
     starts: &[u64],

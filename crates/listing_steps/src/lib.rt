@@ -1,4 +1,4 @@
-// The lines of a listing behind its header: one for each step of an order, from the slices that hold an analysis.
+// Writes the lines of a listing behind its header, one for each step of an order, from the slices that hold an analysis.
 ghost use mathlib.Core.Path.{_≡_};
 ghost use mathlib.Core.List.{_∷_};
 ghost use Prim.Native.Nat.{_+_, _<_, _≤_};
@@ -32,7 +32,7 @@ pub fn write_step(
     end + 1
 }
 
-// Writes the line of a step of column j, whose rows lie from its start to the next one.
+// Writes the line of a step of column j, whose rows are between its start and the next one.
 fn write_column(
     j: usize,
     pops: u64,
@@ -58,8 +58,8 @@ fn write_column(
     write_step(j as u64, pops, room, &frows[from..to], bytes, at)
 }
 
-// Writes the lines of all steps, and answers the place behind them. The first k are written, up to next; depth updates are held behind
-// them, whose entries are summed up in below.
+// Writes the lines of all steps, and answers the place behind them. In the loop the first k lines are written, up to next; `depth` updates
+// are held after these steps, and below holds the sums of their entries.
 pub fn write_steps(
     order: &[u32],
     pops: &[u32],

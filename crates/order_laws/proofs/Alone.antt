@@ -1,5 +1,5 @@
--- A subtree's steps: they find enough to take off, leave one update, or none if its top is a root, and use the room that they use alone above
--- what is held before.
+-- Proves what a subtree's steps do: they never pop more than is held, they leave one update, or none if the top is a root, and above what
+-- was held before they use the room that they use alone.
 -- Assumes nothing.
 use Prim.Native.Nat.{ℕ, zero, suc, _+_, _<_, _≤_}
 use mathlib.Core.Path.{_≡_, refl, ap, _∙_}
@@ -17,7 +17,7 @@ use Rattle.order_laws.proofs.Rooms.{held-update, held-append}
 use Rattle.order_laws.proofs.Frames.{held-above, rooms-above, enough-append, enough-above}
 use Rattle.order_laws.proofs.Arranged.{arranged-elements, arranged-length, steps-suc}
 
--- what a column of r rows leaves when all that is held is taken off
+-- what a column of r rows leaves if it pops all that is held
 pub leaves : ℕ → List ℕ
 leaves r = heldAfter 0 r []
 
@@ -30,11 +30,11 @@ unfolding leaves heldAfter
 takes-all zero held = drop-length held
 takes-all (suc r) held = ap (λ l. t (suc r) ∷ l) (drop-length held)
 
--- the updates of siblings done one after the other, the last on top, above what is held
+-- siblings done one after the other leave their updates, the last on top, above what is held
 abbrev pub stacked : (ℕ → ℕ) → List ℕ → List ℕ → List ℕ
 stacked size cs held = reverseAux (map (λ c. t (size c)) cs) held
 
--- steps that with nothing held before leave what column j leaves
+-- with nothing held before, these steps leave what column j leaves
 pub record DoneAlone (size pops : ℕ → ℕ) (j : ℕ) (js : List ℕ) : Type 0 where
   pub enough : Enough size pops [] js
   pub left : heldAfterAll size pops [] js ≡ leaves (size j)
@@ -59,7 +59,7 @@ module _ (mark : ℕ) (size : ℕ → ℕ) (kids : ℕ → List ℕ) (kin : Kin 
         held-append size pops held (steps f c) (flatMap (steps f) cs) ∙ rw e q,
       )
 
-  -- the children of j as its steps take them
+  -- the children of j in the order of its steps
   abbrev pub arrangedKids : ℕ → ℕ → List ℕ
   arrangedKids f j = arranged mark size kids (steps f) j
 
@@ -96,21 +96,21 @@ module _ (mark : ℕ) (size : ℕ → ℕ) (kids : ℕ → List ℕ) (kin : Kin 
       (λ c m. let k = arranged-elements mark size kids (steps f) j c .0 m in let (a, b) = kin .lower j c l k in
       (deep c a (omega arith), kin .update j c l k))
 
-  -- the steps of a subtree find enough and leave what its top leaves
+  -- the steps of a subtree pop no more than is held and leave what its top leaves
   pub steps-alone : (f j : ℕ) → 0 < j → j ≤ f → DoneAlone size pops j (stepsOf mark size kids f j)
   steps-alone zero j l u = absurd (omega arith)
   steps-alone (suc f) j l u = then-parent f j (children-done f j [] (λ c a b. steps-alone f c a b) l u)
 
-  -- the children of j done, their updates lie on top of what was held
+  -- after the children of j, their updates are on top of what was held
   pub children-held : (f j : ℕ) (held : List ℕ) → 0 < j → j ≤ suc f
       → heldAfterAll size pops held (flatMap (stepsOf mark size kids f) (arrangedKids f j)) ≡ stacked size (arrangedKids f j) held
   children-held f j held l u = children-done f j held (steps-alone f) l u .1
 
-  -- above what is held: one update more
+  -- above what is held, a subtree leaves one more update
   pub steps-held : (f j : ℕ) (held : List ℕ) → 0 < j → j ≤ f → heldAfterAll size pops held (stepsOf mark size kids f j) ≡ leaves (size j) ++ held
   steps-held f j held l u = let a = steps-alone f j l u in held-above size pops (steps f j) [] held (a .enough) ∙ ap (λ q. q ++ held) (a .left)
 
-  -- and the room of the subtree done alone, above it
+  -- above what is held, a subtree uses the room that it uses alone
   pub steps-rooms : (f j : ℕ) (held : List ℕ) → 0 < j → j ≤ f
       → rooms size pops held (stepsOf mark size kids f j) ≡ map (λ r. sum held + r) (rooms size pops [] (stepsOf mark size kids f j))
   steps-rooms f j held l u = rooms-above size pops (steps f j) [] held (steps-alone f j l u .enough)

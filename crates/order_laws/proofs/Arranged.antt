@@ -1,4 +1,5 @@
--- Siblings in the mark's order are the same siblings; and the steps of a subtree do not depend on how deep one may go, once that is enough.
+-- Proves that siblings in the mark's order are the same siblings, and that the steps of a subtree do not depend on the depth allowed, once
+-- it is enough.
 -- Assumes nothing.
 use Prim.Native.Nat.{ℕ, zero, suc, _<_, _≤_}
 use mathlib.Core.Path.{_≡_, refl, ap, _∙_}
@@ -42,7 +43,7 @@ module _ (mark : ℕ) (size : ℕ → ℕ) (kids : ℕ → List ℕ) where
   unfolding stepsOf
   steps-suc f j = refl
 
-  -- a depth of j is enough for column j, where children are lower columns
+  -- if children are lower columns, depth j is enough for column j
   pub steps-enough : ((j c : ℕ) → 0 < j → c ∈ kids j → (0 < c) × (c < j)) → (f g j : ℕ) → 0 < j → j ≤ f → j ≤ g
       → stepsOf mark size kids f j ≡ stepsOf mark size kids g j
   steps-enough lower zero zero j l u w = refl

@@ -1,4 +1,4 @@
--- The entries held are those of the updates of the columns held, and the room of a step is counted over them.
+-- Proves that the entries held are those of the updates of the columns held, so the room of a step can be computed from these columns.
 -- Assumes nothing.
 use Prim.Native.Nat.{ℕ, zero, suc, _<_, _≤_}
 use mathlib.Core.Path.{_≡_, refl, ap}
@@ -21,7 +21,7 @@ drop-map f (suc p) [] = refl
 drop-map f (suc p) (x ∷ l) = drop-map f p l
 
 module _ (size pops : ℕ → ℕ) where
-  -- the room of a step, over what the steps before it leave
+  -- the room of a step, from what the steps before it leave
   pub room-at-step : (held js : List ℕ) (s : ℕ) → s < length js
       → getD (rooms size pops held js) s 0 ≡ roomAt (pops (getD js s 0)) (size (getD js s 0)) (heldAfterAll size pops held (take s js))
   unfolding rooms heldAfterAll
@@ -44,7 +44,7 @@ module _ (size pops : ℕ → ℕ) where
             rw (held-update p (suc r) _ (omega arith), pushed-update par j (drop p held) (above (par j) refl (λ z. absurd (omega arith))), e)
             (ap (λ l. t (suc r) ∷ l) (drop-map (λ c. t (size c)) p held))
 
-    -- the entries held after s steps, by the columns held
+    -- the entries held after s steps, from the columns held
     pub held-entries : (order : List ℕ) (s : ℕ) → s ≤ length order
         → heldAfterAll size pops [] (take s order) ≡ map (λ c. t (size c)) (heldColumns par pops order s)
     unfolding heldAfterAll heldColumns

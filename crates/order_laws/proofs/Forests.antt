@@ -1,4 +1,4 @@
--- Orders of subtrees: siblings one after the other, whichever way they are arranged, and then their parent.
+-- Proves how orders of subtrees combine: siblings one after the other, in any arrangement, and then their parent.
 -- Assumes nothing.
 use Prim.Native.Nat.{ℕ, _<_}
 use mathlib.Core.Path.{_≡_, refl}
@@ -19,7 +19,7 @@ use Rattle.order_laws.proofs.Trees.{under-child, through, apart}
 use Rattle.order_laws.proofs.Reversed.{reverse-from, reversed-mem}
 
 module _ (par : ℕ → ℕ) where
-  -- v orders the subtree of c, whatever else is done before
+  -- v orders the subtree of c, whatever was done before
   pub record SubtreeOrder (c : ℕ) (v : List ℕ) : Type 0 where
     pub valid : (done : List ℕ) → ((x : ℕ) → Under par c x → ¬ (x ∈ done)) → Valid par done v
     pub all : (x : ℕ) → (x ∈ v) ↔ Under par c x
@@ -62,14 +62,14 @@ module _ {par : ℕ → ℕ} {n : ℕ} (tree : Tree par n) where
       into b x (inl e) s = Memᴰ·append-left (flatMap v cs) (own .all x .1 (rw e at s))
       into b x (inr m) s = Memᴰ·append-right (v c) (rest .into b x m s)
 
-  -- siblings one after the other
+  -- orders of siblings, one after the other, order all of them
   pub forest : (j : ℕ) (v : ℕ → List ℕ) (cs : List ℕ) → Distinct cs → ((c : ℕ) → c ∈ cs → (par c ≡ j) × SubtreeOrder par c (v c))
       → ForestOrder par cs (flatMap v cs)
   unfolding flatMap
   forest j v [] d h = record { valid = λ done k. tt; from = λ x m. absurd (List·Memᴰ·not-nil m); into = λ c x m s. absurd (List·Memᴰ·not-nil m) }
   forest j v (c ∷ cs) d h = forest-cons j v c cs d h (forest j v cs (d .1) (λ b m. h b (List·Memᴰ·tail m)))
 
-  -- a column after its children's subtrees
+  -- a column done after its children's subtrees ends an order of its own
   pub column-last : (j : ℕ) (cs v : List ℕ) → 0 < j → ((c : ℕ) → (c ∈ cs) ↔ (par c ≡ j)) → ForestOrder par cs v → SubtreeOrder par j (v ++ (j ∷ []))
   column-last j cs v z k f = record { valid = valid; all = λ x. (λ m. from x (List·Memᴰ·append-cases v m), into x) }
     where

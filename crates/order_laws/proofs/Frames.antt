@@ -1,4 +1,4 @@
--- Steps that take off no more than is held above a base leave the base alone, and use the room that they use without it above the base.
+-- Proves that steps which pop no more than is held above a base leave the base alone, and use the same room above it as without it.
 -- Assumes nothing.
 use Prim.Native.Nat.{ℕ, zero, suc, _+_, _≤_}
 use mathlib.Core.Path.{_≡_, refl, ap}

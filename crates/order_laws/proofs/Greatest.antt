@@ -1,4 +1,5 @@
--- The greatest number of a list is one of them and none is greater; sums and greatest numbers of lists joined or raised.
+-- Proves facts of the greatest number of a list: it is in the list, and no number is greater; and sums and greatest numbers of lists joined
+-- or raised.
 -- Assumes nothing.
 use Prim.Native.Nat.{ℕ, _+_, _*_, _<_, _≤_, max}
 use mathlib.Core.Path.{_≡_, refl}
@@ -38,7 +39,7 @@ unfolding greatest
 greatest-append [] b = omega arith
 greatest-append (x ∷ a) b = omega (arith, greatest-append a b)
 
--- numbers raised by h
+-- raising every number by h raises the greatest by h
 pub greatest-raised : (h : ℕ) (l : List ℕ) → 0 < length l → greatest (map (λ r. h + r) l) ≡ h + greatest l
 unfolding greatest
 greatest-raised h [] z = absurd (omega arith)
@@ -50,7 +51,7 @@ unfolding sum
 sum-append [] b = omega arith
 sum-append (x ∷ a) b = omega (arith, sum-append a b)
 
--- at most so many numbers, each at most b
+-- numbers that are each at most b add up to at most b times their count
 pub sum-bound : (l : List ℕ) (b : ℕ) → ((x : ℕ) → x ∈ l → x ≤ b) → sum l ≤ length l * b
 unfolding sum
 sum-bound [] b h = omega arith

@@ -1,4 +1,5 @@
--- A parent that is not done yet, tested: no root's parent is missing, and one more column done matters to its own children alone.
+-- Proves facts of the test whether a column's parent is still to be done: a root's parent never is, and doing one more column changes the
+-- test for its own children alone.
 -- Assumes nothing.
 use Prim.Native.Nat.{ℕ, zero, suc, _<_}
 use mathlib.Core.Path.{_≡_, refl}

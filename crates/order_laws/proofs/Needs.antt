@@ -1,5 +1,5 @@
--- What a subtree needs from what its children's need: they are done in turn, each above the updates of the earlier ones, and then the front
--- lies over the last update.
+-- Proves what room a subtree needs, from what its children's subtrees need: they are done in turn, each above the updates of the earlier
+-- ones, and then the front is put over the last update.
 -- Assumes nothing.
 use Prim.Native.Nat.{ℕ, zero, suc, _+_, _<_, _≤_, max}
 use mathlib.Core.Path.{_≡_, refl, ap, _∙_}
@@ -33,7 +33,7 @@ but-last-next size (d ∷ e ∷ cs) c = ap (λ m. t (size d) + m) (but-last-next
 
 -- ---- a column after its children
 
--- the front of a column over its children's updates
+-- the room of a column's front over its children's updates
 front-over : (size : ℕ → ℕ) (r : ℕ) (c : ℕ) (cs held : List ℕ) (p : ℕ) → 0 < p
     → roomAt p r (stacked size (c ∷ cs) held) ≡ sum held + butLast size (c ∷ cs) + t (suc r)
 unfolding butLast sum
@@ -76,7 +76,7 @@ module _ (mark : ℕ) (size : ℕ → ℕ) (kids : ℕ → List ℕ) (kin : Kin 
       let sums : t (size c) + sum held ≡ sum held + t (size c) = omega arith in
       rw (rooms-append size pops held (steps f c) later, left, greatest-append, own, rest, sums)
 
-  -- the need of a subtree, from its children's
+  -- the room that a subtree needs, from its children's
   pub need-children : (f j : ℕ) → 0 < j → j ≤ suc f
       → let cs = arranged mark size kids (steps f) j in need (suc f) j ≡ max (inTurn size (need f) 0 cs) (butLast size cs + t (suc (size j)))
   unfolding peakOf rooms greatest sum

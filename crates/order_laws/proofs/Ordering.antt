@@ -1,4 +1,5 @@
--- The order rule by its steps and the rule step by step are one: at each step the subtree stands in one piece right before it.
+-- Proves that the order rule and the rule step by step say the same: at each step, the subtree of its column takes the steps right before
+-- it.
 -- Assumes nothing.
 use Prim.Native.Nat.{ℕ, suc, _+_, _-_, _<_, _≤_}
 use mathlib.Core.Path.{_≡_, refl, sym, ap, _∙_}
@@ -112,7 +113,7 @@ module _ (par : ℕ → ℕ) where
   valid-at (x ∷ pre) j rest done v = valid-at pre j rest (x ∷ done) (v .1)
 
 module _ {par : ℕ → ℕ} {n : ℕ} (tree : Tree par n) (order : List ℕ) where
-  -- steps that each find their column's subtree right before them make an order
+  -- if each step finds its column's subtree right before it, the steps are an order
   pub valid-ordered : ((j : ℕ) → (j ∈ order) ↔ ((1 ≤ j) × (j ≤ n))) → Valid par [] order → Ordered par n order
   valid-ordered each v = record { each = each; once = once; together = together }
     where
@@ -130,7 +131,7 @@ module _ {par : ℕ → ℕ} {n : ℕ} (tree : Tree par n) (order : List ℕ) wh
           at pre j rest e q =
               piece-together par order s l u once (rw (e, q) at (ready-piece par pre j rest (valid-at par pre j rest [] (rw (← e) at v))))
 
-  -- and in an order each step finds it there
+  -- in an order each step finds its column's subtree right before it
   pub ordered-ready : Ordered par n order → (s : ℕ) → s < length order → Ready par (reverse (take s order)) (columnAt order (suc s))
   ordered-ready o s h = rw (column-at order s) (at (take s order) (getD order s 0) (drop (suc s) order) (sym (split-at order s 0 h)))
     where

@@ -1,4 +1,5 @@
--- The order of every mark: the subtrees of the roots, each in one piece, since a column's steps are its children's subtrees and then itself.
+-- Proves that the order of every mark is an order: the subtrees of the roots follow one another, and a column's steps are its children's
+-- subtrees and then itself, so each subtree is in one piece.
 -- Assumes nothing.
 use Prim.Native.Nat.{ℕ, zero, suc, _<_, _≤_}
 use mathlib.Core.Path.{_≡_}
@@ -33,7 +34,7 @@ module _ {par : ℕ → ℕ} {n : ℕ} (tree : Tree par n) (mark : ℕ) (size : 
   abbrev steps : ℕ → ℕ → List ℕ
   steps f = stepsOf mark size (children par n) f
 
-  -- the steps of a column are an order of its subtree
+  -- the steps of a column's subtree are an order of it
   pub steps-order : (f j : ℕ) → 0 < j → j ≤ f → SubtreeOrder par j (stepsOf mark size (children par n) f j)
   steps-order zero j l u = absurd (omega arith)
   steps-order (suc f) j l u =
@@ -57,7 +58,7 @@ module _ {par : ℕ → ℕ} {n : ℕ} (tree : Tree par n) (mark : ℕ) (size : 
       forest tree 0 (steps n) (children par n 0) (children-distinct par n 0)
       (λ c m. let (l, u, e) = children-are par n 0 c .0 m in (e, steps-order n c l u))
 
-  -- the subtrees of the roots, ascending, siblings by any mark
+  -- the subtrees of the roots, ascending, with siblings by any mark, are an order of the columns
   pub marked-ordered : Ordered par n (flatMap (stepsOf mark size (children par n) n) (children par n 0))
   marked-ordered =
       valid-ordered tree (flatMap (steps n) (children par n 0)) (λ x. (from x, λ r. into x (r .0) (r .1)))

@@ -1,4 +1,4 @@
--- The tree of a pattern's parents, and the order of its columns under each mark.
+-- Proves that the parents of a pattern form a forest, and that each mark gives an order of its columns.
 -- Assumes nothing.
 use Prim.Native.Nat.{ℕ, _-_, _≤_}
 use mathlib.Core.Path.{_≡_, refl}

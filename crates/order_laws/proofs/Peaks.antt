@@ -1,4 +1,4 @@
--- The peak of an order is the greatest room in use of its steps.
+-- Proves that the peak of an order is the greatest room in use of its steps.
 -- Assumes nothing.
 use Prim.Native.Nat.{ℕ, _<_, _≤_, max}
 use mathlib.Core.Path.{_≡_, refl}
@@ -14,7 +14,7 @@ use Rattle.order_laws.specs.Held.{heldAfterAll}
 use Rattle.order_laws.proofs.Rooms.{rooms-append, rooms-length}
 use Rattle.order_laws.proofs.Greatest.{greatest-bound, greatest-in, greatest-append}
 
--- one step more
+-- the peak after one more step
 pub peak-next : (size pops : ℕ → ℕ) (js : List ℕ) (j : ℕ)
     → peakOf size pops (js ++ (j ∷ [])) ≡ max (peakOf size pops js) (roomAt (pops j) (size j) (heldAfterAll size pops [] js))
 unfolding peakOf rooms greatest
@@ -26,12 +26,12 @@ module _ (n : ℕ) (A : Pattern) where
   unfolding roomsOf peak peakOf
   room-under-peak order r m = greatest-bound (rooms (rowCount A) (popsOf n A) [] order) r m
 
-  -- some step uses as much
+  -- some step uses as much room as the peak
   pub peak-reached : (order : List ℕ) → 0 < length order → peak n A order ∈ roomsOf n A order
   unfolding roomsOf peak peakOf
   peak-reached order h = greatest-in (rooms (rowCount A) (popsOf n A) [] order) (omega (arith, rooms-length (rowCount A) (popsOf n A) [] order))
 
-  -- no step, no room
+  -- the peak of no steps is 0
   pub peak-empty : peak n A [] ≡ 0
   unfolding peak peakOf rooms greatest
   peak-empty = refl

@@ -1,4 +1,4 @@
--- A subtree in one piece: its steps are consecutive and its top last just where they are a slice that ends at the top.
+-- Proves that a subtree's steps are consecutive with its top last exactly when they are a slice of the order that ends at the top.
 -- Assumes nothing.
 use Prim.Native.Nat.{ℕ, suc, _-_, _<_, _≤_}
 use mathlib.Core.Path.{refl}
@@ -12,7 +12,7 @@ use Rattle.papers.specs.Tree.{Under, top}
 use Rattle.papers.specs.Order.{columnAt, Together}
 use Rattle.order_laws.proofs.Steps.{slice-steps, step-of, one-step}
 
--- the subtree of the column of step s is done in the steps after `from` up to s
+-- the subtree of the column of step s takes the steps after `from` up to s
 pub record Piece (par : ℕ → ℕ) (order : List ℕ) (s : ℕ) : Type 0 where
   pub from : ℕ
   pub earlier : from < s

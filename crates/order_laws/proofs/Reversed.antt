@@ -1,4 +1,4 @@
--- A list reversed has the same elements, each as often.
+-- Proves that a reversed list has the same elements, each as often.
 -- Assumes nothing.
 use Prim.Native.Nat.{ℕ}
 use mathlib.Core.Path.{_≡_, sym}
@@ -32,7 +32,7 @@ reverse-left (y ∷ l) r {x} m = go (List·Memᴰ·cases-cons m) (λ k. reverse-
     go (inl e) ih = reverse-right l (y ∷ r) (List·Memᴰ·head e)
     go (inr k) ih = ih k
 
--- a list reversed has its elements
+-- a reversed list has the same elements
 pub reversed-mem : (l : List ℕ) {x : ℕ} → (x ∈ reverse l) ↔ (x ∈ l)
 reversed-mem l {x} = (λ m. only (reverse-from l [] m), λ m. reverse-left l [] m)
   where

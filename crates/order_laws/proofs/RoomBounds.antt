@@ -1,4 +1,5 @@
--- How much room steps can use: each finds at most one update a step done before it, none with more entries than the largest front.
+-- Proves how much room steps can use: a step finds at most one update for each step before it, and none has more entries than the largest
+-- front.
 -- Assumes nothing.
 use Prim.Native.Nat.{ℕ, zero, suc, _+_, _*_, _≤_}
 use mathlib.Core.Path.{_≡_, refl}
@@ -39,7 +40,7 @@ held-more p zero held = omega (arith, length-drop p held)
 held-more p (suc r) held = omega (arith, length-drop p held)
 
 module _ (size pops : ℕ → ℕ) (n b : ℕ) where
-  -- b: the entries of the largest front; n: the updates held and the steps to come
+  -- b bounds the entries of a front, and n the updates held and the steps to come
   pub rooms-bound : (held js : List ℕ) → ((j : ℕ) → j ∈ js → t (suc (size j)) ≤ b) → ((x : ℕ) → x ∈ held → x ≤ b) → length held + length js ≤ n
       → (r : ℕ) → r ∈ rooms size pops held js → r ≤ n * b
   rooms-bound held [] fronts updates count r m = absurd (List·Memᴰ·not-nil (rw (rooms-nil size pops held) at m))
@@ -65,7 +66,7 @@ module _ (size pops : ℕ → ℕ) (n b : ℕ) where
       go (inl e) ih = omega (arith, one)
       go (inr k) ih = ih k
 
--- the peak of at most n steps of the columns 1 to n
+-- a bound of the peak of at most n steps of the columns 1 to n
 module _ {n : ℕ} {A : Pattern} (below : Below n A) (order : List ℕ) (count : length order ≤ n) (columns : (j : ℕ) → j ∈ order
     → (1 ≤ j) × (j ≤ n)) where
   pub peak-bound : peak n A order ≤ n * t n
@@ -76,7 +77,7 @@ module _ {n : ℕ} {A : Pattern} (below : Below n A) (order : List ℕ) (count :
       (λ j m. let (l, u) = columns j m in t-grows (suc (rowCount A j)) n (omega (arith, rows-fit below j)))
       (λ x m. absurd (List·Memᴰ·not-nil m)) (omega arith))
 
-  -- a peak can be declared
+  -- the peak fits its field in a plan
   pub peak-fits : n ≤ maxColumns → peak n A order ≤ maxPeak
   unfolding t
   peak-fits h =

@@ -1,4 +1,4 @@
--- The room in use and the updates held at one step, and over steps that follow one another.
+-- Proves the room in use and the updates held, at one step and over steps one after the other.
 -- Assumes nothing.
 use Prim.Native.Nat.{ℕ, zero, suc, _+_, _<_, _≤_}
 use mathlib.Core.Path.{_≡_, refl, ap}
@@ -12,12 +12,12 @@ use Rattle.order_laws.specs.Held.{heldAfterAll}
 
 -- ---- one step
 
--- a step without pops: its front lies above all that is held
+-- a step without pops puts its front above all that is held
 pub room-none : (r : ℕ) (held : List ℕ) → roomAt 0 r held ≡ sum held + t (suc r)
 unfolding roomAt topUpdate
 room-none r held = omega arith
 
--- a step with pops: its front lies over the top update
+-- a step with pops puts its front over the top update
 pub room-over : (pops r top : ℕ) (rest : List ℕ) → 0 < pops → roomAt pops r (top ∷ rest) ≡ sum rest + t (suc r)
 unfolding roomAt topUpdate head0 sum
 room-over zero r top rest h = absurd (omega arith)

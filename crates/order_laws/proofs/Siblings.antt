@@ -1,4 +1,5 @@
--- The children of a column in the mark's order: by descending key, the lower number first, and no others.
+-- Proves that the mark's order of a column's children has exactly these children, by descending key, and of equal keys the lower number
+-- first.
 -- Assumes nothing.
 use Prim.Native.Nat.{ℕ}
 use mathlib.Core.Path.{_≡_, refl}
@@ -13,13 +14,13 @@ use Rattle.list_laws.proofs.SortOrder.{Sorted, sort-sorted, sort-level}
 use Rattle.order_laws.specs.Subtrees.{siblingsOf}
 use Rattle.order_laws.proofs.Subtrees.{children-asc}
 
--- siblings stand by descending key of the mark, and of one key the lower number first
+-- siblings are in the order of descending keys of the mark, and of equal keys the lower number is first
 pub siblings-by-mark : (mark n : ℕ) (A : Pattern) (j : ℕ)
     → Sorted (λ c. siblingKey mark (rowCount A j) (rowCount A c) (W mark n A c)) (siblingsOf mark n A j)
 unfolding siblingsOf
 siblings-by-mark mark n A j = sort-sorted _ 0 (childrenOf n A j) (children-asc (parent A) n j)
 
--- by mark 0 their numbers ascend
+-- with mark 0 the numbers of siblings ascend
 pub siblings-ascend : (n : ℕ) (A : Pattern) (j : ℕ) → siblingsOf 0 n A j ≡ childrenOf n A j
 unfolding siblingsOf siblingKey
 siblings-ascend n A j = sort-level _ (λ c. refl) (childrenOf n A j)

@@ -1,4 +1,4 @@
--- The steps of an order, counted from 1: a run of consecutive steps is a slice, and in an order without repeats a column has one step.
+-- Proves facts of steps, counted from 1: consecutive steps are a slice of the order, and in an order without repeats a column has one step.
 -- Assumes nothing.
 use Prim.Native.Nat.{ℕ, zero, suc, _+_, _-_, _<_, _≤_}
 use mathlib.Core.Path.{_≡_, refl, sym, ap, _∙_}
@@ -12,7 +12,7 @@ use Rattle.papers.specs.Order.{columnAt}
 use Rattle.list_laws.proofs.Counts.{distinct-append}
 use Rattle.list_laws.proofs.Members.{at-place}
 
--- places from 0
+-- the place of a column in the list, counted from 0
 place-of : (l : List ℕ) {x : ℕ} → x ∈ l → (k : ℕ) × (k < length l) × (getD l k 0 ≡ x)
 place-of [] m = absurd (List·Memᴰ·not-nil m)
 place-of (y ∷ l) {x} m = go (List·Memᴰ·cases-cons m) (λ t. place-of l t)
@@ -33,14 +33,14 @@ pub column-at : (order : List ℕ) (k : ℕ) → columnAt order (suc k) ≡ getD
 unfolding columnAt
 column-at order k = ap (λ i. getD order i 0) (omega arith)
 
--- the step of column x, after step a and no later than step b
+-- column x has a step after step a and no later than step b
 pub record StepOf (order : List ℕ) (x a b : ℕ) : Type 0 where
   pub step : ℕ
   pub behind : a < step
   pub within : step ≤ b
   pub is : columnAt order step ≡ x
 
--- the steps after a up to b are a slice
+-- the steps after a up to b are a slice of the order
 pub slice-steps : (order : List ℕ) (x a b : ℕ) → b ≤ length order → (x ∈ slice a b order) ↔ StepOf order x a b
 unfolding columnAt
 slice-steps order x a b h = (from, into)
@@ -70,7 +70,7 @@ pub column-in : (order : List ℕ) (s : ℕ) → 1 ≤ s → s ≤ length order 
 unfolding columnAt
 column-in order s l u = at-place order (s - 1) (omega arith)
 
--- and no other step
+-- a column has no other step
 pub one-step : (order : List ℕ) → Distinct order → (s k : ℕ) → 1 ≤ s → s ≤ length order → 1 ≤ k → k ≤ length order
     → columnAt order s ≡ columnAt order k → s ≡ k
 unfolding columnAt

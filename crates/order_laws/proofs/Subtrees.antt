@@ -1,4 +1,4 @@
--- The lists of a column's children and of its subtree have just the columns that they should, each once.
+-- Proves that the list of a column's children, and that of its subtree, has exactly the columns that it should have, each once.
 -- Assumes nothing.
 use Prim.Native.Nat.{ℕ, zero, suc, _+_, _<_, _≤_}
 use mathlib.Core.Path.{_≡_, refl}
@@ -16,7 +16,7 @@ use Rattle.list_laws.proofs.UpTo.{upTo-range, upTo-into, upTo-asc, upTo-distinc
 use Rattle.order_laws.specs.Parents.{Tree}
 use Rattle.order_laws.proofs.Trees.{under-range}
 
--- children: the columns of 1 to n with that parent
+-- the children of j are the columns of 1 to n whose parent is j
 pub children-are : (par : ℕ → ℕ) (n j x : ℕ) → (x ∈ children par n j) ↔ ((1 ≤ x) × (x ≤ n) × (par x ≡ j))
 unfolding children
 children-are par n j x = (
@@ -24,7 +24,7 @@ children-are par n j x = (
   λ (l, u, e). keep-into (λ c. eqb (par c) j) (upTo n) (upTo-into n x l u) (eq-eqb (par x) j e),
 )
 
--- the children are in ascending order
+-- the children ascend
 pub children-asc : (par : ℕ → ℕ) (n j : ℕ) → Asc 0 (children par n j)
 unfolding children
 children-asc par n j = keep-asc (λ c. eqb (par c) j) 0 (upTo n) (upTo-asc n)
@@ -43,7 +43,7 @@ is-under par (suc f) j x e = go (test (eqb x j)) (test (eqb (par x) 0)) (λ q. i
     go (fails q) (fails r) ih = let z : par x ≢ 0 = eqb-false (par x) 0 r in up {k = x} (omega arith) (ih (rw (q, r, isUnder) at e))
 
 module _ {par : ℕ → ℕ} {n : ℕ} (tree : Tree par n) where
-  -- a column other than 0 has the children that name it
+  -- if j is not 0, its children are the columns that have it as parent
   pub children-of : (j x : ℕ) → 0 < j → (x ∈ children par n j) ↔ (par x ≡ j)
   children-of j x z = (
     λ m. children-are par n j x .0 m .2,
@@ -54,7 +54,7 @@ module _ {par : ℕ → ℕ} {n : ℕ} (tree : Tree par n) where
       positive zero e = absurd (omega (arith, tree .none))
       positive (suc x) e = omega arith
 
-  -- n - x parents are enough to climb
+  -- climbing n - x parents is enough
   under-is : (f j x : ℕ) → n ≤ x + f → Under par j x → isUnder par f j x ≡ true
   unfolding isUnder
   under-is zero j x l top = eq-eqb x x refl
@@ -66,7 +66,7 @@ module _ {par : ℕ → ℕ} {n : ℕ} (tree : Tree par n) where
       go (passes q) ih = rw (q, isUnder)
       go (fails q) ih = rw (q, ne-eqb (par x) 0 (λ e. absurd (omega arith)), isUnder) ih
 
-  -- the test of a subtree says whether a column stands in it
+  -- the test of a subtree passes exactly when the column is in it
   pub under-test : (j x : ℕ) → (isUnder par n j x ≡ true) ↔ Under par j x
   under-test j x = (is-under par n j x, under-is n j x (omega arith))
 

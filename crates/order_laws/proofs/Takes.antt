@@ -1,5 +1,5 @@
--- What is held in the course of an order: after every step the columns done whose parent is not; so each step takes off just its column's
--- children, and at the end nothing is held.
+-- Proves what is held as an order is done: after every step the columns that are done and whose parent is not. So each step pops exactly
+-- its column's children, and at the end nothing is held.
 -- Assumes nothing.
 use Prim.Native.Nat.{ℕ, zero, suc, _<_, _≤_}
 use mathlib.Core.Path.{_≡_, refl, sym, ap, _∙_}
@@ -23,7 +23,7 @@ no-elements : (l : List ℕ) → ((x : ℕ) → ¬ (x ∈ l)) → l ≡ []
 no-elements [] h = refl
 no-elements (x ∷ l) h = absurd (h x (List·Memᴰ·head refl))
 
--- the steps done, the last one first
+-- one more step puts its column at the head of those done
 done-next : (order : List ℕ) (s : ℕ) → s < length order → reverse (take (suc s) order) ≡ columnAt order (suc s) ∷ reverse (take s order)
 done-next order s h = rw (column-at order s) (ap reverse (take-suc order s 0 h) ∙ reverse-append (take s order) _)
 
@@ -40,7 +40,7 @@ module _ {par : ℕ → ℕ} {n : ℕ} (tree : Tree par n) (order : List ℕ) (o
   distinct-so-far : (s : ℕ) → Distinct (reverse (take s order))
   distinct-so-far s = reverse-distinct (take s order) (distinct-append (take s order) (drop s order) (rw (take-append-drop s order) (o .once)) .0)
 
-  -- a parent is done later
+  -- a parent is done after its column
   parent-later : (s : ℕ) → s < length order → ¬ (par (columnAt order (suc s)) ∈ reverse (take s order))
   parent-later s h m =
       let j = columnAt order (suc s) in
@@ -59,7 +59,7 @@ module _ {par : ℕ → ℕ} {n : ℕ} (tree : Tree par n) (order : List ℕ) (o
       rw (done-next order s l, held-waiting s (omega arith))
       (sym (waiting-next tree (reverse (take s order)) j (range s l .0) (ordered-ready tree order o s l) (distinct-so-far s) (parent-later s l)))
 
-  -- the updates held are those of the columns done whose parent is not done
+  -- the updates held are those of the columns that are done and whose parent is not
   pub held-are : (s x : ℕ) → s ≤ length order → (x ∈ heldColumns par pops order s) ↔ ((x ∈ take s order) × (0 < par x) × (¬ (par x ∈ take s order)))
   held-are s x h = rw (held-waiting s h) (
     λ m. let (a, b, c) = waiting-are par (reverse (take s order)) x .0 m in
@@ -68,14 +68,14 @@ module _ {par : ℕ → ℕ} {n : ℕ} (tree : Tree par n) (order : List ℕ) (o
   )
 
   module _ (s : ℕ) (h : s < length order) where
-    -- a step finds as many updates as its pops
+    -- a step's pops are no more than the updates held
     pub step-enough : pops (columnAt order (suc s)) ≤ length (heldColumns par pops order s)
     step-enough =
         rw (held-waiting s (omega arith))
         (waiting-enough tree (reverse (take s order)) (columnAt order (suc s)) (range s h .0) (ordered-ready tree order o s h) (distinct-so-far s)
         (parent-later s h))
 
-    -- and those on top are its column's children
+    -- the updates on top are those of its column's children
     pub step-takes : (x : ℕ) → (x ∈ take (pops (columnAt order (suc s))) (heldColumns par pops order s)) ↔ (par x ≡ columnAt order (suc s))
     step-takes x =
         rw (held-waiting s (omega arith))

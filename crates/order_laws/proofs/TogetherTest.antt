@@ -1,5 +1,5 @@
--- The test of refusal 18 finds whether a subtree's steps are consecutive, its top last: as many different columns of the subtree as it has are
--- all of it.
+-- Proves that the test of 18 is right about a subtree's steps. It looks at as many steps as the subtree has columns; if they are different
+-- columns of the subtree, they are all of it.
 -- Assumes nothing.
 use Prim.Native.Nat.{ℕ, _-_, _<_, _≤_}
 use mathlib.Core.Path.{_≡_, refl}
@@ -80,7 +80,7 @@ module _ {par : ℕ → ℕ} {n : ℕ} (tree : Tree par n) (order : List ℕ) (e
       let here : s - w ≡ p .from = omega (arith, count, long, p .earlier) in
       (omega (arith, count, long), rw here (every-all (isUnder par n j) part .1 (λ x m. under-test tree j x .1 (p .all x .0 m))))
 
-  -- the steps of the subtree whose top is done at step s: the test and the rule agree
+  -- for the subtree whose top is done at step s, the test and the rule agree
   pub together-test : ((leb (length (subtreeOf par n (columnAt order s))) s && every (isUnder par n (columnAt order s))
       (slice (s - length (subtreeOf par n (columnAt order s))) s order)) ≡ true) ↔ Together par order s
   unfolding j w

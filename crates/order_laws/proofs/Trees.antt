@@ -1,4 +1,4 @@
--- Subtrees: a column above another is reached from it along its parents, so two ways up from one column run together, and the subtrees of
+-- Proves facts of subtrees: parents lead from a column to every column above it, so two ways up from one column join, and the subtrees of
 -- two children of one column share nothing.
 -- Assumes nothing.
 use Prim.Native.Nat.{ℕ, zero, suc, _+_, _<_, _≤_}
@@ -13,7 +13,7 @@ use Rattle.list_laws.proofs.Tests.{Test, passes, fails, test}
 use Rattle.order_laws.specs.Parents.{Tree}
 
 module _ (par : ℕ → ℕ) where
-  -- the first step of the way up
+  -- a column of a subtree is the top, or its parent is in the subtree
   pub under-cases : (j x : ℕ) → Under par j x → (x ≡ j) ⊎ ((0 < par x) × Under par j (par x))
   under-cases j x top = inl refl
   under-cases j x (up z s) = inr (z, s)
@@ -21,7 +21,7 @@ module _ (par : ℕ → ℕ) where
   pub under-child : (j c : ℕ) → 0 < j → par c ≡ j → Under par j c
   under-child j c z e = up {k = c} (omega arith) (rw e top)
 
-  -- the child of j whose subtree has x
+  -- the child of j whose subtree contains x
   pub record Through (j x : ℕ) : Type 0 where
     pub child : ℕ
     pub parent : par child ≡ j
@@ -47,7 +47,7 @@ module _ (par : ℕ → ℕ) where
       go (inr v) ih = ih (v .1)
 
 module _ {par : ℕ → ℕ} {n : ℕ} (tree : Tree par n) where
-  -- two children of one column have nothing in common
+  -- the subtrees of two children of one column share nothing
   pub apart : (j c d x : ℕ) → par c ≡ j → par d ≡ j → c ≢ d → Under par c x → Under par d x → ⊥
   apart j c d x p q h s u = go (chain par c d x s u)
     where
@@ -62,7 +62,7 @@ module _ {par : ℕ → ℕ} {n : ℕ} (tree : Tree par n) where
       go (inl s) = over c d p q h s
       go (inr s) = over d c q p (λ e. h (sym e)) s
 
-  -- a subtree is made of columns
+  -- a subtree of a column contains columns of 1 to n only
   pub under-range : (j x : ℕ) → 1 ≤ j → j ≤ n → Under par j x → (1 ≤ x) × (x ≤ n)
   under-range j x l u s = (positive x s, omega (arith, under-le par (tree .above) j x s))
     where

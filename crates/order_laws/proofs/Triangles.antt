@@ -1,4 +1,4 @@
--- t(r), the entries of r rows: each row adds its own length, so t grows with r.
+-- Proves facts of t(r), the entries of r rows: each further row adds its own length, so t grows with r.
 -- Assumes nothing.
 use Prim.Native.Nat.{ℕ, suc, _+_, _*_, _/_, _≤_}
 use mathlib.Core.Path.{_≡_, refl}
@@ -14,7 +14,7 @@ pub t-suc : (r : ℕ) → t (suc r) ≡ t r + suc r
 unfolding t
 t-suc r = omega arith
 
--- the product before it is halved
+-- the product r(r + 1), before it is halved
 pub product-grows : (a b : ℕ) → a ≤ b → a * (a + 1) ≤ b * (b + 1)
 product-grows a b h = let k : a + 1 ≤ b + 1 = omega arith in mul-le-mul h k
 

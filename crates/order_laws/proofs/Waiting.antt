@@ -1,5 +1,5 @@
--- One step of an order: the columns that wait for j are its children, and lie on top, since its subtree stands right before it; after the step
--- they wait no more, and j does, unless it is a root.
+-- Proves one step of an order. The columns that wait for j are its children, and their updates are on top, since j's subtree is done right
+-- before it. After the step they wait no more, and j does, unless it is a root.
 -- Assumes nothing.
 use Prim.Native.Nat.{ℕ, _<_, _≤_}
 use mathlib.Core.Path.{_≡_, refl, sym, ap, _∙_}
@@ -35,7 +35,7 @@ pub waiting-none : (par : ℕ → ℕ) → waiting par [] ≡ []
 unfolding waiting keep
 waiting-none par = refl
 
--- what waits: the columns done that have a parent, and it is not done
+-- the columns that wait: they are done and have a parent that is not
 pub waiting-are : (par : ℕ → ℕ) (done : List ℕ) (x : ℕ) → (x ∈ waiting par done) ↔ ((x ∈ done) × (0 < par x) × (¬ (par x ∈ done)))
 unfolding waiting
 waiting-are par done x = (
@@ -53,7 +53,7 @@ module _ {par : ℕ → ℕ} {n : ℕ} (tree : Tree par n) (done : List ℕ) (j 
   isChild : ℕ → Bool
   isChild x = eqb (par x) j
 
-  -- the parent of a proper descendant is j, or another
+  -- the parent of a proper descendant of j is j, or another proper descendant
   inner : (x : ℕ) → x ∈ inside → (0 < par x) × Under par j (par x)
   inner x m = go (under-cases par j x (all x .0 m .0))
     where
@@ -90,7 +90,7 @@ module _ {par : ℕ → ℕ} {n : ℕ} (tree : Tree par n) (done : List ℕ) (j 
   unfolding waits
   before-after x m = missing-more done (par x) j (λ e. parts .2 x (child-inside x e) m)
 
-  -- what waited: the children of j, and what waits still
+  -- the columns that waited are the children of j, and those that still wait
   waited : waiting par done ≡ keep isChild inside ++ keep (waits done) before
   unfolding waiting waits
   waited =
@@ -128,13 +128,13 @@ module _ {par : ℕ → ℕ} {n : ℕ} (tree : Tree par n) (done : List ℕ) (j 
       same-length (keep isChild inside) (children par n j) (keep-distinct isChild inside (parts .0)) (children-distinct par n j)
       (λ i m. children-of tree j i pos .1 (taken-are i .0 m)) (λ i m. taken-are i .1 (children-of tree j i pos .0 m))
 
-  -- off go as many as j has children
+  -- a step pops as many as j has children
   pub waiting-next : waiting par (j ∷ done) ≡ pushedOn par j (drop (length (children par n j)) (waiting par done))
   waiting-next =
       waits-then ∙ ap (pushedOn par j) (sym (ap (drop (length (children par n j))) waited ∙ drop-at (keep isChild inside) (keep (waits done) before)
       (length (children par n j)) taken-count))
 
-  -- and those are its children
+  -- what a step pops are the children of j
   pub waiting-taken : (x : ℕ) → (x ∈ take (length (children par n j)) (waiting par done)) ↔ (par x ≡ j)
   waiting-taken x = rw (waited, take-at (keep isChild inside) (keep (waits done) before) (length (children par n j)) taken-count) (taken-are x)
 

@@ -1,4 +1,4 @@
--- W, and the steps of a subtree, from its children's.
+-- Proves what W and the steps of a subtree are, from those of its children.
 -- Assumes nothing.
 use Prim.Native.Nat.{ℕ, zero, suc, _+_, _<_, _≤_, max}
 use mathlib.Core.Path.{_≡_, refl, ap, _∙_}
@@ -22,18 +22,18 @@ use Rattle.order_laws.proofs.Orders.{steps-order}
 use Rattle.order_laws.proofs.Patterns.{tree-of, root-rows}
 use Rattle.order_laws.proofs.Needs.{need-children}
 
--- the order: the subtrees of the roots
+-- the order consists of the subtrees of the roots, by ascending number
 pub order-roots : (mark n : ℕ) (A : Pattern) → orderOf mark n A ≡ flatMap (subtreeSteps mark n A) (childrenOf n A 0)
 unfolding orderOf subtreeSteps
 order-roots mark n A = refl
 
--- W is the peak of a subtree's steps
+-- W(j) is the peak of the steps of j's subtree
 pub W-peak : (mark n : ℕ) (A : Pattern) (j : ℕ) → W mark n A j ≡ peakOf (rowCount A) (popsOf n A) (subtreeSteps mark n A j)
 unfolding W alone subtreeSteps
 W-peak mark n A j = refl
 
 module _ {n : ℕ} {A : Pattern} (below : Below n A) where
-  -- children are lower columns, and have rows
+  -- children are lower columns and have rows
   pub kin-of : Kin (rowCount A) (childrenOf n A)
   kin-of = record {
     lower = λ j c z m. let (l, u, e) = children-are (parent A) n j c .0 m in (l, omega (arith, tree-of below .above c (omega arith)));
@@ -48,36 +48,36 @@ module _ {n : ℕ} {A : Pattern} (below : Below n A) where
     deeper : stepsOf mark (rowCount A) (childrenOf n A) n j ≡ stepsOf mark (rowCount A) (childrenOf n A) (suc n) j
     deeper = steps-enough mark (rowCount A) (childrenOf n A) (kin-of .lower) n (suc n) j l u (omega arith)
 
-    -- a subtree's steps: those of its children's subtrees, by the mark, then its top
+    -- a subtree's steps are those of its children's subtrees, by the mark, and then its top
     pub subtree-children : subtreeSteps mark n A j ≡ flatMap (subtreeSteps mark n A) (siblingsOf mark n A j) ++ (j ∷ [])
     unfolding subtreeSteps siblingsOf W arranged alone
     subtree-children = deeper ∙ steps-suc mark (rowCount A) (childrenOf n A) n j
 
-    -- W: the children's in turn, each above the updates of the earlier ones; then the front over the last one's update
+    -- W(j): the children need theirs in turn, each above the updates of the earlier ones; then the front is put over the last update
     pub W-children : W mark n A j ≡ max (inTurn (rowCount A) (W mark n A) 0 (siblingsOf mark n A j)) (butLast (rowCount A) (siblingsOf mark n A j) + t
         (suc (rowCount A j)))
     unfolding siblingsOf W arranged alone
     W-children = ap (peakOf (rowCount A) (popsOf n A)) deeper ∙ need-children mark (rowCount A) (childrenOf n A) kin-of n j l (omega arith)
 
-    -- so the entries of its update are part of it
+    -- the entries of the update are part of W
     pub W-update : t (rowCount A j) ≤ W mark n A j
     W-update = rw W-children (omega (arith, t-suc (rowCount A j)))
 
     order-of : SubtreeOrder (parent A) j (stepsOf mark (rowCount A) (childrenOf n A) n j)
     order-of = steps-order (tree-of below) mark (rowCount A) n j l u
 
-    -- a subtree's steps have its columns
+    -- the steps of a subtree are its columns
     pub subtree-columns : (x : ℕ) → (x ∈ subtreeSteps mark n A j) ↔ Under (parent A) j x
     unfolding subtreeSteps
     subtree-columns x = order-of .all x
 
-    -- each once
+    -- each column of a subtree has one step in it
     pub subtree-once : Distinct (subtreeSteps mark n A j)
     unfolding subtreeSteps
     subtree-once =
         valid-distinct (parent A) (stepsOf mark (rowCount A) (childrenOf n A) n j) [] (order-of .valid [] (λ x s m. List·Memᴰ·not-nil m)) .0
 
-    -- so there are as many under every mark
+    -- a subtree has the same number of steps under every mark
     pub subtree-count : length (subtreeSteps mark n A j) ≡ length (subtreeOf (parent A) n j)
     subtree-count =
         same-length (subtreeSteps mark n A j) (subtreeOf (parent A) n j) subtree-once (subtree-distinct (parent A) n j)

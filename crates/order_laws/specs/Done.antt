@@ -1,4 +1,4 @@
--- The order rule step by step: `done` has the columns of the steps done, the last one first.
+-- Defines the order rule step by step. `done` lists the columns of the steps done, the last one first.
 -- Assumes nothing.
 use Prim.Native.Nat.{ℕ}
 use mathlib.Core.Path.{_≡_}
@@ -16,7 +16,7 @@ module _ (par : ℕ → ℕ) where
     pub all : (x : ℕ) → (x ∈ inside) ↔ (Under par j x × (x ≢ j))
     pub new : ¬ (j ∈ done)
 
-  -- every step finds its column's subtree so
+  -- at every step, the column finds its subtree done right before it
   abbrev pub Valid : List ℕ → List ℕ → Type 0
   Valid done [] = Unit {0}
   Valid done (j ∷ js) = Ready done j × Valid (j ∷ done) js

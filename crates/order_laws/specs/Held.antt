@@ -1,4 +1,4 @@
--- The updates held after steps that follow one another.
+-- Defines the updates that are held after several steps.
 -- Assumes nothing.
 use Prim.Native.Nat.{ℕ, _≤_}
 use mathlib.Core.List.{List, [], _∷_}
@@ -11,7 +11,7 @@ module _ (size pops : ℕ → ℕ) where
   heldAfterAll held [] = held
   heldAfterAll held (j ∷ js) = heldAfterAll (heldAfter (pops j) (size j) held) js
 
-  -- no step takes off more updates than are held
+  -- no step pops more updates than are held
   abbrev pub Enough : List ℕ → List ℕ → Type 0
   Enough held [] = Unit {0}
   Enough held (j ∷ js) = (pops j ≤ length held) × Enough (heldAfter (pops j) (size j) held) js

@@ -1,4 +1,4 @@
--- The columns whose updates are held, as the steps of an order go on.
+-- Defines the columns whose updates are held as the steps of an order are done.
 -- Assumes nothing.
 use Prim.Native.Nat.{ℕ, zero, suc}
 use mathlib.Core.Bool.{Bool, true, false, not}
@@ -14,7 +14,7 @@ missing done zero = false
 missing done (suc p) = not (member (suc p) done)
 
 module _ (par : ℕ → ℕ) where
-  -- the columns done whose parent is not; `done` has the last step first
+  -- the columns that are done and whose parent is not; `done` lists the last step first
   unfoldable pub waiting : List ℕ → List ℕ
   waiting done = keep (λ x. missing done (par x)) done
 
@@ -22,7 +22,7 @@ module _ (par : ℕ → ℕ) where
   unfoldable pub pushedOn : ℕ → List ℕ → List ℕ
   pushedOn j held = elim (eqb (par j) 0) [ true ↦ held | false ↦ j ∷ held ]
 
-  -- the columns whose updates are held after the first s steps, the top one first, each step taking off pops of them
+  -- the columns whose updates are held after the first s steps, the top one first; each step pops as many as its pops say
   unfoldable pub heldColumns : (ℕ → ℕ) → List ℕ → ℕ → List ℕ
   heldColumns pops order zero = []
   heldColumns pops order (suc s) = let j = columnAt order (suc s) in pushedOn j (drop (pops j) (heldColumns pops order s))

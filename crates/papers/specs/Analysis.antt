@@ -1,4 +1,4 @@
--- The whole outcome of writing a key, of an analysis, and of writing a plan.
+-- Defines the whole outcome of three entry points: writing a key, an analysis, and writing a plan.
 -- Assumes nothing.
 use Prim.Native.Nat.{ℕ}
 use mathlib.Core.List.{List, [], _∷_, _++_, map}
@@ -13,16 +13,16 @@ use Rattle.papers.specs.Refusals.{factorRowsTest, peakTest, bytesTest}
 
 -- ---- a key: 1 to 6, then 10
 
--- what is handed over for a key, and lent
+-- the input of writing a key: a job, and the byte slice lent
 pub record KeyCall : Type 0 where
   pub job : Job
   pub bytes : List ℕ
 
--- a job's, then 10
+-- the tests of writing a key: those of the job, then 10
 unfoldable pub keyTests : List (KeyCall → Verdict)
 keyTests = map (λ test call. test (call .job)) jobTests ++ ((λ call. bytesTest (keyOf (call .job)) (call .bytes)) ∷ [])
 
--- done: the count is the bytes written
+-- a key is written: the slice holds its bytes, then zeros, and the count is the number of these bytes
 unfoldable pub keyDone : KeyCall → Outcome (List ℕ)
 keyDone call = let key = keyOf (call .job) in record { answer = answer 0 0 (length key); lent = thenZeros key (call .bytes) }
 
@@ -32,18 +32,18 @@ keyWritten job bytes = outcome keyTests keyDone zeros (record { job = job; bytes
 
 -- ---- an analysis: 1 to 9
 
--- what is handed over for an analysis, and lent
+-- the input of an analysis: a job, and the slices lent
 pub record AnalysisCall : Type 0 where
   pub job : Job
   pub lent : Lent
 
--- the parents, order, pops and lists of a plan, in their slices
+-- the slices when they hold a plan: its parents, order, pops, factor starts and factor rows
 unfoldable pub holdingPlan : Job → Plan → Lent → Lent
 holdingPlan job plan lent =
     holding (map (parent (pattern job)) (upTo (job .n))) (columnsIn (plan .steps)) (popsIn (plan .steps)) (startsFrom 0 (plan .lists))
     (flat (plan .lists)) lent
 
--- a job's, then 7, 8, 9
+-- the tests of an analysis: those of the job, then 7, 8, 9
 unfoldable pub analysisTests : List (AnalysisCall → Verdict)
 analysisTests =
     map (λ test call. test (call .job)) jobTests
@@ -52,7 +52,7 @@ analysisTests =
     ∷ (λ call. peakTest (call .job .limit) (planOf (call .job) .peak))
     ∷ [])
 
--- done: the count is the peak
+-- an analysis is done: the slices hold the job's plan, and the count is the peak
 unfoldable pub analysisDone : AnalysisCall → Outcome Lent
 analysisDone call = let plan = planOf (call .job) in record { answer = answer 0 0 (plan .peak); lent = holdingPlan (call .job) plan (call .lent) }
 
@@ -62,23 +62,23 @@ analysed job lent = outcome analysisTests analysisDone allZero (record { job = j
 
 -- ---- a plan: as an analysis, then 10
 
--- the slices of an analysis, and one for the bytes
+-- what writing a plan is lent: the slices of an analysis, and one for the bytes
 pub record PlanLent : Type 0 where
   pub analysis : Lent
   pub bytes : List ℕ
 
--- what is handed over for a plan, and lent
+-- the input of writing a plan: a job, and the slices lent
 pub record PlanCall : Type 0 where
   pub job : Job
   pub slices : PlanLent
 
--- an analysis's, then 10
+-- the tests of writing a plan: those of an analysis, then 10
 unfoldable pub planTests : List (PlanCall → Verdict)
 planTests =
     map (λ test call. test (record { job = call .job; lent = call .slices .analysis })) analysisTests
     ++ ((λ call. bytesTest (planBytes (call .job) (planOf (call .job))) (call .slices .bytes)) ∷ [])
 
--- done: the count is the bytes written
+-- a plan is written: the slices hold the analysis and the bytes, and the count is the number of these bytes
 unfoldable pub planDone : PlanCall → Outcome PlanLent
 planDone call =
     let plan = planOf (call .job) in
@@ -88,7 +88,7 @@ planDone call =
       lent = record { analysis = holdingPlan (call .job) plan (call .slices .analysis); bytes = thenZeros written (call .slices .bytes) };
     }
 
--- after 8, 9, 10: every slice zero
+-- after 8, 9 and 10 every lent slice is zero
 unfoldable pub planZero : PlanLent → PlanLent
 planZero slices = record { analysis = allZero (slices .analysis); bytes = zeros (slices .bytes) }
 

@@ -1,4 +1,4 @@
--- The bounds that the rules speak of, and one of our own for the listing, each in one place.
+-- Defines the bounds that the rules name, and one of our own for the listing, each in one place.
 -- Assumes nothing.
 use Prim.Native.Nat.{ℕ, _+_, _*_, _^_}
 
@@ -18,7 +18,7 @@ maxMark = 2
 abbrev pub maxPeak : ℕ
 maxPeak = 2 ^ 40
 
--- a number has at most so many groups of seven bits (refusal 13)
+-- a number has at most this many groups of seven bits (refusal 13)
 abbrev pub maxGroups : ℕ
 maxGroups = 6
 
@@ -26,29 +26,29 @@ maxGroups = 6
 abbrev pub edition : ℕ
 edition = 1
 
--- the work slice has at least so many numbers for n columns (refusal 7)
+-- for n columns the work slice has at least this many numbers (refusal 7)
 abbrev pub workLength : ℕ → ℕ
 workLength n = 8 * n + 8
 
--- ---- the program's and the solver's call's sizes (refusals 25, 26, 8)
+-- ---- the sizes of the listing program and of the solver's call (refusals 25, 26, 8)
 
--- input bytes
+-- the program reads at most this many bytes of input
 abbrev pub inputBytes : ℕ
 inputBytes = 8192
 
--- columns
+-- the program takes at most this many columns
 abbrev pub programColumns : ℕ
 programColumns = 256
 
--- pattern rows
+-- the program takes at most this many pattern rows
 abbrev pub programRows : ℕ
 programRows = 2048
 
--- factor rows
+-- the program's buffer holds this many factor rows
 abbrev pub programFactorRows : ℕ
 programFactorRows = 4096
 
--- a decimal has at most so many digits
+-- a decimal has at most this many digits
 abbrev pub maxDigits : ℕ
 maxDigits = 13
 
@@ -56,6 +56,6 @@ maxDigits = 13
 abbrev pub defaultMark : ℕ
 defaultMark = 0
 
--- the listing's output slice has at least so many bytes (refusal 7): any listing fits
+-- the listing's output slice has at least this many bytes (refusal 7), and any listing fits in them
 abbrev pub listingBytes : ℕ
 listingBytes = 24576

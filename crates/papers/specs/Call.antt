@@ -1,4 +1,4 @@
--- Readable keys, and the solver's call.
+-- Defines readable keys, and what the solver's call answers.
 -- Assumes nothing.
 use Prim.Native.Nat.{ℕ, _+_, _*_, _^_}
 use mathlib.Core.Path.{_≡_}
@@ -16,13 +16,13 @@ use Rattle.papers.specs.Check.{checked}
 use Rattle.papers.specs.Text.{buffers}
 use Rattle.papers.specs.declared.Answer.{Answer}
 
--- a readable key: some job that passes its tests has just these bytes as its key
+-- a key is readable if some job that passes 1 to 6 has exactly these bytes as its key
 pub record Readable (key : List ℕ) : Type 0 where
   pub job : Job
   pub passes : first jobTests job ≡ passed
   pub whole : keyOf job ≡ key
 
--- the job of a key, read through to its end
+-- the job that the bytes of a key encode; the bytes are read to their end
 unfoldable pub readKey : List ℕ → Read Job
 readKey s =
     then (field edition edition s 0) λ e at.
@@ -32,16 +32,16 @@ readKey s =
     then (readLists n 1 n s at) λ lists at.
     atEnd (record { n = n; starts = startsFrom 0 lists; rows = flat lists; mark = mark; limit = limit }) s at
 
--- the two byte strings of a call
+-- the input of the call: key bytes and plan bytes
 pub record SolverCall : Type 0 where
   pub key : List ℕ
   pub plan : List ℕ
 
--- 27: unreadable key
+-- 27: the key is not readable
 unfoldable pub readableTest : SolverCall → Verdict
 readableTest call = elim (readKey (call .key)) [ got job at ↦ passed | bad number place ↦ refused (answer 27 0 0) untouched ]
 
--- 26: a readable key that is too large for the program's buffers
+-- 26: the key is readable, but its job is too large for the program's buffers
 unfoldable pub sizesTest : SolverCall → Verdict
 sizesTest call =
     elim (readKey (call .key)) [
@@ -49,18 +49,18 @@ sizesTest call =
       | bad number place ↦ passed
     ]
 
--- 27, then 26
+-- the tests of the call: 27, then 26
 unfoldable pub callTests : List (SolverCall → Verdict)
 callTests = readableTest ∷ sizesTest ∷ []
 
--- else the check, in the program's buffers; an unreadable key has been refused before
+-- where neither refuses, the check of the plan for the key's job, in the program's buffers
 unfoldable pub keyChecked : SolverCall → Answer
 keyChecked call = elim (readKey (call .key)) [ got job at ↦ checked job (call .plan) buffers .answer | bad number place ↦ answer 27 0 0 ]
 
--- number, place and count of the call
+-- number, place and count that the call finds
 unfoldable pub solverAnswer : SolverCall → Answer
 solverAnswer call = elim (first callTests call) [ passed ↦ keyChecked call | refused a leaves ↦ a ]
 
--- the one number that the solver's call answers
+-- the one number that the call answers: number · 2^32 + place
 unfoldable pub called : List ℕ → List ℕ → ℕ
 called key plan = let a = solverAnswer (record { key = key; plan = plan }) in a .number * 2 ^ 32 + a .place

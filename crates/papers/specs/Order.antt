@@ -1,4 +1,4 @@
--- The order of columns: subtrees in one piece, siblings by the mark.
+-- Defines the order of the columns: what any order must be, and the order that a mark gives.
 -- Assumes nothing.
 use Prim.Native.Nat.{ℕ, zero, suc, _-_, _≤_}
 use mathlib.Core.Logic.{_↔_}
@@ -11,11 +11,11 @@ use Rattle.papers.specs.Room.{rooms, peakOf}
 
 -- ---- what any order must be
 
--- the column of step s, the steps counted from 1
+-- the column of step s, where steps count from 1
 unfoldable pub columnAt : List ℕ → ℕ → ℕ
 columnAt order s = nth order s
 
--- the subtree whose top is done at step s takes consecutive steps, s the last of them
+-- the subtree whose top is done at step s takes consecutive steps, and s is the last of them
 pub record Together (par : ℕ → ℕ) (order : List ℕ) (s : ℕ) : Type 0 where
   pub from : ℕ
   pub steps : (k : ℕ) → 1 ≤ k → k ≤ length order → Under par (columnAt order s) (columnAt order k) ↔ ((from ≤ k) × (k ≤ s))
@@ -28,43 +28,44 @@ pub record Ordered (par : ℕ → ℕ) (n : ℕ) (order : List ℕ) : Type 0 whe
 
 -- ---- the order of a mark
 
--- the key by which siblings descend: of a child with its rows and its W, under a parent with `above` rows.
--- Mark 0: none, so that the numbers ascend; 1: W less the update's entries, which are part of it; 2: the update's entries; a mark over 2
--- has been refused. No mark looks at `above` today.
+-- The key of a sibling; siblings go by descending key. It is given the child's rows and W, and `above`, the parent's number of rows. Mark
+-- 0: every key is 0, so numbers ascend. Mark 1: W less the entries of the update, which are part of W. Mark 2: the entries of the update. A
+-- mark over 2 has been refused. No mark uses `above` today.
 unfoldable pub siblingKey : ℕ → ℕ → ℕ → ℕ → ℕ
 siblingKey zero above rows W = 0
 siblingKey (suc zero) above rows W = W - t rows
 siblingKey (suc (suc m)) above rows W = t rows
 
--- W of a column whose subtree takes these steps: their peak, done alone
+-- W of a column whose subtree takes these steps: the peak of the steps, done alone
 unfoldable pub alone : (ℕ → ℕ) → (ℕ → List ℕ) → List ℕ → ℕ
 alone size kids steps = peakOf size (λ j. length (kids j)) steps
 
 module _ (mark : ℕ) (size : ℕ → ℕ) (kids : ℕ → List ℕ) where
-  -- the children of j in the mark's order, ties by the lower number; `steps c` are the steps of c's subtree
+  -- the children of j in the mark's order, of equal keys the lower number first; `steps c` are the steps of c's subtree
   unfoldable pub arranged : (ℕ → List ℕ) → ℕ → List ℕ
   arranged steps j = sort (λ c. siblingKey mark (size j) (size c) (alone size kids (steps c))) (kids j)
 
-  -- the steps of j's subtree, at most f columns deep: its children's subtrees, then j
+  -- the steps of j's subtree, at most f columns deep: the subtrees of its children, then j
   unfoldable pub stepsOf : ℕ → ℕ → List ℕ
   stepsOf zero j = []
   stepsOf (suc f) j = flatMap (stepsOf f) (arranged (stepsOf f) j) ++ (j ∷ [])
 
 -- ---- of a pattern of n columns
 
--- the children of j; of 0, the roots
+-- the children of j; the children of 0 are the roots
 abbrev pub childrenOf : ℕ → Pattern → ℕ → List ℕ
 childrenOf n A = children (parent A) n
 
--- pops: the number of children
+-- pops of the step of j: its number of children
 abbrev pub popsOf : ℕ → Pattern → ℕ → ℕ
 popsOf n A j = length (childrenOf n A j)
 
--- W(j): the peak of the steps of j's subtree, begun with nothing held
+-- W(j): the peak of the steps of j's subtree when nothing is held before them
 unfoldable pub W : ℕ → ℕ → Pattern → ℕ → ℕ
 W mark n A j = alone (rowCount A) (childrenOf n A) (stepsOf mark (rowCount A) (childrenOf n A) n j)
 
--- the order: the subtrees of the roots, ascending. A parent is above its children, so n columns are deep enough.
+-- the order of a mark: the subtrees of the roots, by ascending number. A parent is above its children, so no subtree is more than n columns
+-- deep.
 unfoldable pub orderOf : ℕ → ℕ → Pattern → List ℕ
 orderOf mark n A = flatMap (stepsOf mark (rowCount A) (childrenOf n A) n) (childrenOf n A 0)
 
@@ -72,6 +73,6 @@ orderOf mark n A = flatMap (stepsOf mark (rowCount A) (childrenOf n A) n) (child
 unfoldable pub roomsOf : ℕ → Pattern → List ℕ → List ℕ
 roomsOf n A order = rooms (rowCount A) (popsOf n A) [] order
 
--- its peak
+-- the peak of an order
 unfoldable pub peak : ℕ → Pattern → List ℕ → ℕ
 peak n A order = peakOf (rowCount A) (popsOf n A) order

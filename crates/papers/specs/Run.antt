@@ -1,4 +1,4 @@
--- The whole outcome of a run of steps on a stack of updates.
+-- Defines the whole outcome of a run of steps on a stack of updates.
 -- Assumes nothing.
 use Prim.Native.Nat.{ℕ, zero, suc, _-_, max}
 use mathlib.Core.Bool.{Bool, true, false, _&&_, _||_}
@@ -12,7 +12,7 @@ use Rattle.papers.specs.Room.{roomAt}
 use Rattle.papers.specs.Order.{columnAt}
 use Rattle.papers.specs.Refusals.{answer, untouched, zeroed, Verdict, refusedIf, refusedAt, Outcome, outcome, columnsTest, startsTest, rowsTest}
 
--- n, factor starts and rows, columns, pops, a room, a stack slice
+-- the input of a run: n, factor starts and rows, columns, pops, a room, and the stack slice lent
 pub record RunCall : Type 0 where
   pub n : ℕ
   pub starts : List ℕ
@@ -22,7 +22,7 @@ pub record RunCall : Type 0 where
   pub room : ℕ
   pub stack : List ℕ
 
--- the columns whose updates are held, the top one first; the most room that a step so far has used
+-- the state of a run: the columns whose updates are held, the top one first, and the greatest room in use so far
 pub record State : Type 0 where
   pub held : List ℕ
   pub greatest : ℕ
@@ -48,16 +48,16 @@ module _ (call : RunCall) where
   unfoldable pub entries : List ℕ → List ℕ
   entries held = map (λ c. t (length (rowsIn c))) held
 
-  -- room in use at step s
+  -- the room in use at step s
   unfoldable pub roomIn : ℕ → State → ℕ
   roomIn s state = roomAt (popsAt s) (length (rowsIn (stepColumn s))) (entries (state .held))
 
-  -- every row of every popped update stands in the front of c
+  -- tests whether every row of every popped update is in the front of c
   unfoldable pub fits : ℕ → List ℕ → Bool
   fits c popped = every (λ u. every (λ i. member i (frontIn c)) (rowsIn u)) popped
 
-  -- the fault of step s, the first that applies: 14 there is no such column; 21 fewer updates are held than it pops; 22 a row of one of these has
-  -- no place in its front; 23 it needs more room than there is; else 0
+  -- the first fault of step s, in this order: 14 there is no such column; 21 fewer updates are held than it pops; 22 the front has no place
+  -- for a row of one of these; 23 it needs more room than is given; else 0
   unfoldable pub stepFault : ℕ → State → ℕ
   stepFault s state =
       let c = stepColumn s in
@@ -72,45 +72,45 @@ module _ (call : RunCall) where
         ]
       ]
 
-  -- the update of c on top; a root, of no rows, leaves nothing
+  -- what is held when c's update goes on top; a root has no rows and leaves nothing
   unfoldable pub pushed : ℕ → List ℕ → List ℕ
   pushed c held = elim (rowsIn c) [ [] ↦ held | r ∷ rs ↦ c ∷ held ]
 
-  -- what step s makes of the state
+  -- the state after step s
   unfoldable pub stepped : ℕ → State → State
   stepped s state =
       record { held = pushed (stepColumn s) (drop (popsAt s) (state .held)); greatest = max (state .greatest) (roomIn s state) }
 
-  -- after the first s steps
+  -- the state after the first s steps
   unfoldable pub stateAfter : ℕ → State
   stateAfter zero = record { held = []; greatest = 0 }
   stateAfter (suc s) = stepped (suc s) (stateAfter s)
 
-  -- the columns whose updates step s finds held
+  -- the columns whose updates are held before step s
   abbrev pub heldAt : ℕ → List ℕ
   heldAt s = stateAfter (s - 1) .held
 
-  -- the fault of step s, the steps before it done
+  -- the fault of step s, after the steps before it
   unfoldable pub faultAt : ℕ → ℕ
   faultAt s = stepFault s (stateAfter (s - 1))
 
--- 7: columns, pops or stack slice shorter than n
+-- 7: there are fewer than n columns or pops, or the stack slice is shorter than n
 unfoldable pub runLengthsTest : RunCall → Verdict
 runLengthsTest call =
     let n = call .n in
     refusedIf (ltb (length (call .columns)) n || ltb (length (call .pops)) n || ltb (length (call .stack)) n) (answer 7 0 0) untouched
 
--- 14, 21, 22, 23 of the first step at fault; the count is of the steps fully done
+-- 14, 21, 22, 23: the first step at fault decides; the count is the greatest room in use of the completed steps
 unfoldable pub stepsTest : RunCall → Verdict
 stepsTest call =
     let s = least (λ s. ltb 0 (faultAt call s)) (call .n) in
     refusedAt (faultAt call s) s (stateAfter call (s - 1) .greatest) zeroed
 
--- 24: updates left
+-- 24: updates are left after the last step
 unfoldable pub leftTest : RunCall → Verdict
 leftTest call = let state = stateAfter call (call .n) in refusedIf (ltb 0 (length (state .held))) (answer 24 (call .n) (state .greatest)) zeroed
 
--- 1, 4, 5, 6, 7, then the steps, then 24
+-- the tests of a run: 1, 4, 5 and 6, 7, then the steps, then 24
 unfoldable pub runTests : List (RunCall → Verdict)
 runTests =
     (λ call. columnsTest (call .n))
@@ -121,7 +121,7 @@ runTests =
     ∷ leftTest
     ∷ []
 
--- done: the count is the greatest room in use, and the stack is cleared
+-- a run is done: the count is the greatest room in use, and the stack slice is zero
 unfoldable pub runDone : RunCall → Outcome (List ℕ)
 runDone call = record { answer = answer 0 0 (stateAfter call (call .n) .greatest); lent = zeros (call .stack) }
 

@@ -1,4 +1,4 @@
--- What a sound plan is, and how the lists of an analysis or a check are handed on to a run.
+-- Defines what a sound plan is, and how the lists of an analysis or a check are handed on to a run.
 -- Assumes nothing.
 use Prim.Native.Nat.{ℕ, suc, _+_, _≤_}
 use mathlib.Core.Path.{_≡_}
@@ -14,8 +14,8 @@ use Rattle.papers.specs.Refusals.{Lent}
 use Rattle.papers.specs.Run.{RunCall}
 use Rattle.papers.specs.declared.Answer.{Answer}
 
--- a sound plan of a job: an order of its columns with whole subtrees, their tops last; each step's pops its column's number of children; each
--- column's list its R; the peak that of the order, and within the limit
+-- A sound plan of a job: its columns are in an order with whole subtrees, tops last; each step pops its column's number of children; each
+-- list is R(j); the peak is that of the order, and within the limit.
 pub record Sound (job : Job) (plan : Plan) : Type 0 where
   pub ordered : Ordered (parent (pattern job)) (job .n) (columnsIn (plan .steps))
   pub pops : popsIn (plan .steps) ≡ map (popsOf (job .n) (pattern job)) (columnsIn (plan .steps))
@@ -23,11 +23,11 @@ pub record Sound (job : Job) (plan : Plan) : Type 0 where
   pub greatest : plan .peak ≡ peak (job .n) (pattern job) (columnsIn (plan .steps))
   pub within : plan .peak ≤ job .limit
 
--- how a written key or plan is handed on: as many bytes as the answer counts
+-- the part of a slice that holds a written key or plan: as many bytes as the answer counts
 abbrev pub writtenPart : Answer → List ℕ → List ℕ
 writtenPart a bytes = take (a .count) bytes
 
--- a run of the parts that hold the result of an analysis or a check, without the zeros after it
+-- the run of an analysis's or check's result: each list is the part that holds the result, without the zeros behind it
 unfoldable pub handedOn : ℕ → Lent → ℕ → List ℕ → RunCall
 handedOn n lent room stack =
     let starts = take (n + 1) (lent .factorStarts) in

@@ -1,4 +1,4 @@
--- The tree of parents: parent, front and update of a column, its children and its subtree.
+-- Defines the tree of parents: parent, front and update of a column, its children and its subtree.
 -- Assumes nothing.
 use Prim.Native.Nat.{ℕ, zero, suc, _+_, _*_, _/_, _<_}
 use mathlib.Core.Bool.{Bool, true, false}
@@ -9,11 +9,11 @@ use Rattle.papers.specs.Lists.{head0, keep, upTo}
 use Rattle.papers.specs.Job.{Pattern}
 use Rattle.papers.specs.Fill.{R}
 
--- the parent of j is the least of its rows; a root has no row, and 0 for its parent
+-- the parent of j is the smallest of its rows; a column without rows is a root, and its parent is 0
 unfoldable pub parent : Pattern → ℕ → ℕ
 parent A j = head0 (R A j)
 
--- a column's front: its own number before its rows
+-- the front of j: the column's own number before its rows
 abbrev pub front : Pattern → ℕ → List ℕ
 front A j = j ∷ R A j
 
@@ -21,28 +21,28 @@ front A j = j ∷ R A j
 abbrev pub update : Pattern → ℕ → List ℕ
 update A j = R A j
 
--- the rows of R(j)
+-- the number of rows of R(j)
 abbrev pub rowCount : Pattern → ℕ → ℕ
 rowCount A j = length (R A j)
 
--- the entries of r rows, a lower triangle
+-- t(r): the entries of a lower triangle of r rows
 unfoldable pub t : ℕ → ℕ
 t r = r * (r + 1) / 2
 
--- the children of j among the columns 1 to n, ascending; of 0, the roots
+-- the children of j among the columns 1 to n, ascending; the children of 0 are the roots
 unfoldable pub children : (ℕ → ℕ) → ℕ → ℕ → List ℕ
 children par n j = keep (λ c. eqb (par c) j) (upTo n)
 
--- k stands in the subtree whose top is j: it is j, or its parent stands there
+-- k is in the subtree whose top is j: k is j, or the parent of k is in it
 pub data Under (par : ℕ → ℕ) (j : ℕ) : ℕ → Type 0 where
   top : Under par j j
   up : {k : ℕ} → 0 < par k → Under par j (par k) → Under par j k
 
--- the same by a test that climbs at most f parents
+-- tests whether k is in the subtree of j, climbing at most f parents
 unfoldable pub isUnder : (ℕ → ℕ) → ℕ → ℕ → ℕ → Bool
 isUnder par zero j k = eqb k j
 isUnder par (suc f) j k = elim (eqb k j) [ true ↦ true | false ↦ elim (eqb (par k) 0) [ true ↦ false | false ↦ isUnder par f j (par k) ] ]
 
--- the columns of 1 to n in the subtree of j
+-- the columns of 1 to n that are in the subtree of j
 unfoldable pub subtreeOf : (ℕ → ℕ) → ℕ → ℕ → List ℕ
 subtreeOf par n j = keep (isUnder par n j) (upTo n)

@@ -1,5 +1,5 @@
--- The pieces of the paper's bench that are to be proved, and its other worked examples: ONE claim over a list, by computation, each piece
--- through the definition of the entry point that it speaks of.
+-- Proves the pieces of the rules' bench, and their other worked examples, as ONE claim over a list. Each piece is computed through the
+-- definition of the entry point that it concerns.
 -- Assumes nothing.
 use Prim.Native.Nat.{ℕ, _+_}
 use mathlib.Core.Path.{_≡_, refl}
@@ -44,13 +44,13 @@ lentFor n =
     }
 
 pub data Piece : Type 0 where
-  -- a number's bytes
+  -- a number has these bytes
   number : ℕ → List ℕ → Piece
   -- an analysis answers this
   analysis : Job → Answer → Piece
   -- an analysis gives this order
   order : Job → List ℕ → Piece
-  -- an analysis gives R of a column, which starts at a place of the factor rows
+  -- an analysis gives this R(j) for a column whose list begins at this place of the factor rows
   fill : Job → ℕ → ℕ → List ℕ → Piece
   -- a written plan has these bytes
   plan : Job → List ℕ → Piece

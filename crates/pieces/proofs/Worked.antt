@@ -1,4 +1,4 @@
--- The jobs of the worked pieces, plan bytes of one of them, and the paper's example of a job text.
+-- Defines the jobs of the worked pieces, the plan bytes of one of them, and the rules' example of a job text.
 -- Assumes nothing.
 use Prim.Native.Nat.{ℕ}
 use mathlib.Core.List.{List, [], _∷_}
@@ -48,7 +48,7 @@ unfolding jobOf
 nine mark =
     jobOf 9 mark 20 ((2 ∷ 8 ∷ 9 ∷ []) ∷ [] ∷ (4 ∷ 7 ∷ []) ∷ (8 ∷ 9 ∷ []) ∷ (6 ∷ 8 ∷ []) ∷ (7 ∷ []) ∷ (9 ∷ []) ∷ [] ∷ [] ∷ [])
 
--- the paper's example of a job text, and what the program prints for it
+-- the rules' example of a job text, and what the program prints for it
 unfoldable pub nineText : List ℕ
 nineText =
     57 ∷ 32 ∷ 50 ∷ 48 ∷ 10 ∷

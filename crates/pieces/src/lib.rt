@@ -1,1 +1,1 @@
-// The paper's worked pieces, computed from the definitions: one claim over a list of them. No code.
+// The rules' worked pieces, computed from the definitions: one claim over a list of them. No code.

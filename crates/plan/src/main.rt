@@ -2,7 +2,7 @@
 use libc::STDIN_FILENO;
 use libc::STDOUT_FILENO;
 
-// Reads as much as the buffer for input holds, and looks whether a byte follows.
+// Reads as much as the input buffer holds, and looks whether a byte follows.
 fn main() {
     let mut input = [0u8; program_sizes::INPUT_BYTES];
     let mut behind = [0u8; 1];
@@ -10,7 +10,7 @@ fn main() {
     let more = io::read_full(STDIN_FILENO, &mut behind);
     let mut output = [0u8; program_sizes::LISTING_BYTES];
     let answer = listing::listing(&input[..read], more != 0, &mut output);
-    // The contract has the count within the output; main is not told so, and asks.
+    // By its contract the count is within the output, but main cannot see the contract, so it asks.
     let printed = answer.count as usize;
     if printed <= output.len() {
         io::write_all(STDOUT_FILENO, &output[..printed]);

@@ -1,4 +1,4 @@
-// The plan of a job written into a lent slice: its entry point.
+// The entry point of writing a plan into a lent slice.
 use papers::Answer;
 use papers::JobHead;
 ghost use Rattle.papers.specs.Job.{jobOf};
@@ -9,8 +9,8 @@ ghost use Rattle.lent.specs.Six.{six};
 ghost use Rattle.plan_bytes.specs.InFront.{InFront};
 ghost use Rattle.plan_bytes.specs.Beside.{storedBeside};
 
-// The plan of a job that lies in front of the slices of its analysis, stored beside them; 10 with the bytes needed where it does not
-// fit, and all slices zero.
+// Stores the plan bytes of a job beside the slices of its analysis, which hold the plan. If the bytes do not fit, answers 10 with the bytes
+// needed, and clears all slices.
 fn store_beside(
     head: JobHead,
     starts: &[u64],
@@ -60,8 +60,8 @@ fn store_beside(
     stored
 }
 
-// The analysis of a job, and its plan in a lent slice: 1 to 9 as the analysis has them, then 10 with the bytes needed. Done, the slices
-// hold the analysis and the plan, then zeros, and the count is the plan's bytes.
+// Analyses a job and writes its plan. Tests 1 to 9 as the analysis does, then 10, which counts the bytes needed. When done, the slices hold
+// the analysis and the plan, then zeros, and the count is the plan's bytes.
 pub fn write_plan(
     head: JobHead,
     starts: &[u64],

@@ -1,4 +1,4 @@
--- An analysis that answers 0 has passed its tests, counts the peak, and has the plan of the job in its slices.
+-- Proves that an analysis that answers 0 has passed its tests, counts the peak, and leaves the plan of the job in its slices.
 -- Assumes nothing.
 use Prim.Native.Nat.{_≤_}
 use mathlib.Core.Path.{_≡_, refl, ap, _∙_}
@@ -25,7 +25,7 @@ use Rattle.plan_laws.specs.Passing.{Long}
 use Rattle.plan_laws.proofs.Slices.{long-iff}
 use Rattle.plan_laws.proofs.Sounds.{sound-fits, planned-sound}
 
--- ---- two outcomes that are one: their answers, their numbers, what they leave
+-- ---- two outcomes that are equal: their answers, their numbers, what they leave
 
 pub same-answers : {S : Type 0} {a b : Answer} {x y : S} → _≡_ {A = Outcome S} (record { answer = a; lent = x }) (record { answer = b; lent = y })
     → a ≡ b
@@ -68,7 +68,7 @@ module _ (job : Job) (lent : Lent) where
     fit : Fit (job .n) (planOf job)
     fit = sound-fits job valid (planOf job) (planned-sound job valid within)
 
-  -- ---- one that answers 0
+  -- ---- an analysis that answers 0
 
   -- it has passed its tests, counts the peak, and its slices hold the plan
   pub analysis-done : {r : Answer} {after : Lent} → _≡_ {A = Outcome Lent} (record { answer = r; lent = after }) (analysed job lent) → r .number ≡ 0

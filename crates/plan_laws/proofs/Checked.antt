@@ -1,4 +1,5 @@
--- The check is done just where the bytes are those of a sound plan of a valid job and the slices are long enough; then the slices hold that plan.
+-- Proves that the check is done exactly when the bytes are those of a sound plan of a valid job and the slices are long enough; then the
+-- slices hold that plan.
 -- Assumes nothing.
 use Prim.Native.Nat.{ℕ, _<_}
 use mathlib.Core.Path.{_≡_, ap}
@@ -20,13 +21,14 @@ module _ (job : Job) (bytes : List ℕ) (lent : Lent) where
   abbrev call : CheckCall
   call = record { job = job; plan = bytes; lent = lent }
 
-  -- bytes that pass: place 0 and count the plan's peak, and the slices hold its lists, order and pops, the parents, then zeros
+  -- if the bytes pass, the place is 0, the count is the plan's peak, and the slices hold the parents and its order, pops and lists, then
+  -- zeros
   pub check-holds : (plan : Plan) → Passing job plan bytes lent
       → checked job bytes lent ≡ record { answer = answer 0 0 (plan .peak); lent = holdingPlan job plan lent }
   unfolding checked outcome checkDone
   check-holds plan p = rw (passing-passes call plan p, outcome, passing-read call plan p, checkDone)
 
-  -- the check is done just where they pass
+  -- the check is done exactly when the bytes pass
   pub check-passes-iff : ((i : ℕ) → getD bytes i 0 < 256)
       → (checked job bytes lent .answer .number ≡ 0) ↔ ((plan : Plan) × Passing job plan bytes lent)
   check-passes-iff are-bytes = (

@@ -1,5 +1,5 @@
--- All tests of the check pass just where the bytes are those of a sound plan of a valid job and the slices are long enough: 11 to 15 make the bytes
--- those of a plan, 16 to 20 and 9 make it sound.
+-- Proves that all tests of the check pass exactly when the bytes are those of a sound plan of a valid job and the slices are long enough:
+-- 11 to 15 make the bytes those of a plan, 16 to 20 and 9 make it sound.
 -- Assumes nothing.
 use Prim.Native.Nat.{ℕ, _*_, _^_, _<_}
 use mathlib.Core.Path.{_≡_, refl, sym, ap, _∙_}
@@ -30,7 +30,7 @@ use Rattle.plan_laws.proofs.Sounds.{sound-fits}
 use Rattle.plan_laws.proofs.PlanSound.{sound-iff}
 
 module _ (call : CheckCall) where
-  -- 12 to 15 pass just where a plan is read
+  -- 12 to 15 pass exactly when a plan is read
   read-iff : (readTest call ≡ passed) ↔ ((plan : Plan) × (at : ℕ) × (planRead call ≡ got plan at))
   unfolding readTest
   read-iff = (λ p. there p (planRead call) refl, λ (plan, at, e). rw (e, readTest))
@@ -39,7 +39,7 @@ module _ (call : CheckCall) where
       there p (got plan at) e = (plan, at, e)
       there p (bad number place) e = absurd (refused-passed (read-bad call e) p)
 
-  -- 7 and 8 pass just where the slices are long enough
+  -- 7 and 8 pass exactly when the slices are long enough
   slices-iff : (rows : ℕ) → ((lengthsTest (call .job .n) (call .lent) ≡ passed) × (factorRowsTest rows (call .lent) ≡ passed)) ↔ Long (call .job .n)
       rows (call .lent)
   slices-iff rows =
@@ -51,7 +51,7 @@ module _ (call : CheckCall) where
   fits : first jobTests (call .job) ≡ passed → call .job .n < 2 ^ (7 * maxGroups)
   fits valid = let h = passes-iff (call .job) .0 valid .few in omega arith
 
-  -- bytes that are a plan's are read as that plan
+  -- the bytes of a plan are read as that plan
   whole-read : (plan : Plan) → call .job .n < 2 ^ (7 * maxGroups) → Fit (call .job .n) plan → call .plan ≡ planBytes (call .job) plan
       → (keyTest call ≡ passed) × (planRead call ≡ got plan (length (call .plan)))
   unfolding planRead planBytes
@@ -62,7 +62,7 @@ module _ (call : CheckCall) where
         plan-back (call .job .n) n-fits (call .plan) plan (length key) fit (spans-end (call .plan) key own whole),
       )
 
-  -- what passes is such a plan
+  -- if all tests pass, the bytes are those of such a plan
   pub passes-passing : ((i : ℕ) → getD (call .plan) i 0 < 256) → first checkTests call ≡ passed
       → (plan : Plan) × Passing (call .job) plan (call .plan) (call .lent)
   unfolding checkTests jobTests
@@ -91,11 +91,11 @@ module _ (call : CheckCall) where
         },
       )
 
-  -- such a plan is read
+  -- the bytes of such a plan are read as it
   pub passing-read : (plan : Plan) → Passing (call .job) plan (call .plan) (call .lent) → planRead call ≡ got plan (length (call .plan))
   passing-read plan q = whole-read plan (fits (q .valid)) (sound-fits (call .job) (q .valid) plan (q .sound)) (q .whole) .1
 
-  -- and it passes
+  -- the bytes of such a plan pass
   pub passing-passes : (plan : Plan) → Passing (call .job) plan (call .plan) (call .lent) → first checkTests call ≡ passed
   unfolding checkTests jobTests
   passing-passes plan q =

@@ -1,5 +1,5 @@
--- Tests 16 to 20 and 9 on a plan that was read: it passes them just where it is sound. 16 makes its steps the columns 1 to n, each once; 17 its lists
--- R; 18 each subtree one piece; 19 its pops the numbers of children; 20 and 9 are of the peak.
+-- Proves that a plan that was read passes 16 to 20 and 9 exactly when it is sound. By 16 its steps are the columns 1 to n, each once; by 17
+-- its lists are R(j); by 18 each subtree is in one piece; by 19 its pops are the numbers of children; 20 and 9 concern the peak.
 -- Assumes nothing.
 use Prim.Native.Nat.{ℕ, suc, _-_, _≤_}
 use mathlib.Core.Path.{_≡_, refl, sym, ap, _∙_}
@@ -42,7 +42,7 @@ PlanPasses job plan =
     (repeatTest job plan ≡ passed) × (listTest job plan ≡ passed) × (subtreeTest job plan ≡ passed) × (popsTest job plan ≡ passed) ×
     (declaredTest job plan ≡ passed) × (peakTest (job .limit) (truePeak job plan) ≡ passed)
 
--- a test that refuses at the least place passes just where no place is at fault
+-- a test that refuses at the least place passes exactly when no place is at fault
 at-iff : (f : ℕ → Bool) (n number : ℕ) → (refusedAt number (least f n) 0 zeroed ≡ passed) ↔ ((k : ℕ) → 1 ≤ k → k ≤ n → f k ≡ false)
 unfolding refusedAt
 at-iff f n number = (
@@ -50,7 +50,7 @@ at-iff f n number = (
   λ h. rw (least-zero-iff f n .1 h),
 )
 
--- two lists of n are one where they agree at each of the places 1 to n
+-- two lists of length n are equal if they agree at each of the places 1 to n
 one-list : {B : Type 0} (d : B) (n : ℕ) (xs ys : List B) → length xs ≡ n → length ys ≡ n
     → ((k : ℕ) → 1 ≤ k → k ≤ n → getD xs (k - 1) d ≡ getD ys (k - 1) d) → xs ≡ ys
 one-list d n xs ys a b h =
@@ -63,11 +63,11 @@ module _ (job : Job) (plan : Plan) (fit : Fit (job .n) plan) where
   abbrev pops : ℕ → ℕ
   pops = popsOf (job .n) (pattern job)
 
-  -- its steps are n, of columns 1 to n
+  -- the plan that was read has n steps, of columns 1 to n
   read : Steps (job .n) (job .n) (columnsIn (plan .steps))
   read = (length-map (plan .steps) (λ x. x .0) ∙ fit .all-steps, columns-within (job .n) (plan .steps) (fit .steps))
 
-  -- 16
+  -- 16 passes exactly when no column is done twice
   pub repeat-iff : (repeatTest job plan ≡ passed) ↔ Distinct (columnsIn (plan .steps))
   repeat-iff = (
     once job plan read,
@@ -75,7 +75,7 @@ module _ (job : Job) (plan : Plan) (fit : Fit (job .n) plan) where
         (arith, one-step order d k s (l .0) (omega (arith, read .0)) (i .0) (omega (arith, read .0)) e)),
   )
 
-  -- 17
+  -- 17 passes exactly when each list is R(j)
   pub list-iff : (listTest job plan ≡ passed) ↔ (plan .lists ≡ listsOf (job .n) (R (pattern job)))
   unfolding listTest
   list-iff =
@@ -88,7 +88,7 @@ module _ (job : Job) (plan : Plan) (fit : Fit (job .n) plan) where
       here : (k : ℕ) → 1 ≤ k → k ≤ job .n → getD (listsOf (job .n) (R (pattern job))) (k - 1) [] ≡ R (pattern job) k
       here k l u = lists-at (R (pattern job)) (job .n) (k - 1) (omega arith) ∙ ap (R (pattern job)) (omega arith)
 
-  -- 19
+  -- 19 passes exactly when each step pops its column's number of children
   pub pops-iff : (popsTest job plan ≡ passed) ↔ (popsIn (plan .steps) ≡ map (popsOf (job .n) (pattern job)) (columnsIn (plan .steps)))
   unfolding popsTest columnAt
   pops-iff =
@@ -102,14 +102,14 @@ module _ (job : Job) (plan : Plan) (fit : Fit (job .n) plan) where
       here : (k : ℕ) → 1 ≤ k → k ≤ job .n → getD (map pops order) (k - 1) 0 ≡ pops (getD order (k - 1) 0)
       here k l u = map-at pops order (k - 1) 0 0 (omega (arith, read .0))
 
-  -- 20
+  -- 20 passes exactly when the declared peak is the peak
   declared-iff : (declaredTest job plan ≡ passed) ↔ (plan .peak ≡ peak (job .n) (pattern job) (columnsIn (plan .steps)))
   unfolding declaredTest truePeak
   declared-iff =
       let i = passed-if-iff (not (eqb (plan .peak) (truePeak job plan))) _ _ in
       (λ e. eqb-true _ _ (not-false _ (i .0 e)), λ e. i .1 (rw (eq-eqb (plan .peak) (truePeak job plan) e)))
 
-  -- 9
+  -- 9 passes exactly when the peak is within the limit
   within-iff : (peakTest (job .limit) (truePeak job plan) ≡ passed) ↔ (truePeak job plan ≤ job .limit)
   unfolding peakTest
   within-iff =
@@ -117,7 +117,7 @@ module _ (job : Job) (plan : Plan) (fit : Fit (job .n) plan) where
       (λ e. ltb-false (job .limit) (truePeak job plan) (i .0 e), λ h. i .1 (le-ltb (job .limit) (truePeak job plan) h))
 
   module _ (below : Below (job .n) (pattern job)) where
-    -- 18, of steps that do all columns, each once
+    -- 18 passes exactly when each subtree is in one piece, if the steps do each column once
     pub subtree-iff : ((j : ℕ) → (j ∈ columnsIn (plan .steps)) ↔ ((1 ≤ j) × (j ≤ job .n))) → Distinct (columnsIn (plan .steps))
         → (subtreeTest job plan ≡ passed) ↔ ((s : ℕ) → 1 ≤ s → s ≤ length (columnsIn (plan .steps))
         → Together (parent (pattern job)) (columnsIn (plan .steps)) s)
@@ -129,7 +129,7 @@ module _ (job : Job) (plan : Plan) (fit : Fit (job .n) plan) where
           λ h. i .1 (λ s l u. t s l (omega (arith, read .0)) .1 (h s l (omega (arith, read .0)))),
         )
 
-    -- a plan that was read passes 16 to 20 and 9 just where it is sound
+    -- a plan that was read passes 16 to 20 and 9 exactly when it is sound
     pub sound-iff : PlanPasses job plan ↔ Sound job plan
     unfolding truePeak
     sound-iff = (from, into)

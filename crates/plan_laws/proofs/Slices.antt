@@ -1,4 +1,4 @@
--- Slices are long enough just where neither 7 nor 8 is given.
+-- Proves that slices are long enough exactly when neither 7 nor 8 is answered.
 -- Assumes nothing.
 use Prim.Native.Nat.{ℕ, _<_, _≤_}
 use mathlib.Core.Path.{refl}

@@ -1,4 +1,5 @@
--- The numbers of a sound plan lie in their ranges, so its bytes can be read; and the plan of a job whose peak is within the limit is sound.
+-- Proves that the numbers of a sound plan are in their ranges, so its bytes can be read; and that the plan of a job whose peak is within
+-- the limit is sound.
 -- Assumes nothing.
 use Prim.Native.Nat.{ℕ, _-_, _≤_}
 use mathlib.Core.Path.{_≡_, refl, sym, _∙_}
@@ -25,7 +26,7 @@ use Rattle.order_laws.proofs.Patterns.{tree-of, order-ordered}
 use Rattle.order_laws.proofs.RoomBounds.{ordered-peak-fits}
 use Rattle.plan_laws.proofs.Steps.{columns-made, pops-made, steps-fit}
 
--- a column's children are lower columns: n - 1 at most
+-- a column has at most n - 1 children, since they are lower columns
 pops-fit : {n : ℕ} {A : Pattern} → Below n A → (j : ℕ) → 1 ≤ j → j ≤ n → popsOf n A j ≤ n - 1
 pops-fit {n} {A} below j l u =
     omega (
@@ -39,7 +40,7 @@ module _ (job : Job) (valid : first jobTests job ≡ passed) where
   below : Below (job .n) (pattern job)
   below = passed-below job (passes-iff job .0 valid)
 
-  -- every number of a sound plan lies in its range
+  -- every number of a sound plan is in its range
   pub sound-fits : (plan : Plan) → Sound job plan → Fit (job .n) plan
   sound-fits plan s = record {
     all-steps = sym (length-map (plan .steps) (λ x. x .0)) ∙ ordered-length (columnsIn (plan .steps)) (s .ordered);

@@ -1,4 +1,4 @@
--- The steps of a plan, taken apart into their columns and their pops, and put together again.
+-- Proves that the steps of a plan can be taken apart into their columns and their pops, and put together again.
 -- Assumes nothing.
 use Prim.Native.Nat.{ℕ, zero, suc, _-_, _<_, _≤_}
 use mathlib.Core.Path.{_≡_, refl, ap}
@@ -10,13 +10,13 @@ use Rattle.papers.specs.Lists.{_∈_}
 use Rattle.papers.specs.Plan.{columnsIn, popsIn}
 use Rattle.bytes_laws.proofs.Plans.{StepsFit}
 
--- what stands at a place of a list of images
+-- the number at a place of a mapped list
 pub map-at : {B C : Type 0} (f : B → C) (l : List B) (k : ℕ) (b : B) (c : C) → k < length l → getD (map f l) k c ≡ f (getD l k b)
 map-at f [] k b c h = absurd (omega arith)
 map-at f (x ∷ l) zero b c h = refl
 map-at f (x ∷ l) (suc k) b c h = map-at f l k b c (omega arith)
 
--- steps made of columns, each with its pops
+-- the columns of steps that were made of columns with their pops
 pub columns-made : (pops : ℕ → ℕ) (order : List ℕ) → columnsIn (map (λ j. (j, pops j)) order) ≡ order
 columns-made pops [] = refl
 columns-made pops (j ∷ js) = ap (λ l. j ∷ l) (columns-made pops js)
@@ -25,7 +25,7 @@ pub pops-made : (pops : ℕ → ℕ) (order : List ℕ) → popsIn (map (λ j. (
 pops-made pops [] = refl
 pops-made pops (j ∷ js) = ap (λ l. pops j ∷ l) (pops-made pops js)
 
--- steps lie in their ranges, if their columns do and their pops are those of the columns
+-- steps are in their ranges if their columns are and their pops are those of the columns
 pub steps-fit : (n : ℕ) (pops : ℕ → ℕ) (steps : List (ℕ × ℕ)) → ((j : ℕ) → j ∈ columnsIn steps → (1 ≤ j) × (j ≤ n) × (pops j ≤ n - 1))
     → popsIn steps ≡ map pops (columnsIn steps)
     → StepsFit n steps
@@ -36,7 +36,7 @@ steps-fit n pops (x ∷ xs) h e =
     let rest : popsIn xs ≡ map pops (columnsIn xs) = cc in
     ((l, u, omega arith), steps-fit n pops xs (λ j m. h j (List·Memᴰ·tail m)) rest)
 
--- the columns of steps that lie in their ranges
+-- the columns of steps in their ranges are from 1 to n
 pub columns-within : (n : ℕ) (steps : List (ℕ × ℕ)) → StepsFit n steps → (j : ℕ) → j ∈ columnsIn steps → (1 ≤ j) × (j ≤ n)
 columns-within n [] f j m = absurd (List·Memᴰ·not-nil m)
 columns-within n (x ∷ xs) f j m = go (List·Memᴰ·cases-cons m) (λ k. columns-within n xs (f .1) j k)

@@ -1,5 +1,5 @@
--- Every plan that the planner writes passes: it is the plan of a valid job, in the order of the job's mark, so it is sound, and its peak is within
--- the limit. So what is written and then checked gives back the same lists.
+-- Proves that every plan the planner writes passes the check of its job: it is the plan of a valid job under the job's mark, so it is
+-- sound, and its peak is within the limit. So writing and then checking gives the same lists.
 -- Assumes nothing.
 use Prim.Native.Nat.{_≤_}
 use mathlib.Core.Path.{_≡_, refl, ap}
@@ -21,7 +21,7 @@ use Rattle.plan_laws.proofs.Slices.{at-least}
 use Rattle.plan_laws.proofs.Sounds.{planned-sound}
 use Rattle.plan_laws.proofs.Checked.{check-holds}
 
--- the plan of a valid job whose peak is within the limit passes, under every mark
+-- the plan of a valid job passes if its peak is within the limit, under every mark
 pub planned-passes : (job : Job) → first jobTests job ≡ passed → planOf job .peak ≤ job .limit → (lent : Lent)
     → Long (job .n) (length (flat (planOf job .lists))) lent
     → Passing job (planOf job) (planBytes job (planOf job)) lent
@@ -45,22 +45,22 @@ module _ (job : Job) (slices : PlanLent) (done : planWritten job slices .answer 
   written-is : planWritten job slices ≡ planDone call
   written-is = write-plan-exactly call .when-done done
 
-  -- the slices hold the plan of the job
+  -- after writing, the slices hold the plan of the job
   pub written-holds : planWritten job slices .lent .analysis ≡ holdingPlan job (planOf job) (slices .analysis)
   unfolding planDone
   written-holds = ap (λ (o : Outcome PlanLent). o .lent .analysis) written-is
 
-  -- the part that holds its bytes
+  -- the part of the byte slice that holds the plan
   part-is : writtenPart (planWritten job slices .answer) (planWritten job slices .lent .bytes) ≡ planBytes job (planOf job)
   unfolding planDone
   part-is = rw written-is (take-then-zeros (planBytes job (planOf job)) (slices .bytes) refl)
 
-  -- a plan that was written passes for its job, given slices long enough
+  -- a written plan passes the check of its job, if the slices are long enough
   pub written-plan-passes : (lent : Lent) → Long (job .n) (length (flat (planOf job .lists))) lent
       → Passing job (planOf job) (writtenPart (planWritten job slices .answer) (planWritten job slices .lent .bytes)) lent
   written-plan-passes lent long = rw part-is (planned-passes job written-valid written-within lent long)
 
-  -- written and then checked for the same job, it gives back the same lists
+  -- after writing and checking, the slices of both calls hold the same lists
   pub write-then-check : (lent : Lent) → Long (job .n) (length (flat (planOf job .lists))) lent → GivesBack job slices lent
   unfolding planDone
   write-then-check lent long =

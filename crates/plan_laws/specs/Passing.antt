@@ -1,4 +1,4 @@
--- What it takes to pass the check, and what is proved of a plan that is written and then checked.
+-- Defines what it takes to pass the check, and what is proved of a plan that is written and then checked.
 -- Assumes nothing.
 use Prim.Native.Nat.{ℕ, _+_, _≤_}
 use mathlib.Core.Path.{_≡_}
@@ -13,7 +13,7 @@ use Rattle.papers.specs.Analysis.{holdingPlan, PlanLent, planWritten}
 use Rattle.papers.specs.Check.{checked}
 use Rattle.papers.specs.Sound.{Sound, writtenPart}
 
--- slices long enough for n columns and so many factor rows
+-- the slices are long enough for n columns and this many factor rows
 pub record Long (n needed : ℕ) (lent : Lent) : Type 0 where
   pub parents : n ≤ length (lent .parents)
   pub order : n ≤ length (lent .order)
@@ -22,14 +22,15 @@ pub record Long (n needed : ℕ) (lent : Lent) : Type 0 where
   pub work : workLength n ≤ length (lent .work)
   pub rows : needed ≤ length (lent .factorRows)
 
--- Plan bytes pass: the job is valid, the bytes are those of a sound plan of it, and the slices are long enough.
+-- plan bytes pass: the job is valid, the bytes are those of a sound plan of it, and the slices are long enough
 pub record Passing (job : Job) (plan : Plan) (bytes : List ℕ) (lent : Lent) : Type 0 where
   pub valid : first jobTests job ≡ passed
   pub whole : bytes ≡ planBytes job plan
   pub sound : Sound job plan
   pub long : Long (job .n) (length (flat (plan .lists))) lent
 
--- A plan that was written and is then checked: both calls hold one plan, the check of the part that holds its bytes in slices of its own.
+-- A plan that was written and is then checked: the slices of both calls hold the same plan. The check takes the part that holds the bytes,
+-- and slices of its own.
 pub record GivesBack (job : Job) (slices : PlanLent) (lent : Lent) : Type 0 where
   pub plan : Plan
   pub written : planWritten job slices ≡ record {

@@ -1,25 +1,24 @@
-// The sizes of the listing program, of which the solver's call has those of its buffers. The definitions have the same in the Bounds of
-// papers.
+// The sizes of the listing program; the solver's call uses those of its buffers. The module Bounds of papers defines the same sizes.
 
-// Bytes of a job text, digits of a decimal, and the sibling mark of a text that gives none.
+// The most bytes of a job text, the most digits of a decimal, and the sibling mark of a text that gives none.
 pub const INPUT_BYTES: usize = 8192;
 
 pub const MAX_DIGITS: usize = 13;
 
 pub const DEFAULT_MARK: u64 = 0;
 
-// Bytes of output, which any listing fits.
+// The bytes of output; any listing fits in them.
 pub const LISTING_BYTES: usize = 24576;
 
-// Columns, and one start more than columns.
+// The most columns, and one more: the starts of that many columns.
 pub const COLUMNS: usize = 256;
 
 pub const STARTS: usize = 257;
 
-// Pattern rows and factor rows.
+// The most pattern rows and factor rows.
 pub const PATTERN_ROWS: usize = 2048;
 
 pub const FACTOR_ROWS: usize = 4096;
 
-// Numbers of work, for as many columns.
+// The numbers of work for that many columns.
 pub const WORK: usize = 2056;

@@ -1,5 +1,5 @@
-// A field read from any bytes: a number of its range, or the refusal's number and place. Nothing of the bytes is believed before its
-// range is tested.
+// Reads a field from any bytes: a number of its range, or the refusal's number and place. Believes nothing of the bytes before testing its
+// range.
 ghost use mathlib.Core.Path.{_≡_};
 ghost use mathlib.Core.Logic.{_≢_};
 ghost use Prim.Native.Nat.{_+_, _^_, _≤_, _<_};
@@ -10,13 +10,13 @@ ghost use Rattle.papers.specs.declared.Number.the-variants.{Value};
 ghost use Rattle.read_fields.specs.Reading.{reading};
 use papers::Number;
 
-// What reading a part of a plan answers: a number of that part and the place behind it; or a refusal's number and place.
+// What reading a part of a plan answers: a value and the place behind it; or a refusal's number and place.
 pub enum Reading {
     Found { value: u64, next: usize },
     Refused { number: u64, place: u64 },
 }
 
-// The value read at `at` up to next, in a field from low to high: 14 where it lies outside.
+// Answers the value that was read from `at` up to next as a field from low to high, or 14 if it is outside.
 fn in_range(at: usize, low: u64, high: u64, value: u64, next: usize) -> Reading
     requires { ⌜ at + 1 < 2 ^ 64 ⌝ }
     ensures { λ r. ⌜ r ≡ reading (inField low high at (Value value next)) ⌝ }
@@ -30,7 +30,7 @@ fn in_range(at: usize, low: u64, high: u64, value: u64, next: usize) -> Reading
     Reading::Found { value, next }
 }
 
-// The number that starts at `at`, if it has two groups; else 0.
+// The number that starts at `at` if it has two groups, else 0.
 pub fn two_groups(plan: &[u8], at: usize) -> u64
     requires { ⌜ at ≤ length (now plan) ⌝ }
     ensures { λ r. ⌜ (r ≢ 0 → Value r (at + 2) ≡ readNumber (now (plan .entry)) at) ⌝ }
@@ -46,7 +46,7 @@ pub fn two_groups(plan: &[u8], at: usize) -> u64
     low - 128 + 128 * next
 }
 
-// A field from low to high whose number starts at `at`, of any length.
+// Reads a field from low to high whose number starts at `at` and has any length.
 pub fn read_long(plan: &[u8], at: usize, low: u64, high: u64) -> Reading
     requires { ⌜ at ≤ length (now plan) ⌝ }
     ensures { λ r. ⌜ r ≡ reading (field low high (now (plan .entry)) at) ⌝ }
@@ -68,7 +68,7 @@ pub fn read_long(plan: &[u8], at: usize, low: u64, high: u64) -> Reading
     }
 }
 
-// The same. Most numbers have one group or two, which are read without the loop.
+// The same. Most numbers have one group or two; these are read without the loop.
 pub fn read_field(plan: &[u8], at: usize, low: u64, high: u64) -> Reading
     requires { ⌜ at ≤ length (now plan) ⌝ }
     ensures { λ r. ⌜ r ≡ reading (field low high (now (plan .entry)) at) ⌝ }

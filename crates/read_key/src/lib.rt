@@ -1,5 +1,5 @@
-// A key read from any bytes: the numbers of its job, how many pattern rows it lists and where its lists stand; or that it is not readable.
-// Nothing of the lists is kept, so a key is judged whatever its size; who has room for them reads them once more from where they stand.
+// Reads a key from any bytes: the numbers of its job, how many pattern rows it lists and where its lists begin; or that it is not readable.
+// Keeps nothing of the lists, so it judges a key of any size. A caller with room for the lists reads them again from where they begin.
 ghost use mathlib.Core.Path.{_≡_};
 ghost use Prim.Native.Nat.{_≤_};
 ghost use lib.ListN.{length};
@@ -11,13 +11,13 @@ ghost use Rattle.read_key.specs.Keys.{readMark, readHead, headReading, K
 use papers::JobHead;
 use read_fields::Reading;
 
-// What the numbers before the lists say, and the place behind them.
+// What the numbers before the lists say, and the place behind them; or that they are at fault.
 pub enum HeadReading {
     Head { head: JobHead, next: usize },
     Faulty,
 }
 
-// What reading a whole key answers: the numbers of its job, how many rows its lists have, and where they stand.
+// What reading a whole key answers: the numbers of its job, how many rows its lists have, and where they begin; or that it is not readable.
 pub enum KeyReading {
     Whole {
         head: JobHead,
@@ -27,7 +27,7 @@ pub enum KeyReading {
     Unreadable,
 }
 
-// Mark and limit from `at` on, of a job of n columns.
+// Reads mark and limit from `at` on, for a job of n columns.
 fn read_mark(key: &[u8], at: usize, n: u64) -> HeadReading
     requires { ⌜ at ≤ length (now key) ⌝ }
     ensures { λ r. ⌜ r ≡ headReading (readMark n (now (key .entry)) at) ⌝ }
@@ -61,7 +61,7 @@ fn read_mark(key: &[u8], at: usize, n: u64) -> HeadReading
     }
 }
 
-// Edition, n, mark and limit.
+// Reads edition, n, mark and limit.
 fn read_head(key: &[u8]) -> HeadReading
     ensures { λ r. ⌜ r ≡ headReading (readHead (now (key .entry))) ⌝ }
 {
@@ -91,8 +91,8 @@ fn read_head(key: &[u8]) -> HeadReading
     }
 }
 
-// The lists of all columns from `at` on, kept nowhere: answers how many rows they have. Those of the columns before j are read, with
-// `total` rows, and the next starts at k.
+// Reads the lists of all columns from `at` on, keeps nothing, and answers how many rows they have. In the loop the lists of the columns
+// before j are read, with `total` rows, and the next starts at k.
 fn count_rows(key: &[u8], at: usize, n: u64) -> Reading
     requires { ⌜ (at ≤ length (now key)) × (n ≤ maxColumns) ⌝ }
     ensures { λ r. ⌜ Told (λ lists. length (flat lists)) (λ lists. Unit {0}) (readLists n 1 n (now (key .entry)) at) r ⌝ }
@@ -119,7 +119,7 @@ fn count_rows(key: &[u8], at: usize, n: u64) -> Reading
     }
 }
 
-// The whole key: its numbers, its lists, and nothing after them.
+// Reads the whole key: its numbers, its lists, and the end.
 pub fn read_key(key: &[u8]) -> KeyReading
     ensures { λ r. ⌜ KeyTold (now (key .entry)) r ⌝ }
 {

@@ -1,4 +1,4 @@
-// The list of a column read from any bytes. A row that finds no room is counted all the same.
+// Reads the list of a column from any bytes. Counts a row even if there is no room for it.
 ghost use mathlib.Core.Path.{_≡_};
 ghost use Prim.Native.Nat.{_+_, _^_, _≤_, _<_};
 ghost use lib.ListN.{length, set};
@@ -18,8 +18,8 @@ fn keep_row(rows: &mut [u32], i: usize, row: u64)
     }
 }
 
-// The rows of column j by their gaps, `count` of them from `at` on: keeps them from place t on while there is room, answers the place
-// behind them, kept or not. The rows before place `total` are read, `row` is the last of them, or j, and `left` are to come, the next
+// Reads `count` rows of column j by their gaps, from `at` on. Keeps them from place t on while there is room, and answers the place behind
+// them, kept or not. In the loop the rows before place `total` are read, `row` is the last of them, or j, and `left` are to come, the next
 // at k.
 fn read_rows(
     plan: &[u8],
@@ -59,7 +59,7 @@ fn read_rows(
     }
 }
 
-// The list of column j, its count and its gaps: keeps and answers as read_rows does.
+// Reads the list of column j, its count and its gaps; keeps and answers as read_rows does.
 pub fn read_list(plan: &[u8], at: usize, n: u64, j: u64, t: usize, rows: &mut [u32]) -> Reading
     requires { ⌜ (at ≤ length (now plan)) × (n ≤ maxColumns) × (j ≤ n) × (t ≤ at) ⌝ }
     ensures { λ r. ⌜

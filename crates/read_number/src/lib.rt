@@ -1,9 +1,10 @@
-// A number read from any bytes, group by group; or what is wrong with it.
+// Reads a number from any bytes, group by group, or finds what is wrong with it.
 ghost use mathlib.Core.Path.{_≡_};
 ghost use Rattle.papers.specs.Numbers.{readNumber};
 use papers::Number;
 
-// The number that starts at `at`. low is what the groups before i come to, w the weight of the next, k how many may still come.
+// Reads the number that starts at `at`. In the loop low is the value of the groups before i, w the weight of the next, and k says how many
+// may still come.
 pub fn read_number(s: &[u8], at: usize) -> Number
     ensures { λ r. ⌜ r ≡ readNumber (now (s .entry)) at ⌝ }
 {

@@ -1,4 +1,4 @@
-// A plan read from any bytes: its steps, its lists and its peak, or the first number at fault.
+// Reads a plan from any bytes: its steps, its lists and its peak, or the first number at fault.
 ghost use mathlib.Core.Path.{_≡_};
 ghost use Prim.Native.Nat.{_+_, _≤_, _<_};
 ghost use lib.ListN.{length};
@@ -15,7 +15,7 @@ pub enum PlanReading {
     Faulty { number: u64, place: u64 },
 }
 
-// Step i, a column from 1 to n and pops from 0 to n - 1: keeps the two, answers the column.
+// Reads step i, a column from 1 to n and pops from 0 to n - 1. Keeps both, and answers the column.
 fn read_step(
     plan: &[u8],
     at: usize,
@@ -58,7 +58,8 @@ fn read_step(
     }
 }
 
-// The n steps from `at` on: keeps their columns and pops, answers how many they are. The first i are kept, and the next starts at k.
+// Reads the n steps from `at` on. Keeps their columns and pops, and answers how many there are. In the loop the first i are kept, and the
+// next starts at k.
 fn read_steps(plan: &[u8], at: usize, n: u64, order: &mut [u32], pops: &mut [u32]) -> Reading
     requires { ⌜ (at ≤ length (now plan)) × (n ≤ maxColumns) × (n ≤ length (now order)) × (n ≤ length (now pops)) ⌝ }
     ensures { λ r. ⌜
@@ -82,8 +83,8 @@ fn read_steps(plan: &[u8], at: usize, n: u64, order: &mut [u32], pops: &mut [u32
     Reading::Found { value: n, next: k }
 }
 
-// The lists of all columns from `at` on: keeps where each starts, and the rows while there is room; answers how many rows there are.
-// The lists of the columns before j are done, with `total` rows, and the next starts at k.
+// Reads the lists of all columns from `at` on. Keeps where each starts, and the rows while there is room; answers how many rows there are.
+// In the loop the lists of the columns before j are done, with `total` rows, and the next starts at k.
 pub fn read_lists(plan: &[u8], at: usize, n: u64, starts: &mut [u64], rows: &mut [u32]) -> Reading
     requires { ⌜ (at ≤ length (now plan)) × (n ≤ maxColumns) × (n + 1 ≤ length (now starts)) ⌝ }
     ensures { λ r. ⌜
@@ -114,7 +115,7 @@ pub fn read_lists(plan: &[u8], at: usize, n: u64, starts: &mut [u64], rows: &mut
     }
 }
 
-// The declared peak that starts at `at`, with nothing after it, of a plan whose lists have `rows` rows.
+// Reads the declared peak that starts at `at`, with nothing after it, for a plan whose lists have `rows` rows.
 fn read_peak(plan: &[u8], at: usize, rows: u64) -> PlanReading
     requires { ⌜ at ≤ length (now plan) ⌝ }
     ensures { λ r. ⌜ r ≡ peakReading rows (readPeak (now (plan .entry)) at) ⌝ }
@@ -135,7 +136,7 @@ fn read_peak(plan: &[u8], at: usize, rows: u64) -> PlanReading
     }
 }
 
-// The plan behind a key that ends at `at`, to the end of the bytes: keeps its steps, where its lists start and, while there is room,
+// Reads the plan behind a key that ends at `at`, to the end of the bytes. Keeps its steps, where its lists start and, while there is room,
 // their rows.
 pub fn read_plan(
     n: u64,

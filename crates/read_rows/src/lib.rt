@@ -1,5 +1,4 @@
-// The rows of a column read in one go, where each gap has one group or two, as nearly all have. Any other list is left to the reader of
-// lists.
+// Reads the rows of a column in one go, if each gap has one group or two, as nearly all have. Leaves any other list to the reader of lists.
 ghost use Prim.Native.Nat.{_-_, _≤_};
 ghost use lib.ListN.{length};
 ghost use Rattle.papers.specs.Bounds.{maxColumns};
@@ -11,7 +10,8 @@ pub struct ShortRows {
     pub last: u64,
 }
 
-// How many gaps of one byte can be read and kept without a look at the ends: those left, the bytes that follow, the room behind place t.
+// How many gaps of one byte can be read and kept without testing for an end: no more than those left, the bytes that follow, and the room
+// behind place t.
 fn most_short(left: usize, bytes: usize, t: usize, room: usize) -> usize
     ensures { λ r. ⌜ (r ≤ left) × (r ≤ bytes) × (r ≤ room - t) ⌝ }
 {
@@ -21,9 +21,9 @@ fn most_short(left: usize, bytes: usize, t: usize, room: usize) -> usize
     basics::lesser(left, basics::lesser(bytes, room - t))
 }
 
-// The rows behind row b whose gaps have one group, up to the first that has none or more, or finds no room: keeps them from place t on.
-// Most rows are read here. The first i of `left` are kept, `last` is the last of them, or b. Rows only rise, so all are in their range
-// where the last is.
+// Reads the rows behind row b whose gaps have one group, up to the first gap that is 0 or longer, or for which there is no room. Keeps them
+// from place t on. Most rows are read here. In the loop the first i of `left` are kept, and `last` is the last of them, or b. Rows only
+// rise, so if the last is in its range, all are.
 fn short_rows(plan: &[u8], at: usize, b: u64, left: u64, t: usize, rows: &mut [u32]) -> ShortRows
     requires { ⌜ (at ≤ length (now plan)) × (b ≤ maxColumns) × (left ≤ maxColumns) ⌝ }
     ensures { λ r. ⌜ ShortRead (now (plan .entry)) b left at t (now (rows .entry)) (now (rows .exit)) (r .count) (r .last) ⌝ }
@@ -43,9 +43,9 @@ fn short_rows(plan: &[u8], at: usize, b: u64, left: u64, t: usize, rows: &mut [u
     ShortRows { count: i, last }
 }
 
-// The rows of column j as read_rows reads and keeps them, where each gap has one group or two and all find room: the place behind them.
-// Else 0, and what is kept so far lies where read_rows will keep its own. The loop calls nothing that is not put in line, so its
-// counters stay in registers.
+// Reads the rows of column j as read_rows does, if each gap has one group or two and there is room for all, and answers the place behind
+// them. Else answers 0; what it has kept is where read_rows will keep its own rows. All calls in the loop are put in line, so its counters
+// stay in registers.
 pub fn quick_rows(
     plan: &[u8],
     at: usize,

@@ -1,5 +1,5 @@
--- Tests that agree with conditions. Each test of a list need agree with its condition only where the tests before it pass; then the first test that
--- refuses gives just the answers of the first condition that gives any.
+-- Proves that the first test that refuses gives exactly the answers of the first condition that gives any, if tests and conditions agree
+-- one by one. A test need agree with its condition only if the tests before it pass.
 -- Assumes nothing.
 use mathlib.Core.Path.{_≡_, refl, sym, ap, _∙_}
 use mathlib.Core.Logic.{_↔_, _⊎_, inl, inr}
@@ -13,7 +13,7 @@ use Rattle.job_laws.proofs.Firsts.{refused-passed, first-passes, first-refuses}
 abbrev pub Refuses : Verdict → Answer → Type 0
 Refuses v a = (l : Leaves) × (v ≡ refused a l)
 
--- it refuses with just the answers of a condition
+-- the verdict refuses with exactly the answers of the condition
 abbrev pub Agree : Verdict → (Answer → Type 0) → Type 0
 Agree v K = (a : Answer) → Refuses v a ↔ K a
 
@@ -22,7 +22,7 @@ pub one-answer : {v : Verdict} {a b : Answer} {l m : Leaves} → v ≡ refused a
 unfolding answerOf
 one-answer p q = ap answerOf (sym p ∙ q)
 
--- a verdict that agrees with a condition passes just where that gives no answer
+-- a verdict that agrees with a condition passes exactly when the condition gives no answer
 pub agree-passed-iff : (v : Verdict) (K : Answer → Type 0) → Agree v K → (v ≡ passed) ↔ ((a : Answer) → ¬ K a)
 agree-passed-iff v K h = (λ p a k. refused-passed (h a .1 k .1) p, go v refl)
   where
@@ -30,11 +30,11 @@ agree-passed-iff v K h = (λ p a k. refused-passed (h a .1 k .1) p, go v refl)
     go passed q f = q
     go (refused a l) q f = absurd (f a (h a .0 (l, q)))
 
--- a condition said otherwise
+-- agreement with a condition is agreement with any equivalent one
 pub agree-same : (v : Verdict) {K L : Answer → Type 0} → Agree v K → ((a : Answer) → K a ↔ L a) → Agree v L
 agree-same v h i a = (λ r. i a .0 (h a .0 r), λ x. h a .1 (i a .1 x))
 
--- a verdict that refuses with each answer of a condition, and passes if there is none
+-- a verdict agrees with a condition if it refuses with each answer of it, and passes if there is none
 pub agree-by : (v : Verdict) (K : Answer → Type 0) → ((a : Answer) → K a → Refuses v a) → (v ≡ passed) ⊎ ((a : Answer) × K a) → Agree v K
 agree-by v K gives d a = (λ r. there r d, gives a)
   where
@@ -42,7 +42,7 @@ agree-by v K gives d a = (λ r. there r d, gives a)
     there r (inl p) = absurd (refused-passed (r .1) p)
     there r (inr h) = rw (one-answer (r .1) (gives (h .0) (h .1) .1)) (h .1)
 
--- test by test, where those before pass
+-- tests agree with conditions one by one, each if those before pass
 abbrev pub AgreeEach : {C : Type 0} → List (C → Verdict) → List (Condition C) → C → Type 0
 AgreeEach [] [] call = Unit {0}
 AgreeEach [] (K ∷ Ks) call = ⊥
@@ -50,7 +50,7 @@ AgreeEach (t ∷ ts) [] call = ⊥
 AgreeEach (t ∷ ts) (K ∷ Ks) call = Agree (t call) (K call) × (t call ≡ passed → AgreeEach ts Ks call)
 
 infixr 5 _▸_
--- one test agrees, and those behind it where it passes
+-- one test agrees, and those behind it do if it passes
 abbrev pub _▸_ : {A B P : Type 0} → A → (P → B) → A × (P → B)
 a ▸ f = (a, f)
 
@@ -79,7 +79,7 @@ module _ {C : Type 0} where
           (λ r. inr (agree-passed-iff (t call) (K call) (h .0) .0 q, ih q .0 (r .0, sym (first-passes t ts call q) ∙ r .1)), next q (ih q))
       go (refused b m) q ih = (λ r. inl (h .0 a .0 (m, rw (one-answer (r .1) (first-refuses t ts call q)) q)), here b m q)
 
-  -- nothing is answered just where no condition gives an answer
+  -- nothing is answered exactly when no condition gives an answer
   pub no-answer-iff : (Ks : List (Condition C)) (call : C) → ((a : Answer) → ¬ Answered Ks call a) ↔ Unrefused Ks call
   no-answer-iff [] call = (λ h. tt, λ h a x. x)
   no-answer-iff (K ∷ Ks) call = go (no-answer-iff Ks call)
@@ -91,7 +91,7 @@ module _ {C : Type 0} where
           back u a (inl k) = u .0 a k
           back u a (inr r) = ih .1 (u .1) a (r .1)
 
-  -- nothing is refused just where no condition gives an answer
+  -- nothing is refused exactly when no condition gives an answer
   pub passed-iff : (ts : List (C → Verdict)) (Ks : List (Condition C)) (call : C) → AgreeEach ts Ks call
       → (first ts call ≡ passed) ↔ Unrefused Ks call
   passed-iff ts Ks call h =
@@ -99,7 +99,7 @@ module _ {C : Type 0} where
       let j = no-answer-iff Ks call in
       (λ p. j .0 (i .0 p), λ u. i .1 (j .1 u))
 
-  -- of two lists of conditions, one behind the other, the second answers only where the first gives nothing
+  -- of two lists of conditions, one behind the other, the second answers only if the first gives nothing
   pub answered-append : (Ks Ls : List (Condition C)) (call : C) (a : Answer)
       → Answered (Ks ++ Ls) call a ↔ (Answered Ks call a ⊎ (Unrefused Ks call × Answered Ls call a))
   answered-append [] Ls call a = (λ r. inr (tt, r), back)

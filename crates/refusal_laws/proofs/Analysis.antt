@@ -1,5 +1,5 @@
--- Writing a key, an analysis and the writing of a plan answer exactly by their conditions: each list of tests is the job's and what follows, and
--- every test of it agrees with its condition.
+-- Proves that writing a key, an analysis, and writing a plan answer exactly by their conditions. Each list of tests is the job's and what
+-- follows, and every test in it agrees with its condition.
 -- Assumes nothing.
 use mathlib.Core.Path.{refl}
 use Rattle.papers.specs.Lists.{zeros}

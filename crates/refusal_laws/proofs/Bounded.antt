@@ -1,5 +1,5 @@
--- The answer of a check is a small number with a place that n and the rows bound, however long the plan: each condition says its number and its
--- place, a column or a step of 1 to n, a byte that the key reaches, or one that the reading behind it can reach.
+-- Proves that the answer of a check is a small number with a place that n and the rows bound, however long the plan is. Each condition
+-- gives its number and its place: a column or a step of 1 to n, a byte of the key, or a byte that reading behind it can reach.
 -- Assumes nothing.
 use Prim.Native.Nat.{ℕ, zero, suc, _+_, _*_, _≤_}
 use mathlib.Core.Path.{_≡_, refl}
@@ -30,14 +30,14 @@ pub record Within (most high : ℕ) (a : Answer) : Type 0 where
   pub number : a .number ≤ most
   pub place : a .place ≤ high
 
--- an answer with a number and a place of those bounds
+-- an answer whose number and place are within these bounds
 pub within : {most high : ℕ} {a : Answer} (number place count : ℕ) → a ≡ answer number place count → number ≤ most → place ≤ high → Within most high a
 within number place count e h g = rw e (record { number = h; place = g })
 
--- ---- what holds of each answer that a condition gives holds of the one that is answered
+-- ---- what holds of each answer that a condition gives holds of the answer of the call
 
 module _ {C : Type 0} (P : Answer → Type 0) where
-  -- condition by condition, where those before give nothing
+  -- condition by condition, if those before give nothing
   abbrev EachGives : List (Condition C) → C → Type 0
   EachGives [] call = Unit {0}
   EachGives (K ∷ Ks) call = ((a : Answer) → K call a → P a) × (((b : Answer) → ¬ K call b) → EachGives Ks call)
@@ -68,7 +68,7 @@ plan-within {n} (thirteen r some e) = let h = reaches-short n r in record { numb
 plan-within {n} (fourteen r some e o) = let h = reaches-short n r in record { number = omega arith; place = omega arith }
 plan-within {n} (fifteen r l) = let h = reaches-short n r in record { number = omega arith; place = omega arith }
 
--- the last place that a check of so many columns and rows can answer
+-- the last place that a check of this many columns and rows can answer
 abbrev pub farthest : ℕ → ℕ → ℕ
 farthest n rows = maxGroups * (4 + n + rows + (2 * n + mostOf n n)) + 1
 
@@ -78,7 +78,7 @@ module _ (call : CheckCall) where
   abbrev Small : Answer → Type 0
   Small = Within 20 (farthest (call .job .n) (length (call .job .rows)))
 
-  -- where 4 is not answered the key is short
+  -- if 4 is not answered, the key is short
   key-within : ((b : Answer) → ¬ BadStarts (jobLists (call .job)) b)
       → length (keyOf (call .job)) ≤ maxGroups * (4 + call .job .n + length (call .job .rows))
   key-within none = key-short (call .job) (starts-iff _ _ _ .0 (agree-passed-iff _ _ (starts-agree (jobLists (call .job))) .1 none))
@@ -106,7 +106,7 @@ module _ (call : CheckCall) where
       ▸ λ n. (λ a (plan, at, read, (h, e)). within 9 0 _ e (omega arith) (omega arith))
       ▸ λ n. tt
 
-  -- done, at place 0: nothing is refused, so a plan was read
+  -- a check that is done has place 0: nothing is refused, so a plan was read
   done-small : Unrefused checkConditions call → Small (checkDone call .answer)
   unfolding checkDone
   done-small u = go (planRead call) refl
@@ -116,7 +116,7 @@ module _ (call : CheckCall) where
       go (bad number place) e =
           absurd (u .1 .1 .1 .1 .1 .1 .1 .0 (answer number place 0) (read-agree call (answer number place 0) .0 (zeroed, read-bad call e)))
 
-  -- the number of a check is at most 20, its place at most the last that its columns and rows let it reach
+  -- the number of a check is at most 20, and its place at most the last that its columns and rows allow
   pub check-bounded : Within 20 (farthest (call .job .n) (length (call .job .rows))) (checked (call .job) (call .plan) (call .lent) .answer)
   check-bounded = go (checked (call .job) (call .plan) (call .lent) .answer .number) refl
     where

@@ -1,4 +1,5 @@
--- The solver's call answers exactly by its conditions: 27 and 26 by their tests, any other number by the check of the job whose key it is.
+-- Proves that the solver's call answers exactly by its conditions: 27 and 26 by their tests, any other number by the check for the job of
+-- the key.
 -- Assumes nothing.
 use Prim.Native.Nat.{ℕ, _<_}
 use mathlib.Core.Path.{_≡_, refl, sym, ap, subst, _∙_}
@@ -21,12 +22,12 @@ use Rattle.refusal_laws.proofs.Check.{check-agree, check-exactly, done-
 use Rattle.refusal_laws.proofs.CallTests.{call-checked, call-given, call-none}
 
 module _ (call : SolverCall) (bytes : (i : ℕ) → getD (call .key) i 0 < 256) where
-  -- a readable key is that of one job
+  -- a readable key belongs to one job
   moved : (s r : Readable (call .key)) {a : Answer} → Answered checkConditions (solverCheck call (s .job)) a
       → Answered checkConditions (solverCheck call (r .job)) a
   moved s r {a} k = subst (λ (job : Job). Answered checkConditions (solverCheck call job) a) (readable-one (call .key) s r) k
 
-  -- a number with its place is answered exactly when its condition gives it, and no condition before does
+  -- the call answers a number with its place exactly when the condition of that number gives it, and no condition before does
   pub call-exactly : (a : Answer) → 0 < a .number → (solverAnswer call ≡ a) ↔ Answered solverConditions call a
   call-exactly a h = go (first callTests call) refl
     where

@@ -1,5 +1,5 @@
--- The tests of the solver's call (27 and 26) against their conditions. A key of bytes is readable just where it reads through, and then it is the key
--- of one job only. So the tests, which go by the reading, agree with conditions that speak of any job whose key it is.
+-- Proves that the tests 27 and 26 of the solver's call agree with their conditions. A key is readable exactly when it reads through, and
+-- then it is the key of one job only. So the tests, which use the reading, agree with conditions about any job that has this key.
 -- Assumes nothing.
 use Prim.Native.Nat.{ℕ, _<_}
 use mathlib.Core.Path.{_≡_, refl, _∙_}
@@ -35,7 +35,7 @@ module _ (call : SolverCall) (bytes : (i : ℕ) → getD (call .key) i 0 < 256) 
       go (got job at) e = let r = readable-iff (call .key) bytes .1 (job, at, e) in readable r (readable-read (call .key) r)
       go (bad number place) e = unreadable number place e (λ r. got-bad (readable-read (call .key) r) e)
 
-  -- 27
+  -- the test of 27 agrees with its condition
   readable-agree : Agree (readableTest call) (Unreadable call)
   unfolding readableTest
   readable-agree = agree-by _ _ (λ a h. gives a h key) (go key)
@@ -48,7 +48,7 @@ module _ (call : SolverCall) (bytes : (i : ℕ) → getD (call .key) i 0 < 256) 
       go (readable r e) = inl (rw (e, readableTest))
       go (unreadable number place e n) = inr (answer 27 0 0, (n, refl))
 
-  -- 26
+  -- the test of 26 agrees with its condition
   sizes-agree : Agree (sizesTest call) (SizesOver call)
   unfolding sizesTest
   sizes-agree a = go key

@@ -1,5 +1,5 @@
--- The solver's call by what its key reads as, and its one number taken apart: the number is at most 27, and the sizes keep the place below 2^32, so
--- it is what is left over.
+-- Proves what the solver's call answers for each way in which its key can read, and that its one number can be taken apart: the number is
+-- at most 27, and the sizes keep the place below 2^32, so the place is the remainder.
 -- Assumes nothing.
 use Prim.Native.Nat.{ℕ, _/_, _%_, _^_, _<_, _≤_}
 use mathlib.Core.Path.{_≡_, refl, _∙_}
@@ -25,13 +25,13 @@ use Rattle.refusal_laws.proofs.Lengths.{most-short}
 use Rattle.refusal_laws.proofs.Tests.{below-iff, either-iff}
 
 module _ (call : SolverCall) where
-  -- ---- the answer, by what the key reads as
+  -- ---- the answer, by how the key reads
 
   pub call-refused : {a : Answer} {l : Leaves} → first callTests call ≡ refused a l → solverAnswer call ≡ a
   unfolding solverAnswer
   call-refused e = rw (e, solverAnswer)
 
-  -- 27: it does not read through
+  -- 27: the key does not read through
   pub call-unreadable : {number place : ℕ} → readKey (call .key) ≡ bad number place → solverAnswer call ≡ answer 27 0 0
   unfolding callTests readableTest
   call-unreadable e = call-refused (first-refuses readableTest _ call {l = untouched} (rw (e, readableTest)))
@@ -44,14 +44,14 @@ module _ (call : SolverCall) where
     unfolding readableTest
     reads-through = rw (e, readableTest)
 
-    -- 26: more columns or rows than the sizes
+    -- 26: the job has more columns or rows than the sizes
     over : isOver ≡ true → solverAnswer call ≡ answer 26 0 0
     unfolding callTests sizesTest
     over h =
         call-refused (first-passes readableTest _ call reads-through ∙ first-refuses sizesTest _ call {l = untouched}
         (rw (e, sizesTest) (refused-if isOver _ _ h)))
 
-    -- else the check
+    -- else the call answers what the check answers
     fits : isOver ≡ false → solverAnswer call ≡ checked job (call .plan) buffers .answer
     unfolding callTests sizesTest solverAnswer keyChecked
     fits h =
@@ -67,7 +67,7 @@ module _ (call : SolverCall) where
 
   -- ---- its bounds
 
-  -- above what the sizes let a check reach, and below 2^32
+  -- the place is below 2^32, since the sizes bound what a check can reach
   pub call-bounded : Within 27 (2 ^ 20) (solverAnswer call)
   call-bounded = go (readKey (call .key)) refl
     where
@@ -86,7 +86,7 @@ module _ (call : SolverCall) where
                 place = omega (arith, w .place, most-short (job .n) programColumns (job .n) h);
               })
 
--- the one number gives back number and place
+-- number and place can be computed from the one number
 pub called-decodes : (key plan : List ℕ)
     → (called key plan / 2 ^ 32 ≡ solverAnswer (record { key = key; plan = plan }) .number) × (called key plan % 2 ^ 32 ≡ solverAnswer
     (record { key = key; plan = plan }) .place)

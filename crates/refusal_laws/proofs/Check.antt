@@ -1,4 +1,5 @@
--- The check answers exactly by its conditions: those of a job and of the lent slices, then of the plan's bytes, then of the plan that they hold.
+-- Proves that the check answers exactly by its conditions: those of the job and of the lent slices, then of the plan's bytes, then of the
+-- plan that they encode.
 -- Assumes nothing.
 use Prim.Native.Nat.{ℕ}
 use mathlib.Core.Path.{_≡_, refl, sym, _∙_}
@@ -57,7 +58,7 @@ module _ (call : CheckCall) where
   unfolding planRead
   steps {plan} {at} e = plan-steps (call .job .n) (call .plan) (length (keyOf (call .job))) plan at e
 
-  -- test by test
+  -- each test agrees with its condition
   pub check-agree : AgreeEach checkTests checkConditions call
   unfolding checkTests
   check-agree =
@@ -101,7 +102,7 @@ module _ (call : CheckCall) where
       go (got plan at) e r = rw (e, checkDone)
       go (bad number place) e r = absurd (refused-passed (read-bad call e) r)
 
-  -- and its place is 0
+  -- a check that is done has place 0
   pub done-place : first checkTests call ≡ passed → checkDone call .answer .place ≡ 0
   unfolding checkTests jobTests checkDone
   done-place p = go (planRead call) refl (first-passed-iff checkTests call .0 p .1 .1 .1 .1 .1 .1 .1 .0)

@@ -1,4 +1,5 @@
--- The rows of a column in reading order: what the test finds in them is the fault of the first row with one, and every row before it is fine.
+-- Proves that the test of a column's rows finds the fault of the first row that has one, in reading order, and that every row before it is
+-- fine.
 -- Assumes nothing.
 use Prim.Native.Nat.{ℕ, zero, suc, _<_}
 use mathlib.Core.Path.{_≡_, refl, sym, _∙_}
@@ -15,7 +16,7 @@ module _ (n j : ℕ) where
   abbrev pub faultOf : ℕ → List ℕ → ℕ → ℕ
   faultOf before rs k = rowFault n j (getD (before ∷ rs) k 0) (getD rs k 0)
 
-  -- what the test finds in them, with what that says of each row
+  -- what the test finds in the rows, with what that says of each row
   data Scan (before : ℕ) (rs : List ℕ) : Type 0 where
     fine : rowsFault n j before rs ≡ 0 → ((k : ℕ) → k < length rs → faultOf before rs k ≡ 0) → Scan before rs
     fault : (k f : ℕ) → rowsFault n j before rs ≡ suc f → k < length rs → faultOf before rs k ≡ suc f → ((i : ℕ) → i < k → faultOf before rs i ≡ 0)

@@ -1,5 +1,5 @@
--- The outcome of an entry point is decided by the first test that refuses, so where its tests agree with its conditions, and each refusal has a
--- number and leaves what that number must, the outcome is exactly what the conditions say.
+-- Proves that an outcome is exactly what the conditions say, if tests agree with conditions, and each refusal has a number and leaves what
+-- that number must. For the first test that refuses decides the outcome.
 -- Assumes nothing.
 use Prim.Native.Nat.{ℕ, zero, suc, _<_, _≤_}
 use mathlib.Core.Path.{_≡_, refl, sym, ap, _∙_}
@@ -15,7 +15,7 @@ use Rattle.list_laws.proofs.Tests.{below-or}
 use Rattle.job_laws.proofs.Firsts.{refused-passed, first-append-passed, first-append-refused, first-map}
 use Rattle.refusal_laws.proofs.Agreements.{Refuses, one-answer, AgreeEach, answered-iff, passed-iff}
 
--- two outcomes that a statement by conditions allows coincide: answer, and all of each lent slice
+-- two outcomes that a statement by conditions allows are equal: the answer, and all of each lent slice
 pub outcomes-coincide : {C S : Type 0} {conditions : List (Condition C)} {call : C} {lent zero : S} {done x y : Outcome S}
     → Exactly conditions call lent zero done x → Exactly conditions call lent zero done y → x ≡ y
 outcomes-coincide {x = x} {y = y} p q = go (x .answer .number) refl
@@ -36,7 +36,7 @@ outcomes-coincide {x = x} {y = y} p q = go (x .answer .number) refl
 
 -- ---- what a refusal leaves
 
--- a refusal has a number; 1 to 7 leave the lent slices untouched, any other zero
+-- a refusal has a number; 1 to 7 leave the lent slices untouched, any other leaves them zero
 abbrev pub Leaving : Verdict → Type 0
 Leaving passed = Unit {0}
 Leaving (refused a untouched) = (1 ≤ a .number) × (a .number ≤ 7)
@@ -88,7 +88,7 @@ module _ {C S : Type 0} (tests : List (C → Verdict)) (done : C → Outcome S) 
   outcome-zeroed p = rw (p, outcome)
 
   module _ (conditions : List (Condition C)) (agree : AgreeEach tests conditions call) where
-    -- the outcome by the conditions, where a call that passes the tests is done
+    -- the outcome by the conditions; a call that passes the tests is done
     pub outcome-exactly : Leaving (first tests call) → (first tests call ≡ passed → done call .answer .number ≡ 0)
         → Exactly conditions call lent (zeroing lent) (done call) (outcome tests done zeroing call lent)
     outcome-exactly leaving finished = go (first tests call) refl

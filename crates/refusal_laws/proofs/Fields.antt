@@ -1,5 +1,5 @@
--- Reading field by field: from a field at a place reading leads on while each number is there, in shortest form and in its range, and there is one
--- way only. So where reading comes to a halt, at a number at fault or behind the peak, is determined.
+-- Proves that reading goes from field to field while each number is there, in shortest form and in its range, and that it can go one way
+-- only. So the place where reading halts, at a number at fault or behind the peak, is determined.
 -- Assumes nothing.
 use Prim.Native.Nat.{ℕ, _+_, _<_, _≤_}
 use mathlib.Core.Path.{_≡_, refl, sym, _∙_}
@@ -23,11 +23,11 @@ use Rattle.refusal_laws.proofs.OneField.{bad-inj, in-range, out-of-rang
 -- ---- from field to field
 
 module _ (n : ℕ) (s : List ℕ) where
-  -- the number of field x at a place
+  -- the number that is read of field x at a place
   abbrev pub numberAt : Field → ℕ → Read ℕ
   numberAt x at = field (low x) (high n x) s at
 
-  -- reading from field x at `at` leads to field y at `to`
+  -- reading from field x at `at` comes to field y at `to`
   pub data Leads (y : Field) (to : ℕ) : Field → ℕ → Type 0 where
     stay : Leads y to y to
     on : {x : Field} {at v mid : ℕ} → x ≢ nothing → numberAt x at ≡ got v mid → Leads y to (following n x v) mid → Leads y to x at
@@ -36,12 +36,12 @@ module _ (n : ℕ) (s : List ℕ) where
   leads-on stay k = k
   leads-on (on h e l) k = on h e (leads-on l k)
 
-  -- reading halts at field y: a number is at fault there, or there is a byte behind the peak
+  -- reading halts at field y: a number is at fault there, or a byte follows the peak
   pub data Halts (y : Field) (to : ℕ) : ℕ → ℕ → Type 0 where
     at-number : {number place : ℕ} → y ≢ nothing → numberAt y to ≡ bad number place → Halts y to number place
     behind : y ≡ nothing → to < length s → Halts y to 15 (to + 1)
 
-  -- it goes no further from a field
+  -- reading goes no further from a field
   abbrev Stuck : Field → ℕ → Type 0
   Stuck y to = (v mid : ℕ) → y ≢ nothing → numberAt y to ≡ got v mid → ⊥
 
@@ -61,11 +61,11 @@ module _ (n : ℕ) (s : List ℕ) where
   halts-one (behind e l) (at-number h f) = absurd (h e)
   halts-one (behind e l) (behind f k) = (refl, refl)
 
-  -- reading from field x at `at` leads to where it halts
+  -- reading from field x at `at` comes to a field where it halts
   abbrev pub Fails : Field → ℕ → ℕ → ℕ → Type 0
   Fails x at number place = (y : Field) × (to : ℕ) × Leads y to x at × Halts y to number place
 
-  -- it fails in one way, and does not come to an end as well
+  -- reading fails in one way only, and then it does not reach the end
   pub fails-one : {x : Field} {at a p b q : ℕ} → Fails x at a p → Fails x at b q → (a ≡ b) × (p ≡ q)
   fails-one {a = a} {p = p} (y, to, l, h) (z, end, m, k) =
       let (c, d) = leads-once l (halts-stuck h) m (halts-stuck k) in halts-one (rw (c, d) at h) k
@@ -79,7 +79,7 @@ module _ (n : ℕ) (s : List ℕ) where
 
   -- ---- the conditions
 
-  -- what is read stands there
+  -- a number is read as `Stands` says
   standing : (at : ℕ) (x : Number) → readNumber s at ≡ x → Stands s at x
   standing at x e = number-stands-iff s at x .0 e
 
@@ -111,7 +111,7 @@ module _ (n : ℕ) (s : List ℕ) where
         go TooLong q = rw (same 13 (not-shortest _ _ s to (inl q))) (thirteen r h (inl (standing _ _ q)))
         go NotShortest q = rw (same 13 (not-shortest _ _ s to (inr q))) (thirteen r h (inr (standing _ _ q)))
 
-    -- reading fails just as the conditions say
+    -- reading fails exactly as the conditions say
     pub fails-iff : (number place : ℕ) → Fails (fromStep n n) from number place ↔ PlanFault n s from (answer number place 0)
     fails-iff number place = (λ (y, to, l, h). there (reaches begin l) h, back (answer number place 0))
       where

@@ -1,5 +1,5 @@
--- The tests of a job (1 to 6) against their conditions. Each way out of the test of the starts is one way in which starts
--- are bad, and starts that are bad in none are the ones that pass.
+-- Proves that the tests of a job (1 to 6) agree with their conditions. Each way out of the test of the starts is one way in which starts
+-- are bad; starts that are bad in no way pass.
 -- Assumes nothing.
 use Prim.Native.Nat.{ℕ, zero, suc, _+_, _<_, _≤_}
 use mathlib.Core.Path.{_≡_, refl}
@@ -24,12 +24,12 @@ use Rattle.refusal_laws.proofs.Exactly.{Leaving}
 use Rattle.refusal_laws.proofs.Tests.{below-iff, agree-if, found-iff}
 use Rattle.refusal_laws.proofs.Rows.{rows-agree}
 
--- 1
+-- the test of 1 agrees with its condition
 pub columns-agree : (n : ℕ) → Agree (columnsTest n) (ColumnsOver n)
 unfolding columnsTest
 columns-agree n = agree-if _ _ untouched (below-iff maxColumns n)
 
--- 2
+-- the test of 2 agrees with its condition
 pub mark-agree : (job : Job) → Agree (markTest job) (MarkUnknown job)
 unfolding markTest
 mark-agree job =
@@ -38,12 +38,12 @@ mark-agree job =
     over : maxMark < job .mark → (job .mark ≢ 0) × (job .mark ≢ 1) × (job .mark ≢ 2)
     over h = (λ e. omega arith, λ e. omega arith, λ e. omega arith)
 
--- 3
+-- the test of 3 agrees with its condition
 pub limit-agree : (job : Job) → Agree (limitTest job) (LimitOver job)
 unfolding limitTest
 limit-agree job = agree-if _ _ untouched (below-iff maxLimit (job .limit))
 
--- 4
+-- the test of 4 agrees with its condition
 module _ (c : RowLists) where
   falls-iff : (j : ℕ) → (falls (c .starts) j ≡ true) ↔ Falls (c .starts) j
   unfolding falls

@@ -1,5 +1,5 @@
--- How far a key goes, and how far the reading of a plan: each number has at most as many groups as it may have. A key has four numbers, a count for
--- each column and a gap for each row. Of a plan's numbers fewer are still to come with each that is read, and what can come is bounded by n.
+-- Proves how long a key is at most, and how far the reading of a plan can go: each number has at most six groups. A key has four numbers, a
+-- count for each column and a gap for each row. While a plan is read, each number leaves fewer to come, and n bounds how many can come.
 -- Assumes nothing.
 use Prim.Native.Nat.{ℕ, zero, suc, _+_, _-_, _*_, _<_, _≤_}
 use mathlib.Core.Path.{_≡_, refl, ap}
@@ -49,11 +49,11 @@ unfoldable pub mostOf : ℕ → ℕ → ℕ
 mostOf n zero = 1
 mostOf n (suc m) = suc n + mostOf n m
 
--- those of the lists from column j on
+-- the most numbers from column j's list on
 abbrev fromColumn : ℕ → ℕ → ℕ
 fromColumn n j = mostOf n (n + 1 - j)
 
--- the most that can come from a field on
+-- the most numbers that can come from a field on
 unfoldable left : ℕ → Field → ℕ
 left n (column k) = 2 * k + 2 + fromColumn n 1
 left n (pops k) = 2 * k + 1 + fromColumn n 1
@@ -87,7 +87,7 @@ module _ (n : ℕ) where
   step-left zero = omega (arith, list-left 1)
   step-left (suc k) = omega arith
 
-  -- each number that is read leaves fewer
+  -- each number that is read leaves fewer to come
   fewer-left : (x : Field) (v : ℕ) → x ≢ nothing → v ≤ high n x → left n (following n x v) < left n x
   unfolding left following high
   fewer-left (column k) v some h = omega arith
@@ -97,7 +97,7 @@ module _ (n : ℕ) where
   fewer-left peak v some h = omega arith
   fewer-left nothing v some h = absurd (some refl)
 
-  -- a number ends at most six bytes on
+  -- a number ends at most six bytes behind its start
   abbrev Ends : ℕ → Number → Type 0
   Ends at (Value v to) = to ≤ at + maxGroups
   Ends at Ended = Unit {0}
@@ -110,17 +110,17 @@ module _ (n : ℕ) where
   ends (not-shortest p l h c z) = tt
   ends (value l h c b o) = omega arith
 
-  -- so a field is reached with so many bytes to spare
+  -- reading reaches a field at most this many bytes on
   reaches-left : {s : List ℕ} {from : ℕ} {x : Field} {at : ℕ} → Reaches n s from x at
       → at + maxGroups * left n x ≤ from + maxGroups * (2 * n + mostOf n n)
   reaches-left begin = let e : n + 1 - 1 ≡ n = omega arith in let h = rw e at (step-left n) in omega arith
   reaches-left (next {x = x} {v = v} r some stands l h) = omega (arith, reaches-left r, fewer-left x v some h, ends stands)
 
-  -- at most so many bytes behind the key
+  -- reading goes at most this many bytes behind the key
   pub reaches-short : {s : List ℕ} {from : ℕ} {x : Field} {at : ℕ} → Reaches n s from x at → at ≤ from + maxGroups * (2 * n + mostOf n n)
   reaches-short {x = x} r = omega (arith, reaches-left r)
 
--- what a plan can have, for at most m columns
+-- a bound for at most m columns
 pub most-short : (n m k : ℕ) → n ≤ m → mostOf n k ≤ 1 + k * suc m
 unfolding mostOf
 most-short n m zero h = omega arith

@@ -1,4 +1,5 @@
--- One field at a place: a number in its range is got; out of its range, ended or not in shortest form it is bad, with its number and place.
+-- Proves what one field gives: its value if the number is in its range; else a refusal, if the number is out of its range, ended or not in
+-- shortest form.
 -- Assumes nothing.
 use Prim.Native.Nat.{ℕ, _+_, _<_, _≤_}
 use mathlib.Core.Path.{_≡_}

@@ -1,4 +1,5 @@
--- The tests of a plan's bytes (11 to 15) against their conditions: the first byte that is not the key's, then what reading behind the key finds.
+-- Proves that the tests of a plan's bytes (11 to 15) agree with their conditions: the first byte that differs from the key, then what
+-- reading behind the key finds.
 -- Assumes nothing.
 use Prim.Native.Nat.{ℕ, _-_, _<_, _≤_}
 use mathlib.Core.Path.{_≡_, refl, sym, _∙_}
@@ -51,7 +52,7 @@ module _ (key plan : List ℕ) (p : ℕ) where
       go (inr l) (no d) = absurd (h (λ (u, q). d q))
 
 module _ (call : CheckCall) where
-  -- the first byte that differs
+  -- the test of 11 agrees with its condition
   pub begins-agree : Agree (keyTest call) (KeyDiffers call)
   unfolding keyTest
   begins-agree =
@@ -83,7 +84,7 @@ module _ (call : CheckCall) where
   unfolding readTest
   read-bad e = rw (e, readTest)
 
-  -- the first number at fault, or the first byte after the peak
+  -- the tests of 12 to 15 agree with their conditions
   pub read-agree : Agree (readTest call) (BadPlan call)
   read-agree = agree-by _ _ gives (go (planRead call) refl)
     where

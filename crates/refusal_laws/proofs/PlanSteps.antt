@@ -1,4 +1,4 @@
--- What is read of a plan has n steps, of columns 1..n.
+-- Proves that a plan that is read has n steps, of columns from 1 to n.
 -- Assumes nothing.
 use Prim.Native.Nat.{ℕ, zero, suc, _-_, _≤_}
 use mathlib.Core.Path.{_≡_, refl, ap}

@@ -1,5 +1,5 @@
--- The tests of a plan that was read (16 to 20) against their conditions. A repeat is found among the steps before it; without repeats the steps are
--- an order of all columns, which the test of subtrees asks for.
+-- Proves that the tests of a plan that was read (16 to 20) agree with their conditions. A repeat is found among the steps before it;
+-- without repeats the steps are an order of all columns, and the test of subtrees relies on that.
 -- Assumes nothing.
 use Prim.Native.Nat.{ℕ, zero, suc, _-_, _≤_}
 use mathlib.Core.Path.{_≡_, sym, _∙_}
@@ -38,7 +38,7 @@ repeated-iff order s l u =
       λ (k, r, e). member-into (columnAt order s) (take (s - 1) order) (i .1 (record { step = k; behind = r .0; within = omega arith; is = e })),
     )
 
--- an order that it passes has no column twice
+-- an order that the test of 16 passes has no column twice
 column-later : (y : ℕ) (l : List ℕ) (s : ℕ) → 1 ≤ s → columnAt (y ∷ l) (suc s) ≡ columnAt l s
 column-later y l zero h = absurd (omega arith)
 column-later y l (suc s) h = column-at (y ∷ l) (suc s) ∙ sym (column-at l s)
@@ -87,7 +87,7 @@ module _ (job : Job) (plan : Plan) (read : Steps (job .n) (job .n) (columnsIn (p
                   (λ i m. within i (List·Memᴰ·cases-cons m)),
             ))
 
-    -- 18
+    -- the test of 18 agrees with its condition
     pub subtree-agree : Below (job .n) (pattern job)
         → Agree (subtreeTest job plan) (λ a. (p : ℕ) × Least (Faulty job plan) (job .n) p × (a ≡ answer 18 p 0))
     unfolding subtreeTest

@@ -1,5 +1,5 @@
--- No two refusals print the same line, and none prints what a listing does: words stand between bytes that are in no word, and a listing has another
--- first word.
+-- Proves that no two refusals print the same line, and that none prints what a listing prints: no word contains a byte that separates
+-- words, and a listing begins with another word.
 -- Assumes nothing.
 use Prim.Native.Nat.{ℕ, _<_}
 use mathlib.Core.Path.{_≡_, refl}
@@ -12,7 +12,7 @@ use Rattle.text_laws.specs.Grammar.{All}
 use Rattle.text_laws.proofs.Parts.{all-map, split}
 use Rattle.text_laws.proofs.Decimals.{decimal-digits, decimal-injective}
 
--- above the bytes that stand between words
+-- a byte above those that separate words
 abbrev Letter : ℕ → Type 0
 Letter b = space < b
 
@@ -43,7 +43,7 @@ printed-injective v w (x ∷ xs) (y ∷ ys) p q e =
 
 -- ---- refusals and listings
 
--- a line of refusal tells the answer
+-- the line of a refusal determines its answer
 pub refusal-line-injective : (a b : Answer) → refusalLine a ≡ refusalLine b → a ≡ b
 unfolding refusalLine
 refusal-line-injective a b e =
@@ -57,7 +57,7 @@ refusal-line-injective a b e =
     same : a .number ≡ b .number → a .place ≡ b .place → a .count ≡ b .count → a ≡ b
     same p q r i = record { number = p i; place = q i; count = r i }
 
--- a listing is no line of refusal
+-- a listing is not the line of a refusal
 pub listing-no-refusal : (job : Job) (peak : ℕ) (a : Answer) → listingOf job peak ≡ refusalLine a → ⊥
 unfolding listingOf refusalLine printed
 listing-no-refusal job peak a e = let z : _≡_ {A = ℕ} 112 114 = cc in omega arith

@@ -1,5 +1,5 @@
--- The listing program prints the line of a refusal exactly where its conditions give that refusal, and else the listing: text and analysis are tested
--- one after the other, and no two of these outcomes print the same.
+-- Proves that the listing program prints the line of a refusal exactly when its conditions give that refusal, and else the listing. Text
+-- and analysis are tested one after the other, and no two of these outcomes print the same.
 -- Assumes nothing.
 use Prim.Native.Nat.{ℕ, zero, suc, _<_}
 use mathlib.Core.Path.{_≡_, refl, sym, ap, _∙_}
@@ -86,7 +86,7 @@ module _ (input : Input) where
           text-passed q ∙ ap (λ (o : Outcome Lent). jobPrinted (textJob (input .text)) (o .answer)) (exact .when-done (exact .done-iff .1 none))
       go (refused b m) q = absurd (refused-passed (first-append-refused textTests _ input q) p)
 
-  -- a line of refusal is printed exactly where the conditions give that refusal
+  -- the line of a refusal is printed exactly when the conditions give that refusal
   pub program-exactly : (a : Answer) → (programPrints input ≡ refusalLine a) ↔ Answered programConditions input a
   program-exactly a = (λ e. there e (first programTests input) refl, λ r. prints-refusal (given .1 r .1))
     where
@@ -97,7 +97,7 @@ module _ (input : Input) where
       there e passed q = absurd (listing-no-refusal _ _ a (sym (prints-listing q) ∙ e))
       there e (refused b l) q = given .0 (l, rw (← refusal-line-injective b a (sym (prints-refusal q) ∙ e)) q)
 
-  -- and the listing exactly where they give none
+  -- the listing is printed exactly when they give none
   pub program-done : (programPrints input ≡ programListing input) ↔ Unrefused programConditions input
   program-done = (λ e. there e (first programTests input) refl, λ u. prints-listing (none .1 u))
     where
@@ -110,7 +110,7 @@ module _ (input : Input) where
 
 -- ---- the listing into a lent slice
 
--- a listing is written, or refused, exactly by its 7
+-- a listing is written, or refused with 7, exactly by its condition
 pub listing-exactly : (call : ListingCall)
     → Exactly (ListingShort ∷ []) call (call .bytes) (zeros (call .bytes)) (listingDone call) (listed (call .input) (call .bytes))
 unfolding listed listingDone listingTests

@@ -1,5 +1,5 @@
--- Reading a plan goes from field to field: steps, lists and the peak are read number by number, each the field that follows. So reading is refused
--- just as the conditions of 12 to 15 say.
+-- Proves that reading a plan is refused exactly as the conditions of 12 to 15 say. It reads steps, lists and the peak number by number, and
+-- each number is the field that follows.
 -- Assumes nothing.
 use Prim.Native.Nat.{ℕ, zero, suc, _+_, _<_, _≤_}
 use mathlib.Core.Path.{_≡_, refl, subst}
@@ -18,7 +18,7 @@ use Rattle.bytes_laws.proofs.Plans.{end-got, end-only}
 use Rattle.refusal_laws.proofs.OneField.{bad-inj}
 use Rattle.refusal_laws.proofs.Fields.{numberAt, Leads, stay, on, leads-on, at-number, behind, Fails, fails-one, fails-no-end, fails-iff}
 
--- a number stands next
+-- a number comes next
 abbrev Some : Field → Type 0
 Some (column k) = Unit {0}
 Some (pops k) = Unit {0}
@@ -27,7 +27,7 @@ Some (gap j b k) = Unit {0}
 Some peak = Unit {0}
 Some nothing = ⊥
 
--- the fields from list j on, and behind the last list
+-- the fields from column j's list on, and behind the last list
 from-list : (n j : ℕ) → j ≤ n → fromList n j ≡ count j
 unfolding fromList
 from-list n j h = rw (le-leb j n h, fromList)
@@ -37,7 +37,7 @@ unfolding fromList
 from-end n j h = rw (lt-leb j n h, fromList)
 
 module _ (n : ℕ) (s : List ℕ) where
-  -- what is read from field x at `at` on goes from field to field up to z, or fails on the way
+  -- reading from field x at `at` on goes from field to field up to z, or fails on the way
   data Follows {A : Type 0} (x : Field) (at : ℕ) (z : Field) : Read A → Type 0 where
     through : {a : A} {to : ℕ} → Leads n s z to x at → Follows x at z (got a to)
     fails : {number place : ℕ} → Fails n s x at number place → Follows x at z (bad number place)
@@ -111,7 +111,7 @@ module _ (n : ℕ) (s : List ℕ) where
       then-follows _ (steps-follow n at)
       (λ steps to. then-follows _ (lists-follow 1 n to (omega arith)) (λ lists mid. field-follows peak mid _ tt (λ p end. end-follows _ end)))
 
-  -- what is read was read to the end
+  -- a plan that is read was read to the end of the bytes
   plan-end : (at : ℕ) {plan : Plan} {end : ℕ} → readPlan n s at ≡ got plan end → length s ≤ end
   unfolding readPlan
   plan-end at e =
@@ -120,7 +120,7 @@ module _ (n : ℕ) (s : List ℕ) where
       let (declared, last, h, v) = then-only _ (field 0 maxPeak s mid) u in
       end-only _ _ s last _ v .2
 
-  -- reading is refused just as the conditions of 12 to 15 say
+  -- reading is refused exactly as the conditions of 12 to 15 say
   pub plan-bad-iff : (from number place : ℕ) → (readPlan n s from ≡ bad number place) ↔ PlanFault n s from (answer number place 0)
   plan-bad-iff from number place =
       let i = fails-iff n s from number place in

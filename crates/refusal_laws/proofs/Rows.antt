@@ -1,5 +1,5 @@
--- The test of the rows (5 and 6) against its condition: it goes through the rows in reading order, so the fault that it names is that of the first
--- row with one.
+-- Proves that the test of the rows (5 and 6) agrees with its condition. It reads the rows in reading order, so the fault that it names is
+-- that of the first row with one.
 -- Assumes nothing.
 use Prim.Native.Nat.{ℕ, zero, suc, _-_, _<_, _≤_}
 use mathlib.Core.Path.{_≡_, refl}
@@ -21,7 +21,7 @@ module _ (c : RowLists) where
   abbrev faultAt : ℕ → ℕ → ℕ
   faultAt j k = faultOf (c .n) j j (columnOf (c .starts) (c .rows) j) k
 
-  -- a row: outside, or not above the one before it, or fine
+  -- a row is outside its range, or not above the one before it, or fine
   data RowIs (j k : ℕ) : Type 0 where
     outside : faultAt j k ≡ 5 → Outside c j k → RowIs j k
     fallen : faultAt j k ≡ 6 → ¬ Outside c j k → NotAbove c j k → RowIs j k
@@ -118,7 +118,7 @@ module _ (c : RowLists) where
       back a (five {j = j} {k = k} here before o) = named j k 4 here before (is-five o (row-is j k))
       back a (six {j = j} {k = k} here before o x) = named j k 5 here before (is-six o x (row-is j k))
 
-  -- 5 and 6
+  -- the test of 5 and 6 agrees with its condition
   pub rows-agree : Agree (rowsTest (c .n) (c .starts) (c .rows)) (BadRow c)
   unfolding rowsTest
   rows-agree = agree-same _ (agree-at _ (c .n) (λ k l h. below-iff 0 (faultIn k)) faultIn (λ j. 0) untouched) named-iff

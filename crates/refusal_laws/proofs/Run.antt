@@ -1,4 +1,4 @@
--- A run answers exactly by its conditions: each test agrees with its condition, and leaves the stack as the conditions say.
+-- Proves that a run answers exactly by its conditions: each test agrees with its condition, and leaves the stack as the conditions say.
 -- Assumes nothing.
 use Prim.Native.Nat.{ℕ, _-_, _<_}
 use mathlib.Core.Path.{_≡_, refl}
@@ -21,7 +21,7 @@ use Rattle.refusal_laws.proofs.Job.{columns-agree, starts-agree, early-
 use Rattle.refusal_laws.proofs.Rows.{rows-agree}
 use Rattle.refusal_laws.proofs.RunSteps.{step-faults, steps-agree}
 
--- 7
+-- the test of 7 agrees with its condition
 run-lengths-agree : (call : RunCall) → Agree (runLengthsTest call) (RunShort call)
 unfolding runLengthsTest
 run-lengths-agree call =
@@ -30,7 +30,7 @@ run-lengths-agree call =
     (either-iff _ _ (below-iff (length (call .columns)) (call .n))
     (either-iff _ _ (below-iff (length (call .pops)) (call .n)) (below-iff (length (call .stack)) (call .n)))))
 
--- 24
+-- the test of 24 agrees with its condition
 left-agree : (call : RunCall) → Agree (leftTest call) (UpdatesLeft call)
 unfolding leftTest
 left-agree call = agree-if _ _ zeroed (below-iff 0 (length (stateAfter call (call .n) .held)))

@@ -1,4 +1,5 @@
--- The fault of a step of a run is found by four tests in turn, so it is the one whose condition holds and none before it does.
+-- Proves that the fault of a step of a run is the one whose condition holds while none before it does: four tests find it, one after the
+-- other.
 -- Assumes nothing.
 use Prim.Native.Nat.{ℕ, _-_, _<_, _≤_}
 use mathlib.Core.Path.{_≡_, refl}
@@ -21,14 +22,14 @@ use Rattle.refusal_laws.proofs.Agreements.{Agree}
 use Rattle.refusal_laws.proofs.Exactly.{_&_}
 use Rattle.refusal_laws.proofs.Tests.{below-iff, fails-iff, Faults, agree-faults}
 
--- the fault by four tests in turn
+-- the fault that four tests find, one after the other
 abbrev faultBy : Bool → Bool → Bool → Bool → ℕ
 faultBy known many fit over =
     elim known [ false ↦ 14 | true ↦ elim many [ true ↦ 21 | false ↦ elim fit [ false ↦ 22 | true ↦ elim over [ true ↦ 23 | false ↦ 0 ] ] ] ]
 
 module _ (call : RunCall) where
   module _ (s : ℕ) where
-    -- the four tests, in turn
+    -- the four tests of a step
     known : Bool
     known = leb 1 (columnAt (call .columns) s) && leb (columnAt (call .columns) s) (call .n)
 
@@ -93,7 +94,7 @@ module _ (call : RunCall) where
           inr (rw (fault-is s, k, m, f, r) (over-room (known-iff s .0 k) (fewer-iff s .0 m) (fit-iff s .0 f) (over-iff s .0 r)))
       go s (passes k) (fails m) (passes f) (fails r) = inl (rw (fault-is s, k, m, f, r))
 
-  -- 14, 21, 22, 23
+  -- the test of the steps (14, 21, 22, 23) agrees with its condition
   pub steps-agree : Agree (stepsTest call) (BadStep call)
   unfolding stepsTest refusedAt
   steps-agree =

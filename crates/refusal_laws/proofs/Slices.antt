@@ -1,4 +1,4 @@
--- The tests of lent slices and of the limit (7 to 10) against their conditions: each is a comparison, and 7 is several.
+-- Proves that the tests of lent slices and of the limit (7 to 10) agree with their conditions: each is a comparison, and 7 is several.
 -- Assumes nothing.
 use Prim.Native.Nat.{ℕ, _+_}
 use mathlib.Core.Bool.{or-assoc}
@@ -12,7 +12,7 @@ use Rattle.refusal_laws.proofs.Agreements.{Agree}
 use Rattle.refusal_laws.proofs.Exactly.{Leaving, leaving-if}
 use Rattle.refusal_laws.proofs.Tests.{below-iff, either-iff, agree-if}
 
--- 7
+-- the test of 7 agrees with its condition
 pub lengths-agree : (n : ℕ) (lent : Lent) → Agree (lengthsTest n lent) (Short n lent)
 unfolding lengthsTest
 lengths-agree n lent =
@@ -27,7 +27,7 @@ pub lengths-leaving : (n : ℕ) (lent : Lent) → Leaving (lengthsTest n lent)
 unfolding lengthsTest
 lengths-leaving n lent = leaving-if _ _ untouched (omega arith, omega arith)
 
--- 8
+-- the test of 8 agrees with its condition
 pub factor-rows-agree : (needed : ℕ) (lent : Lent) → Agree (factorRowsTest needed lent) (RowsExceed needed lent)
 unfolding factorRowsTest
 factor-rows-agree needed lent = agree-if _ _ zeroed (below-iff (length (lent .factorRows)) needed)
@@ -36,7 +36,7 @@ pub factor-rows-leaving : (needed : ℕ) (lent : Lent) → Leaving (factorRowsTe
 unfolding factorRowsTest
 factor-rows-leaving needed lent = leaving-if _ _ zeroed (omega arith)
 
--- 9
+-- the test of 9 agrees with its condition
 pub peak-agree : (limit peak : ℕ) → Agree (peakTest limit peak) (PeakOver limit peak)
 unfolding peakTest
 peak-agree limit peak = agree-if _ _ zeroed (below-iff limit peak)
@@ -45,7 +45,7 @@ pub peak-leaving : (limit peak : ℕ) → Leaving (peakTest limit peak)
 unfolding peakTest
 peak-leaving limit peak = leaving-if _ _ zeroed (omega arith)
 
--- 10
+-- the test of 10 agrees with its condition
 pub bytes-agree : (written bytes : List ℕ) → Agree (bytesTest written bytes) (BytesShort written bytes)
 unfolding bytesTest
 bytes-agree written bytes = agree-if _ _ zeroed (below-iff (length bytes) (length written))

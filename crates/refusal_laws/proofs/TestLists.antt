@@ -1,4 +1,4 @@
--- Lists of tests that agree with conditions, put together: one behind the other, and tests of a part of the call.
+-- Proves how lists of tests that agree with conditions are put together: one behind the other, and tests of a part of the call.
 -- Assumes nothing.
 use mathlib.Core.Path.{_≡_, refl, sym, _∙_}
 use mathlib.Core.List.{List, [], _∷_, _++_, map}
@@ -25,7 +25,7 @@ module _ {C D : Type 0} (part : C → D) where
   part-agree (t ∷ ts) [] call h = absurd h
   part-agree (t ∷ ts) (K ∷ Ks) call h = (h .0, λ p. part-agree ts Ks call (h .1 p))
 
-  -- tests of a part of the call, then others, which need agree only where those pass
+  -- tests of a part of the call, then others, which need agree only if those pass
   pub agree-behind : (ts : List (D → Verdict)) (us : List (C → Verdict)) (Ks : List (Condition D)) (Ls : List (Condition C)) (call : C)
       → AgreeEach ts Ks (part call)
       → (first ts (part call) ≡ passed → AgreeEach us Ls call) → AgreeEach (map (λ test call. test (part call)) ts ++ us) (of part Ks ++ Ls) call

@@ -1,4 +1,5 @@
--- One test against its condition: a test that refuses where something holds, and one that refuses at the least place where something holds.
+-- Proves when one test agrees with its condition: a test that refuses if something holds, and one that refuses at the least place where
+-- something holds.
 -- Assumes nothing.
 use Prim.Native.Nat.{ℕ, zero, suc, _<_, _≤_}
 use mathlib.Core.Path.{_≡_, refl}
@@ -21,7 +22,7 @@ use Rattle.refusal_laws.proofs.Agreements.{Refuses, Agree, agree-same, 
 pub below-iff : (x y : ℕ) → (ltb x y ≡ true) ↔ (x < y)
 below-iff x y = (ltb-true x y, lt-ltb x y)
 
--- a test fails just where what it tests does not hold
+-- a test fails exactly when what it tests does not hold
 pub fails-iff : (b : Bool) {P : Type 0} → (b ≡ true) ↔ P → (b ≡ false) ↔ (¬ P)
 fails-iff true i = (λ e. absurd (true-false refl e), λ h. absurd (h (i .0 refl)))
 fails-iff false i = (λ e p. true-false (i .1 p) refl, λ h. refl)
@@ -44,9 +45,9 @@ either-iff false c {P} {Q} p q = (λ e. inr (q .0 e), back)
     back (inl x) = absurd (true-false (p .1 x) refl)
     back (inr x) = q .1 x
 
--- ---- refused where something holds
+-- ---- refused if something holds
 
--- a test that refuses where P holds agrees with P and its answer
+-- a test that refuses if P holds agrees with P and its answer
 pub agree-if : (b : Bool) (given : Answer) (leaves : Leaves) {P : Type 0} → (b ≡ true) ↔ P → Agree (refusedIf b given leaves) (λ a. P × (a ≡ given))
 agree-if b given leaves {P} i = agree-by _ _ (λ a h. (leaves, rw (h .1) (refused-if b given leaves (i .1 (h .0))))) (go (test b))
   where
@@ -91,13 +92,13 @@ module _ (f : ℕ → Bool) (n : ℕ) {P : ℕ → Type 0} (holds : (k : ℕ) �
       back a zero l q = absurd (omega (arith, l .0 .0))
       back a (suc p) l q = (leaves, rw q (refuse p (found-iff p .1 l)))
 
-  -- number and count may be those of the place
+  -- number and count may depend on the place
   pub agree-at : (number count : ℕ → ℕ) (leaves : Leaves)
       → Agree (let p = least f n in refusedAt (number p) p (count p) leaves) (λ a. (p : ℕ) × Least P n p × (a ≡ answer (number p) p (count p)))
   unfolding refusedAt
   agree-at number count leaves = agree-least _ (λ p. answer (number p) p (count p)) leaves (λ e. rw e) (λ p e. rw e)
 
-  -- it passes where P holds nowhere
+  -- the test passes if P holds nowhere
   pub at-passed : (number count : ℕ) (leaves : Leaves) → refusedAt number (least f n) count leaves ≡ passed → (k : ℕ) → 1 ≤ k → k ≤ n → ¬ P k
   unfolding refusedAt
   at-passed number count leaves e k l u x = go (least f n) refl e
@@ -108,7 +109,7 @@ module _ (f : ℕ → Bool) (n : ℕ) {P : ℕ → Type 0} (holds : (k : ℕ) �
 
 -- ---- refused with the fault of the least place that has one
 
--- the fault of place k: none, or m just where `Bad k m`
+-- the fault of place k: none, or m exactly when `Bad k m`
 pub record Faults (fault : ℕ → ℕ) (Bad : ℕ → ℕ → Type 0) : Type 0 where
   pub is : (k m : ℕ) → Bad k m → (fault k ≡ m) × (0 < m)
   pub some : (k : ℕ) → (fault k ≡ 0) ⊎ Bad k (fault k)

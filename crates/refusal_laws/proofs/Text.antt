@@ -1,4 +1,4 @@
--- The tests of a job text against their conditions.
+-- Proves that the tests of a job text (25 and 26) agree with their conditions, line by line.
 -- Assumes nothing.
 use Prim.Native.Nat.{ℕ, suc, _<_}
 use mathlib.Core.Path.{_≡_, _∙_}
@@ -23,12 +23,12 @@ use Rattle.refusal_laws.proofs.Tests.{below-iff, fails-iff, either-iff,
 use Rattle.refusal_laws.proofs.TextLines.{head-line-iff, row-line-iff}
 
 module _ (input : Input) where
-  -- 26 at 0
+  -- the test of 26 at place 0 agrees with its condition
   input-agree : Agree (inputTest input) (InputOver input)
   unfolding inputTest
   input-agree = agree-if _ _ untouched (either-iff (input .more) _ (λ e. e, λ e. e) (below-iff inputBytes (length (input .text))))
 
-  -- 25 and 26 at line 1
+  -- the test of line 1 (25 and 26) agrees with its condition
   fine-iff : (textHead (input .text) .fine ≡ true) ↔ HeadLine (input .text)
   unfolding textHead
   fine-iff = head-line-iff (input .text)
@@ -58,7 +58,7 @@ module _ (input : Input) where
       go (passes f) (passes c) = inr (answer 26 1 0, columns-over (fine-iff .0 f) (over-iff .0 c))
       go (passes f) (fails c) = inl (head-fine f ∙ passed-if _ _ untouched c)
 
--- 25 and 26 at a row line
+-- the test of a row line (25 and 26) agrees with its condition
 module _ (text : List ℕ) where
   module _ (j : ℕ) where
     listed-over : Bool
@@ -98,12 +98,12 @@ lines-agree input =
     agree-faults (line-faults (input .text)) (textHead (input .text) .n) _ (λ number j. answer number (suc j) 0) untouched (λ e. rw (e, rowLinesTest))
     (λ p e. rw (e, rowLinesTest))
 
--- 25 behind the last row line
+-- the test of 25 behind the last row line agrees with its condition
 end-agree : (input : Input) → Agree (endTest input) (TextAfter input)
 unfolding endTest
 end-agree input = agree-if _ _ untouched (below-iff 0 (length (afterLines (suc (textHead (input .text) .n)) (input .text))))
 
--- a text is refused by just the numbers and lines of its conditions
+-- a text is refused exactly by the numbers and lines of its conditions
 pub text-agree : (input : Input) → AgreeEach textTests textConditions input
 unfolding textTests
 text-agree input = input-agree input ▸ λ p. head-agree input ▸ λ p. lines-agree input ▸ λ p. end-agree input ▸ λ p. tt

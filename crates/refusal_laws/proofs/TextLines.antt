@@ -1,4 +1,4 @@
--- A line of a job text reads as numbers just where it is those numbers, spelt out.
+-- Proves that a line of a job text reads as numbers exactly when it consists of those numbers, spelt out.
 -- Assumes nothing.
 use Prim.Native.Nat.{ℕ, _^_, _<_}
 use mathlib.Core.Path.{_≡_, refl}
@@ -15,7 +15,7 @@ use Rattle.list_laws.proofs.Tests.{true-false}
 use Rattle.text_laws.specs.Grammar.{All, Short}
 use Rattle.text_laws.proofs.Numbers.{numbers-iff}
 
--- a line reads as numbers just where it is those numbers, spelt out
+-- a line reads as numbers exactly when it consists of those numbers, spelt out
 spelt-iff : (text : List ℕ) (q x : ℕ) (xs : List ℕ) → (numbersAt text q ≡ x ∷ xs) ↔ Spelt text q x xs
 spelt-iff text q x xs = (
   λ e. let (rest, line, short) = numbers-iff text q x xs .0 e in record { rest = rest; line = line; short = λ y m. each (x ∷ xs) short y m },

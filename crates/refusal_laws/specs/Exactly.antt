@@ -1,4 +1,4 @@
--- What is proved of the outcome of every entry point: which answer it gives, and what its lent slices then hold.
+-- Defines what is proved of the outcome of every entry point: which answer it gives, and what its lent slices hold afterwards.
 -- Assumes nothing.
 use Prim.Native.Nat.{_<_, _≤_}
 use mathlib.Core.Path.{_≡_}
@@ -8,10 +8,11 @@ use Rattle.papers.specs.declared.Answer.{Answer}
 use Rattle.papers.specs.Refusals.{Outcome}
 use Rattle.papers.specs.Conditions.{Condition, Answered, Unrefused}
 
--- `found` is the outcome of a call by its conditions: `lent` stood in the lent slices, `zero` is all of them zero, `done` is the outcome where
--- nothing is refused.
+-- `found` is the outcome of a call by its conditions: `lent` is what the lent slices held before, `zero` is all of them zero, and `done` is
+-- the outcome if nothing is refused
 pub record Exactly {C S : Type 0} (conditions : List (Condition C)) (call : C) (lent zero : S) (done found : Outcome S) : Type 0 where
-  -- a number, with its place and count, is answered exactly when its condition gives it and no condition tested earlier gives anything
+  -- the call answers a number, with its place and count, exactly when the condition of that number gives it and no condition tested earlier
+  -- gives anything
   pub refused-iff : (a : Answer) → 0 < a .number → (found .answer ≡ a) ↔ Answered conditions call a
   -- the call is done exactly when no condition gives anything
   pub done-iff : (found .answer .number ≡ 0) ↔ Unrefused conditions call

@@ -1,1 +1,1 @@
-// Each number is answered exactly when its condition holds and no test before it refuses. No code.
+// Laws of refusals: a call answers a number exactly when its condition, and none tested earlier, gives it. No code.

@@ -1,4 +1,4 @@
-// Pops, room in use and the peak of an order.
+// Computes pops, room in use and the peak of an order.
 ghost use mathlib.Core.Path.{_≡_};
 ghost use mathlib.Core.List.{map};
 ghost use Prim.Native.Nat.{_+_, _-_, _<_, _≤_, min};
@@ -10,14 +10,14 @@ ghost use Rattle.papers.specs.Room.{peakOf};
 ghost use Rattle.room.specs.Rows.{countAt, rowsIn, Column};
 ghost use Rattle.room.specs.Steps.{rowsAt, popsAt, Over, Stepped, Counted};
 
-// 0 of 0, and 1 of any other count.
+// 0 for 0, and 1 for any other count.
 fn at_most_one(count: u64) -> usize
     ensures { λ r. ⌜ r ≡ min count 1 ⌝ }
 {
     if count == 0 { 0 } else { 1 }
 }
 
-// The rows of column j.
+// The number of rows of column j.
 pub fn rows_of(factor: &[u64], j: usize) -> u64
     requires { ⌜ Column (now factor) j ⌝ }
     ensures { λ r. ⌜ (r ≡ rowsIn (now (factor .entry)) j) × (r ≤ maxColumns) ⌝ }
@@ -33,7 +33,8 @@ fn count_at(starts: &[u64], i: usize) -> u64
     starts[i + 1] - starts[i]
 }
 
-// The pops of each step: the number of its column's children, whose lists lie by their starts. The first k steps are counted.
+// Writes the pops of each step: the number of its column's children, from the starts of their lists. In the loop the first k steps are
+// counted.
 pub fn count_pops(starts: &[u64], order: &[u32], pops: &mut [u32])
     requires { ⌜ Counted (now starts) (now order) ⌝ }
     requires room { ⌜ length (now pops) ≡ length (now order) ⌝ }
@@ -46,8 +47,8 @@ pub fn count_pops(starts: &[u64], order: &[u32], pops: &mut [u32])
     }
 }
 
-// The room in use at a step of so many pops and rows. below[d] has the entries of the lowest d of the depth updates held, so a front
-// that lies over the top one begins at below[depth - 1].
+// The room in use at a step with these pops and rows. below[d] is the sum of the entries of the lowest d of the updates held, so a front
+// over the top update begins at below[depth - 1].
 pub fn in_use(below: &[u64], depth: usize, pops: usize, rows: u64) -> u64
     requires { ⌜ Over (now below) depth pops rows ⌝ }
     ensures { λ r. ⌜ r ≡ getD (now (below .entry)) (depth - min pops 1) 0 + t (rows + 1) ⌝ }
@@ -55,7 +56,7 @@ pub fn in_use(below: &[u64], depth: usize, pops: usize, rows: u64) -> u64
     below[depth - at_most_one(pops as u64)] + triangle::entries(rows + 1)
 }
 
-// The step done: its pops are off and its update is on, in one store; a root leaves none. Answers how many updates are then held.
+// Does the step: its pops come off and its update goes on, in one store; a root puts none on. Answers how many updates are held afterwards.
 pub fn hold(below: &mut [u64], depth: usize, pops: usize, rows: u64) -> usize
     requires { ⌜ Over (now below) depth pops rows ⌝ }
     ensures count { λ r. ⌜ r ≡ depth - pops + min rows 1 ⌝ }
@@ -68,8 +69,8 @@ pub fn hold(below: &mut [u64], depth: usize, pops: usize, rows: u64) -> usize
     left + at_most_one(rows)
 }
 
-// The peak: the greatest room in use of the steps, each of its column's rows and its pops. The first k steps are done, and depth
-// updates are held.
+// The peak: the greatest room in use of all steps, each with its column's rows and its pops. In the loop the first k steps are done, and
+// depth updates are held.
 pub fn peak(factor: &[u64], order: &[u32], pops: &[u32], below: &mut [u64]) -> u64
     requires { ⌜ Stepped (now factor) (now order) (now pops) ⌝ }
     requires room { ⌜ length (now order) < length (now below) ⌝ }

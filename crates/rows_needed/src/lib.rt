@@ -1,6 +1,5 @@
-// The exact number of factor rows, counted without storing a list.
-// In work the mark of column c stands at c, the first column of row r at n + r, for column c the next of the same row at n + n + c and the
-// place of its next pattern row at n + n + n + c.
+// Counts the factor rows exactly, without storing a list. In work, place c holds the mark of column c, place n + r the first column filed
+// under row r, place n + n + c the next column under the same row as c, and place n + n + n + c the place of c's next pattern row.
 ghost use mathlib.Core.Path.{_≡_};
 ghost use Prim.Native.Nat.{_+_, _<_};
 ghost use lib.ListN.{length, getD};
@@ -12,7 +11,7 @@ ghost use Rattle.column_laws.specs.Tested.{Tested};
 ghost use Rattle.rows_needed.specs.Buckets.{filed};
 ghost use Rattle.rows_needed.specs.Walk.{Filing, Walk, Begun, Lengths};
 
-// Files column c, with q as the place of its next pattern row, in the bucket of that row, if it has one.
+// Files column c under its next pattern row, which is at place q, if it has one.
 pub fn file(n: usize, c: usize, q: u64, starts: &[u64], rows: &[u32], work: &mut [u64])
     requires { ⌜ Filing n c q (now starts) (now rows) (now work) ⌝ }
     ensures { λ _. ⌜ now (work .exit) ≡ filed n c q (now (starts .entry)) (now (rows .entry)) (now (work .entry)) ⌝ }
@@ -25,7 +24,8 @@ pub fn file(n: usize, c: usize, q: u64, starts: &[u64], rows: &[u32], work: &mut
     }
 }
 
-// Does all columns whose next pattern row is i: each is climbed from, and filed under its row after i. Answers the count with row i.
+// Does all columns whose next pattern row is i: climbs from each, and files it under its row after i. Answers the count with those of row
+// i.
 pub fn walk(
     n: usize,
     i: usize,
@@ -64,8 +64,8 @@ pub fn begin(n: usize, starts: &[u64], rows: &[u32], work: &mut [u64])
     }
 }
 
-// The number of rows of all the lists R together: the rows are taken one by one, and a column has row i just where it is reached by
-// climbing from a column whose pattern has it.
+// Counts the rows of all lists R(j) together. Takes the rows one by one: a column has row i exactly when climbing from a column whose
+// pattern has row i reaches it.
 pub fn rows_needed(
     n: usize,
     starts: &[u64],

@@ -1,4 +1,4 @@
-// A column's rows in a factor, and whether an update's rows stand in a column's front.
+// Finds a column's rows in a factor, and tests whether an update's rows are in a column's front.
 ghost use mathlib.Core.Path.{_≡_};
 ghost use mathlib.Core.List.{_∷_};
 ghost use lib.ListN.{length};
@@ -8,7 +8,7 @@ ghost use Rattle.papers.specs.Tree.{t};
 ghost use Rattle.run_front.specs.Factor.{Factor, Column};
 ghost use Rattle.run_front.specs.Search.{Bracket, Alike};
 
-// The rows of a column, as the part of the factor's rows that holds them.
+// The rows of a column, as a part of the factor's rows.
 pub fn rows_of<'a>(n: u64, starts: &[u64], rows: &'a [u32], column: u64) -> &'a [u32]
     requires factor { ⌜ Factor n (now starts) (now rows) ⌝ }
     requires column { ⌜ Column n column ⌝ }
@@ -20,7 +20,7 @@ pub fn rows_of<'a>(n: u64, starts: &[u64], rows: &'a [u32], column: u64) -> &'a 
     &rows[from..end]
 }
 
-// The entries of a column's update.
+// The number of entries of a column's update.
 pub fn entries_of(n: u64, starts: &[u64], rows: &[u32], column: u64) -> u64
     requires factor { ⌜ Factor n (now starts) (now rows) ⌝ }
     requires column { ⌜ Column n column ⌝ }
@@ -29,7 +29,7 @@ pub fn entries_of(n: u64, starts: &[u64], rows: &[u32], column: u64) -> u64
     triangle::entries(rows_of(n, starts, rows, column).len() as u64)
 }
 
-// The place of a row among ascending rows, known to lie from lo on and no later than hi. Each turn halves what lies between.
+// The place of a row among ascending rows, known to be from lo to hi. Each turn halves the range.
 fn bisect(rows: &[u32], row: u32, lo: usize, hi: usize) -> usize
     requires ascending { ⌜ Asc 0 (now rows) ⌝ }
     requires between { ⌜ Bracket (now rows) row lo hi ⌝ }
@@ -48,8 +48,8 @@ fn bisect(rows: &[u32], row: u32, lo: usize, hi: usize) -> usize
     low
 }
 
-// The place of a row among ascending rows: the first that is not below it. All rows before `from` are below it, and the search looks at
-// places ever further behind `from`, so that it costs by how far the place lies, not by how many rows there are.
+// The place of a row among ascending rows: the first that is not below it. All rows before `from` are below it. The search looks ever
+// further behind `from`, so its cost depends on how far the place is, not on how many rows there are.
 fn seek(rows: &[u32], row: u32, from: usize) -> usize
     requires ascending { ⌜ Asc 0 (now rows) ⌝ }
     requires passed { ⌜ Bracket (now rows) row from (length (now rows)) ⌝ }
@@ -67,7 +67,7 @@ fn seek(rows: &[u32], row: u32, from: usize) -> usize
     bisect(rows, row, low, rows.len())
 }
 
-// How many rows two lists have alike, from their first rows on. The first i are.
+// Counts how many first rows two lists have in common. In the loop the first i agree.
 fn alike(a: &[u32], b: &[u32]) -> usize
     ensures { λ r. ⌜ Alike (now (a .entry)) (now (b .entry)) r ⌝ }
 {
@@ -82,8 +82,8 @@ fn alike(a: &[u32], b: &[u32]) -> usize
     i
 }
 
-// Whether each row of an update is the column itself or one of its rows. Both lists ascend, so a row is searched behind the last one found.
-// Mostly the rows that follow it follow in both lists: these are passed without a search.
+// Tests whether each row of an update is the column itself or one of its rows. Both lists ascend, so each row is searched behind the last
+// one found. Mostly the next rows follow in both lists: these are passed without a search.
 pub fn stands_in(column: u64, rows: &[u32], update: &[u32]) -> bool
     requires rows_ascending { ⌜ Asc 0 (now rows) ⌝ }
     requires update_ascending { ⌜ Asc 0 (now update) ⌝ }

@@ -1,4 +1,5 @@
--- What passes the check runs: its bytes are those of a sound plan, the checked slices hold that plan, and the parts handed on are its own lists.
+-- Proves that what passes the check runs: the bytes are those of a sound plan, the checked slices hold that plan, and the parts handed on
+-- are its own lists.
 -- Assumes nothing.
 use Prim.Native.Nat.{ℕ, _<_, _≤_}
 use mathlib.Core.Path.{_≡_, sym, ap, subst, _∙_}
@@ -22,7 +23,7 @@ use Rattle.run_laws.proofs.SoundRuns.{sound-plan-runs, less-room-refuse
 use Rattle.run_laws.proofs.HandedOn.{handed-on}
 
 module _ (job : Job) (stack : List ℕ) (long : job .n ≤ length stack) where
-  -- slices that hold a sound plan of a valid job
+  -- slices that hold a sound plan of a valid job run
   held-plan-runs : (plan : Plan) (lent : Lent) → first jobTests job ≡ passed → Sound job plan
       → RunsInPeak job (holdingPlan job plan lent) (plan .peak) stack
   held-plan-runs plan lent valid sound =
@@ -32,7 +33,7 @@ module _ (job : Job) (stack : List ℕ) (long : job .n ≤ length stack) where
         less = λ room h. rw (handed-on job plan lent room stack fit) (less-room-refused job plan valid sound room stack long h);
       }
 
-  -- any plan bytes that the check passes for a job run on the checked lists, with the declared peak as room, and with no less
+  -- the lists of a checked plan run in its declared peak, and in no less room, whatever bytes they come from
   pub checked-plan-runs : (bytes : List ℕ) → ((i : ℕ) → getD bytes i 0 < 256) → (lent : Lent) → checked job bytes lent .answer .number ≡ 0
       → CheckedRun job bytes lent stack
   checked-plan-runs bytes are-bytes lent done =
@@ -45,8 +46,8 @@ module _ (job : Job) (stack : List ℕ) (long : job .n ≤ length stack) where
         in-peak = rw holds (held-plan-runs plan lent (p .valid) (p .sound));
       }
 
-  -- the same of what the code answers: o any outcome that the contract of the check allows, r any that the contract of the run allows on the parts
-  -- handed on, with the count answered as room
+  -- the same of what the code answers: o is any outcome that the contract of the check allows, and r any that the contract of the run
+  -- allows on the parts handed on, with the check's count as room
   pub answers-run : (bytes : List ℕ) → ((i : ℕ) → getD bytes i 0 < 256) → (lent : Lent) (o : Outcome Lent) (r : Outcome (List ℕ))
       → o ≡ checked job bytes lent → o .answer .number ≡ 0 → r ≡ ran (handedOn (job .n) (o .lent) (o .answer .count) stack)
       → (r ≡ record { answer = answer 0 0 (o .answer .count); lent = zeros stack }) × Runs (pattern job) (o .answer .count)
@@ -62,7 +63,7 @@ module _ (job : Job) (stack : List ℕ) (long : job .n ≤ length stack) where
           (checked job bytes lent .answer .count) stack)
       counted z = let c = checked-plan-runs bytes are-bytes lent z in let k = ap (λ (a : Answer). a .count) (c .counted) in rw k (c .in-peak .runs)
 
-  -- the lists of a plan that was written run as well
+  -- the lists of a written plan run as well
   pub written-plan-runs : (slices : PlanLent) → planWritten job slices .answer .number ≡ 0
       → RunsInPeak job (planWritten job slices .lent .analysis) (planOf job .peak) stack
   written-plan-runs slices done =

@@ -1,5 +1,5 @@
--- A run over the lists R of a pattern in an order of its columns: of all the conditions by which a run is refused only a lack of room can hold. So it
--- is done with a room of its peak, and with less some step lacks room.
+-- Proves that a run over the lists R(j) of a pattern, in an order of its columns, can only be refused for lack of room. So with its peak as
+-- room it is done, and with less some step lacks room.
 -- Assumes nothing.
 use Prim.Native.Nat.{ℕ, zero, suc, _-_, _<_, _≤_}
 use mathlib.Core.Path.{_≡_, refl, ap}
@@ -71,7 +71,7 @@ module _ {A : Pattern} {call : RunCall} (f : Follows A call) where
       let exactly = run-exactly call in
       rw (← greatest-peak f) (exactly .when-done (exactly .done-iff .1 (unrefused none)))
 
-  -- such a run is done, and goes as the paper wants
+  -- such a run is done, and has all that `Runs` demands
   pub follows-runs : peak (call .n) A (call .columns) ≤ call .room → Runs A (peak (call .n) A (call .columns)) call
   follows-runs h = record {
     steps = f .ordered;
@@ -90,13 +90,13 @@ module _ {A : Pattern} {call : RunCall} (f : Follows A call) where
 
   -- ---- with less
 
-  -- where no step is the first at fault, none is at fault
+  -- if no step is the first at fault, none is at fault
   none-bad : ((b : Answer) → ¬ BadStep call b) → (s : ℕ) → IsStep call s → (m : ℕ) → ¬ StepFault call s m
   none-bad none =
       strong (λ s. IsStep call s → (m : ℕ)
       → ¬ StepFault call s m) (λ s ih i m bad. none _ (s, m, i, bad, λ k m l h b. ih k h (l, omega arith) m b, refl))
 
-  -- a run with less is refused with 23
+  -- with less room than the peak the run is refused with 23
   pub less-refused : call .room < peak (call .n) A (call .columns) → LacksRoom call
   less-refused h = go (ran call .answer .number) refl
     where

@@ -1,4 +1,4 @@
--- The lists that a run is given: where they are the lists R of a pattern, they pass 4, 5 and 6, and the rows of every column are its R.
+-- Proves that the lists R(j) of a pattern, handed to a run, pass 4, 5 and 6, and that the rows of every column are then its R(j).
 -- Assumes nothing.
 use Prim.Native.Nat.{ℕ, zero, suc, _<_, _≤_}
 use mathlib.Core.Path.{_≡_, refl, sym, _∙_}
@@ -48,7 +48,7 @@ module _ {A : Pattern} {call : RunCall} (f : Follows A call) where
   pub lists-pass : PassedLists (call .n) (call .starts) (call .rows)
   lists-pass = rw (f .starts, f .rows) (factor-pass (f .below))
 
-  -- the rows of every column are its R
+  -- the rows of every column are its R(j)
   pub rows-in : (c : ℕ) → rowsIn call c ≡ R A c
   unfolding rowsIn
   rows-in c = rw (f .starts, f .rows) (factor-column (f .below) c)

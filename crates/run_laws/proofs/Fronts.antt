@@ -1,5 +1,5 @@
--- One step of a run over the lists R of a pattern: what it pops are its column's children, whose rows but the column itself are rows of the column;
--- and a row of the column is in the pattern or comes from a child.
+-- Proves one step of a run over the lists R(j) of a pattern. It pops its column's children; their rows, except the column itself, are rows
+-- of the column; and a row of the column is in the pattern or comes from a child.
 -- Assumes nothing.
 use Prim.Native.Nat.{ℕ, zero, suc, _<_, _≤_}
 use mathlib.Core.Path.{_≡_, sym, ap, _∙_}
@@ -32,7 +32,7 @@ use Rattle.run_laws.proofs.Factor.{rows-in, columns-long}
 use Rattle.run_laws.proofs.States.{pops-at, held-in}
 
 module _ {A : Pattern} {call : RunCall} (f : Follows A call) where
-  -- what a step finds held, and how many it pops
+  -- what is held before a step, and how many it pops
   held-at : (s : ℕ) → suc s ≤ call .n → heldAt call (suc s) ≡ heldColumns (parent A) (popsOf (call .n) A) (call .columns) s
   held-at s h = ap (λ k. stateAfter call k .held) (omega arith) ∙ held-in f s (omega arith)
 
@@ -48,13 +48,13 @@ module _ {A : Pattern} {call : RunCall} (f : Follows A call) where
   step-held (suc s) i =
       rw (pops-at f s (i .1), held-at s (i .1)) (step-enough (tree-of (f .below)) (call .columns) (f .ordered) s (omega (arith, columns-long f)))
 
-  -- a step pops the updates of its column's children, and no others
+  -- a step pops the updates of its column's children only
   pub step-popped : (s : ℕ) → IsStep call s → (x : ℕ) → (x ∈ poppedAt call s) ↔ (parent A x ≡ stepColumn call s)
   step-popped zero i x = absurd (omega arith)
   step-popped (suc s) i x =
       rw (pops-at f s (i .1), held-at s (i .1)) (step-takes (tree-of (f .below)) (call .columns) (f .ordered) s (omega (arith, columns-long f)) x)
 
-  -- each once, since it pops no more than there are children
+  -- a step pops each child once, since it pops no more than there are children
   pub step-once : (s : ℕ) → IsStep call s → Distinct (poppedAt call s)
   step-once s i =
       let j = stepColumn call s in
@@ -62,7 +62,7 @@ module _ {A : Pattern} {call : RunCall} (f : Follows A call) where
       (λ x m. step-popped s i x .1 (children-of (tree-of (f .below)) j x (step-known s i .0) .0 m))
       (omega (arith, length-take-le (popsAt call s) (heldAt call s) (step-held s i), step-pops s i))
 
-  -- every popped row has a place in the front
+  -- each row of a popped update is in the front
   pub popped-fit : (s : ℕ) → IsStep call s → AllFit call s
   popped-fit s i u r m k =
       let child = step-popped s i u .0 m in
@@ -75,11 +75,11 @@ module _ {A : Pattern} {call : RunCall} (f : Follows A call) where
       go child up row (inl e) = List·Memᴰ·head (sym e ∙ child)
       go child up row (inr l) = List·Memᴰ·tail (rw child at (hands-on (f .below) u r up row l))
 
-  -- so has every pattern row
+  -- each pattern row is in the front
   pub pattern-fit : (s i : ℕ) → i ∈ A (stepColumn call s) → i ∈ frontAt call s
   pattern-fit s i m = rw (rows-in f (stepColumn call s)) (List·Memᴰ·tail (R-pattern (f .below) (stepColumn call s) i m))
 
-  -- apart from the column itself the front holds nothing else
+  -- a row of the front is the column itself, a pattern row, or a row of a popped update
   pub front-only : (s : ℕ) → IsStep call s → (i : ℕ) → i ∈ frontAt call s → i ≢ stepColumn call s
       → (i ∈ A (stepColumn call s)) ⊎ ((x : ℕ) × (x ∈ poppedAt call s) × (i ∈ rowsIn call x))
   front-only s is i m other =

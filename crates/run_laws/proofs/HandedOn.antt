@@ -1,4 +1,4 @@
--- The lists of an analysis or a check, handed on as the parts that hold the result, are the plan's own lists: the zeros after them fall away.
+-- Proves that the lists of an analysis or a check, handed on without the zeros behind them, are the plan's own lists.
 -- Assumes nothing.
 use Prim.Native.Nat.{ℕ}
 use mathlib.Core.Path.{_≡_, refl}
@@ -14,7 +14,7 @@ use Rattle.bytes_laws.proofs.Plans.{Fit}
 use Rattle.job_laws.proofs.Parts.{length-columns, length-pops, length-begins, last-begin}
 use Rattle.run_laws.specs.Runs.{planRun}
 
--- a run of the lists that are handed on is a run of the plan's own
+-- a run of the lists handed on is a run of the plan's own lists
 pub handed-on : (job : Job) (plan : Plan) (lent : Lent) (room : ℕ) (stack : List ℕ) → Fit (job .n) plan
     → handedOn (job .n) (holdingPlan job plan lent) room stack ≡ planRun (job .n) plan room stack
 unfolding handedOn holdingPlan holding

@@ -1,4 +1,4 @@
--- A list that has all numbers of a list without repeats, and is no longer, has no repeats either.
+-- Proves that a list which has all numbers of a list without repeats, and is no longer, has no repeats either.
 -- Assumes nothing.
 use Prim.Native.Nat.{ℕ, _≤_}
 use mathlib.Core.Path.{_≡_}
@@ -23,7 +23,7 @@ distinct-by-count (x ∷ l) k d h c =
     other : ℕ → Bool
     other i = not (eqb i x)
 
-    -- the numbers of k but x
+    -- the numbers of k without x
     others : List ℕ
     others = keep other k
 
@@ -37,7 +37,7 @@ distinct-by-count (x ∷ l) k d h c =
         go (passes e) = List·Memᴰ·head (eqb-true i x e)
         go (fails e) = List·Memᴰ·tail (keep-into other k m (rw e))
 
-    -- x stands once: else l alone would have all of k
+    -- x occurs once: if it occurred twice, the rest of l would have all of k
     again : ¬ (x ∈ l)
     again m = omega (arith, distinct-length k l d (λ i a. still i (List·Memᴰ·cases-cons (h i a))))
       where

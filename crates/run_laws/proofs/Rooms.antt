@@ -1,4 +1,5 @@
--- The rooms in use at the steps of a run over the lists R of a pattern are those of its order, so none is over the peak and one is the peak.
+-- Proves that the rooms in use at the steps of a run over the lists R(j) of a pattern are those of its order, so no room is over the peak
+-- and one equals it.
 -- Assumes nothing.
 use Prim.Native.Nat.{ℕ, zero, suc, _<_, _≤_}
 use mathlib.Core.Path.{_≡_, refl, sym, ap, _∙_}
@@ -38,19 +39,19 @@ module _ {A : Pattern} {call : RunCall} (f : Follows A call) where
       ∙ room-at-step (rowCount A) (popsOf (call .n) A) [] (call .columns) s (omega (arith, columns-long f))
       ∙ sym (ap (λ k. roomIn call (suc s) (stateAfter call k)) (omega arith) ∙ room-in f s (i .1))
 
-  -- room in use never passes the peak
+  -- no step uses more room than the peak
   pub room-bound : (s : ℕ) → IsStep call s → roomUsed call s ≤ peak (call .n) A (call .columns)
   room-bound s i =
       rw (← room-is s i) (room-under-peak (call .n) A (call .columns) (columnAt used s) (column-in used s (i .0) (omega (arith, long-rooms))))
 
-  -- some step reaches it
+  -- some step uses as much
   pub room-reached : 0 < call .n → (s : ℕ) × IsStep call s × (roomUsed call s ≡ peak (call .n) A (call .columns))
   room-reached h =
       let p = step-of used (peak (call .n) A (call .columns)) (peak-reached (call .n) A (call .columns) (omega (arith, columns-long f))) in
       let i : IsStep call (p .step) = (p .behind, omega (arith, p .within, long-rooms)) in
       (p .step, i, sym (room-is (p .step) i) ∙ p .is)
 
-  -- a peak that is not 0 needs a step
+  -- if the peak is not 0 there is a step
   pub peak-step : 0 < peak (call .n) A (call .columns) → 0 < call .n
   peak-step h = go (call .columns) refl
     where
@@ -58,7 +59,7 @@ module _ {A : Pattern} {call : RunCall} (f : Follows A call) where
       go [] e = absurd (omega (arith, rw e at h, peak-empty (call .n) A))
       go (j ∷ js) e = omega (arith, ap length e, columns-long f)
 
-  -- the greatest of all is the peak
+  -- the greatest room of all steps is the peak
   pub greatest-peak : stateAfter call (call .n) .greatest ≡ peak (call .n) A (call .columns)
   unfolding peak
   greatest-peak = rw (greatest-in f (call .n) (omega arith), ← columns-long f, take-length (call .columns))

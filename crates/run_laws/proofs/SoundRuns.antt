@@ -1,4 +1,5 @@
--- A sound plan runs in its declared peak: its lists are R, its order has whole subtrees, and its pops are the numbers of children.
+-- Proves that a sound plan runs in its declared peak: its lists are R(j), its order has whole subtrees, and its pops are the numbers of
+-- children.
 -- Assumes nothing.
 use Prim.Native.Nat.{ℕ, _<_, _≤_}
 use mathlib.Core.Path.{_≡_, ap}
@@ -33,6 +34,6 @@ module _ (job : Job) (plan : Plan) (valid : first jobTests job ≡ passed) (soun
   pub sound-plan-runs : plan .peak ≤ room → Runs (pattern job) (plan .peak) (planRun (job .n) plan room stack)
   sound-plan-runs h = rw (sound .greatest) (follows-runs follows (rw (← sound .greatest) h))
 
-  -- with less room it is refused with 23
+  -- with less room than the peak it is refused with 23
   pub less-room-refused : room < plan .peak → LacksRoom (planRun (job .n) plan room stack)
   less-room-refused h = less-refused follows (rw (← sound .greatest) h)

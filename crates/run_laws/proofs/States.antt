@@ -1,5 +1,5 @@
--- A run step by step. Over the lists R of a pattern the columns held are those that the order holds, so each step's room in use is the one that the
--- peak is the greatest of.
+-- Proves the states of a run over the lists R(j) of a pattern. The columns held are those that the order holds, so the room in use at each
+-- step is the room of the order, whose greatest is the peak.
 -- Assumes nothing.
 use Prim.Native.Nat.{ℕ, zero, suc, _-_, _<_, _≤_, max}
 use mathlib.Core.Path.{_≡_, refl, sym, ap}
@@ -61,13 +61,13 @@ module _ {A : Pattern} {call : RunCall} (f : Follows A call) where
           let up : 0 < parent A c = rw e (omega (arith, R-range (f .below) c r (rw e (List·Memᴰ·head refl)))) in
           rw (rows-in f c, e, pushed) (sym (pushed-update (parent A) c l up))
 
-  -- the columns held
+  -- the columns held are those that the order holds
   pub held-in : (s : ℕ) → s ≤ call .n → stateAfter call s .held ≡ heldColumns (parent A) (popsOf (call .n) A) (call .columns) s
   unfolding stateAfter stepped heldColumns
   held-in zero h = refl
   held-in (suc s) h = rw (pops-at s h, held-in s (omega arith)) (push-in (columnAt order (suc s)) (drop (pops (columnAt order (suc s))) (held s)))
 
-  -- the room in use at a step, over what the steps before it leave
+  -- the room in use at a step, from what the steps before it leave
   pub room-in : (s : ℕ) → s < call .n
       → roomIn call (suc s) (stateAfter call s)
       ≡ roomAt (popsOf (call .n) A (getD (call .columns) s 0)) (rowCount A (getD (call .columns) s 0)) (heldAfterAll (rowCount A) (popsOf (call .n) A)

@@ -1,4 +1,4 @@
--- Each step of a run goes by the rules: they are its definition, read part by part.
+-- Proves that each step of a run follows the rules: these are its definition, read part by part.
 -- Assumes nothing.
 use Prim.Native.Nat.{ℕ, zero, suc, _-_, _≤_, max}
 use mathlib.Core.Path.{_≡_, refl, ap, _∙_}
@@ -27,7 +27,7 @@ module _ (call : RunCall) where
   unfolding stateAfter
   run-begins = refl
 
-  -- each step of a run follows by the rules
+  -- each step of a run follows the rules
   pub run-step : (s : ℕ) → 1 ≤ s → StepRule call s
   unfolding stateAfter stepped roomIn entries
   run-step zero l = absurd (omega arith)

@@ -1,4 +1,4 @@
--- A run of the lists R of a pattern, in an order of its columns.
+-- Defines a run of the lists R(j) of a pattern, in an order of its columns.
 -- Assumes nothing.
 use Prim.Native.Nat.{_≤_}
 use mathlib.Core.Path.{_≡_}

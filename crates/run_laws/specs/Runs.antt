@@ -1,4 +1,4 @@
--- What is proved of the run of a plan that passed the check.
+-- Defines what is proved of the run of a plan that passed the check.
 -- Assumes nothing.
 use Prim.Native.Nat.{ℕ, _-_, _<_, _≤_, max}
 use mathlib.Core.Path.{_≡_}
@@ -41,13 +41,13 @@ poppedAt call s = take (popsAt call s) (heldAt call s)
 abbrev pub frontAt : RunCall → ℕ → List ℕ
 frontAt call s = frontIn call (stepColumn call s)
 
--- room in use at step s
+-- the room in use at step s
 abbrev pub roomUsed : RunCall → ℕ → ℕ
 roomUsed call s = roomIn call s (stateAfter call (s - 1))
 
--- Step s of a run, whatever lists it is given, makes of the state before it what the rules say.
+-- step s of a run, whatever lists the run is given, changes the state as the rules say
 pub record StepRule (call : RunCall) (s : ℕ) : Type 0 where
-  -- its pops are off; a root, of no rows, leaves nothing, any other column its update
+  -- its pops are off; a root has no rows and leaves nothing, any other column leaves its update
   pub root : rowsIn call (stepColumn call s) ≡ [] → stateAfter call s .held ≡ drop (popsAt call s) (heldAt call s)
   pub update : rowsIn call (stepColumn call s) ≢ [] → stateAfter call s .held ≡ stepColumn call s ∷ drop (popsAt call s) (heldAt call s)
   -- room in use counts the entries of each update held before the step, the top one first
@@ -55,43 +55,43 @@ pub record StepRule (call : RunCall) (s : ℕ) : Type 0 where
       (map (λ c. t (length (rowsIn call c))) (heldAt call s))
   pub greatest : stateAfter call s .greatest ≡ max (stateAfter call (s - 1) .greatest) (roomUsed call s)
 
--- A run for the pattern A with a declared peak goes as the paper wants.
+-- a run for the pattern A with a declared peak is as the third demand asks
 pub record Runs (A : Pattern) (peak : ℕ) (call : RunCall) : Type 0 where
-  -- each column has its step, each subtree its consecutive steps
+  -- each column has one step, and each subtree takes consecutive steps
   pub steps : Ordered (parent A) (call .n) (call .columns)
-  -- each step pops the updates of its column's children, and no others; each once
+  -- each step pops the updates of its column's children, no others, and each once
   pub popped : (s : ℕ) → IsStep call s → (x : ℕ) → (x ∈ poppedAt call s) ↔ (parent A x ≡ stepColumn call s)
   pub once : (s : ℕ) → IsStep call s → Distinct (poppedAt call s)
-  -- the lists are the pattern's: a column's front, and its update
+  -- the lists are the pattern's: each column's front, and its update
   pub fronts : (s : ℕ) → IsStep call s → frontAt call s ≡ front A (stepColumn call s)
   pub updates : (x : ℕ) → rowsIn call x ≡ update A x
-  -- every pattern row, and every popped row, has a place in the front
+  -- the front has a place for each pattern row and each row of a popped update
   pub pattern-placed : (s : ℕ) → IsStep call s → (i : ℕ) → i ∈ A (stepColumn call s) → i ∈ frontAt call s
   pub popped-placed : (s : ℕ) → IsStep call s → (x i : ℕ) → x ∈ poppedAt call s → i ∈ rowsIn call x → i ∈ frontAt call s
-  -- apart from the column itself the front holds nothing else
+  -- each row of the front except the column comes from the pattern or a popped update
   pub nothing-else : (s : ℕ) → IsStep call s → (i : ℕ) → i ∈ frontAt call s → i ≢ stepColumn call s
       → (i ∈ A (stepColumn call s)) ⊎ ((x : ℕ) × (x ∈ poppedAt call s) × (i ∈ rowsIn call x))
-  -- room in use never passes the peak, and some step reaches it if there is a step
+  -- no step uses more room than the peak, and if there are steps one uses as much
   pub room : (s : ℕ) → IsStep call s → roomUsed call s ≤ peak
   pub reached : 0 < call .n → (s : ℕ) × IsStep call s × (roomUsed call s ≡ peak)
-  -- the stack ends empty
+  -- after the last step nothing is held
   pub empty : stateAfter call (call .n) .held ≡ []
-  -- all steps are done, with no refusal
+  -- all steps are done, and nothing is refused
   pub completes : ran call ≡ record { answer = answer 0 0 peak; lent = zeros (call .stack) }
 
--- A run is refused with 23 at a step that needs more room than there is.
+-- a run is refused with 23 at a step that needs more room than is given
 pub record LacksRoom (call : RunCall) : Type 0 where
   pub step : ℕ
   pub is : IsStep call step
   pub over : call .room < roomUsed call step
   pub refused : ran call ≡ record { answer = answer 23 step (stateAfter call (step - 1) .greatest); lent = zeros (call .stack) }
 
--- Lists in lent slices, handed on with a declared peak as room, run; with any less room they are refused.
+-- lists in lent slices run with the declared peak as room, and are refused with any less
 pub record RunsInPeak (job : Job) (lent : Lent) (peak : ℕ) (stack : List ℕ) : Type 0 where
   pub runs : Runs (pattern job) peak (handedOn (job .n) lent peak stack)
   pub less : (room : ℕ) → room < peak → LacksRoom (handedOn (job .n) lent room stack)
 
--- Plan bytes that passed the check: the plan that they are, and the run of the checked lists with its declared peak as room.
+-- plan bytes that passed the check: they encode a plan, and the lists that the check delivers run in the peak it declares
 pub record CheckedRun (job : Job) (bytes : List ℕ) (lent : Lent) (stack : List ℕ) : Type 0 where
   pub plan : Plan
   pub declared : bytes ≡ planBytes job plan

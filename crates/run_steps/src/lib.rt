@@ -1,4 +1,4 @@
-// What a run answers from its first step on: the loop over its steps.
+// Runs the steps one after the other: tests each step, takes it, and finds what the run answers.
 use papers::Answer;
 use run_held::Held;
 ghost use mathlib.Core.Path.{_≡_};
@@ -11,8 +11,7 @@ ghost use lib.ListN.{length};
 ghost use Rattle.run_front.specs.Factor.{Factor};
 ghost use Rattle.run_steps.specs.Steps.{stepsAnswer};
 
-// Takes a step without fault, the `done` steps before it taken: pops its updates and puts its own column on the stack list, unless it
-// is a root.
+// Takes a step that has no fault, after `done` steps: pops its updates, and puts its own column on the stack list, unless it is a root.
 fn take_step(
     n: u64,
     starts: &[u64],
@@ -45,8 +44,8 @@ fn take_step(
     next
 }
 
-// The fault of a step, the `done` steps before it taken: 14 its column is not in 1..n; 21 it pops more than is held; 22 a popped row is
-// outside its front; 23 its room in use is over the room given; 0 for none.
+// The fault of a step after `done` steps: 14 if there is no such column; 21 if fewer updates are held than it pops; 22 if the front has no
+// place for a popped row; 23 if it needs more room than is given; 0 if it has none.
 fn step_fault(
     n: u64,
     starts: &[u64],
@@ -86,8 +85,8 @@ fn step_fault(
     0
 }
 
-// The steps one after the other: the first fault, 14, 21, 22 or 23; else 24 where updates are left; else done. The count is the
-// greatest room in use of the steps fully done. The stack list has the columns held after `done` steps, bottom first.
+// Runs all steps. Answers the first fault, 14, 21, 22 or 23; else 24 if updates are left; else done. The count is the greatest room in use
+// of the completed steps. In the loop the stack list holds the columns of the updates held after `done` steps, bottom first.
 pub fn steps(
     n: u64,
     starts: &[u64],

@@ -1,5 +1,5 @@
-// The updates held in the lent stack list: whether the popped ones stand in a front, their entries, and the room in use of a front over
-// them.
+// The updates held in the lent stack list: tests whether the popped ones fit a front, sums their entries, and computes the room in use of a
+// front over them.
 use run_held::Held;
 ghost use mathlib.Core.Path.{_≡_};
 ghost use Prim.Native.Nat.{_-_, _≤_};
@@ -21,8 +21,8 @@ fn held_column(n: u64, stack: &[u32], place: u64) -> u64
     stack[place as usize - 1] as u64
 }
 
-// Whether every row of every popped update stands in the front of the column. From the top down: the updates up to place `top` are not
-// looked at yet.
+// Tests whether every row of every popped update is in the front of the column, from the top down. In the loop the updates up to place
+// `top` are not tested yet.
 pub fn popped_fit(
     n: u64,
     starts: &[u64],
@@ -55,7 +55,7 @@ pub fn popped_fit(
     true
 }
 
-// The entries of the popped updates. From the top down: those up to place `top` are not added yet.
+// Sums the entries of the popped updates, from the top down. In the loop those up to place `top` are not added yet.
 pub fn popped_entries(
     n: u64,
     starts: &[u64],
@@ -82,7 +82,7 @@ pub fn popped_entries(
     total
 }
 
-// Room in use at a step: the entries held before it, less the top update if it pops, plus those of its front.
+// The room in use at a step: all that is held before it, without the top update if it pops any, and its front.
 pub fn room_in_use(
     n: u64,
     starts: &[u64],

@@ -1,4 +1,4 @@
-// A column and its children: the keys by which these descend, and the W of the column from theirs.
+// A column and its children: computes the keys by which siblings are sorted, and the W of the column from its children's W.
 ghost use mathlib.Core.Path.{_≡_};
 ghost use Prim.Native.Nat.{_+_, _-_, _≤_};
 ghost use lib.ListN.{length};
@@ -7,7 +7,7 @@ ghost use Rattle.papers.specs.Order.{siblingKey};
 ghost use Rattle.tree.specs.Laid.{part};
 ghost use Rattle.sibling_keys.specs.Kids.{keyAt, needAt, Kids, Keyed};
 
-// The key by which siblings descend: of a child with its rows and its W, under a parent with `above` rows.
+// The key of a child with these rows and this W, under a parent with `above` rows. Siblings go by descending key.
 fn sibling_key(mark: u64, above: u64, rows: u64, w: u64) -> u64
     requires { ⌜ rows ≤ maxColumns ⌝ }
     ensures { λ r. ⌜ r ≡ siblingKey mark above rows w ⌝ }
@@ -25,7 +25,8 @@ fn sibling_key(mark: u64, above: u64, rows: u64, w: u64) -> u64
     update
 }
 
-// Stores the key of each child of column j: the W of the columns stand in work from w on, the keys from k on. The first i are stored.
+// Stores the key of each child of column j. work holds the W of the columns from w on, and the keys from k on. In the loop the first i keys
+// are stored.
 pub fn store_keys(
     mark: u64,
     factor: &[u64],
@@ -52,7 +53,8 @@ pub fn store_keys(
     }
 }
 
-// The W of column j from those of its children, done in this order. held has the entries of the updates so far, before those but the last.
+// The W of column j, from those of its children, which are done in this order. In the loop held is the sum of the entries of the children's
+// updates so far, and before the sum of all these but the last.
 pub fn room_alone(factor: &[u64], rooms: &[u64], kids: &[u32], j: usize) -> u64
     requires { ⌜ Kids (now factor) (now rooms) (now kids) j ⌝ }
     ensures { λ r. ⌜ r ≡ needAt (now (factor .entry)) (now (rooms .entry)) (now (kids .entry)) j ⌝ }

@@ -1,8 +1,8 @@
-// Siblings arranged by the mark: each list sorted by its keys, in its place, and the W of each column stored.
+// Arranges siblings by the mark: sorts each list by its keys, in its place, and stores the W of each column.
 ghost use lib.ListN.{length};
 ghost use Rattle.siblings.specs.Arranged.{Sortable, Sorted, Placed, Arranged, Arrangeable, AllArranged};
 
-// Sorts the children of column j by the mark and stores the W of j: the keys, the sort, and W from the sorted children.
+// Sorts the children of column j by the mark and stores the W of j: computes the keys, sorts, and computes W from the sorted children.
 fn sort_kids(
     mark: u64,
     factor: &[u64],
@@ -44,8 +44,8 @@ fn arrange_at(
     sort_kids(mark, factor, &mut list[a..e], scratch, work, j, w, k);
 }
 
-// Arranges the children of every column, in their places, columns ascending: a child's W is known when its parent's children are sorted.
-// Mark 0 leaves them as they stand, ascending.
+// Arranges the children of every column in their places, columns ascending, so that a child's W is known when its parent's children are
+// sorted. Mark 0 leaves them as they are, ascending.
 pub fn arrange(
     mark: u64,
     factor: &[u64],

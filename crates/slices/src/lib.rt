@@ -1,11 +1,11 @@
-// Lent slices: cleared, whole or from a place on, and handed on in part.
+// Clears lent slices, whole or from a place on, and hands on a part of one.
 ghost use mathlib.Core.Path.{_≡_};
 ghost use Prim.Native.Nat.{_≤_};
 ghost use lib.ListN.{length, take};
 ghost use Rattle.papers.specs.Lists.{zeros};
 ghost use Rattle.slices.specs.From.{zerosFrom};
 
-// Sets every byte of a lent slice to zero. The bytes before i are zero, the others as they were.
+// Sets every byte of a lent slice to zero. In the loop the bytes before i are zero, the others as they were.
 pub fn clear8(bytes: &mut [u8])
     ensures { λ _. ⌜ now (bytes .exit) ≡ zeros (now (bytes .entry)) ⌝ }
 {
@@ -54,7 +54,7 @@ pub fn clear64_from(numbers: &mut [u64], from: usize)
     clear64(&mut numbers[from..]);
 }
 
-// The first count bytes of a slice: how a written key or plan is handed on. A count past the end gives the whole slice.
+// The first count bytes of a slice: a written key or plan is handed on so. A count past the end gives the whole slice.
 pub fn part(bytes: &[u8], count: usize) -> &[u8]
     ensures { λ r. ⌜ now r ≡ take count (now (bytes .entry)) ⌝ }
 {

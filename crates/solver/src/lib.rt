@@ -1,4 +1,4 @@
-// The solver's call: the bytes of a key and of a plan in, one number out.
+// The solver's call: takes the bytes of a key and of a plan, and answers one number.
 use papers::Answer;
 use papers::JobHead;
 use read_key::KeyReading;
@@ -11,7 +11,7 @@ ghost use Rattle.papers.specs.Text.{buffers};
 ghost use Rattle.papers.specs.Call.{solverAnswer, called};
 ghost use Rattle.read_key.specs.Keys.{KeyParts};
 
-// The check of a plan's bytes for a job, in zeroed buffers of the program's sizes.
+// Checks a plan's bytes for a job, in zeroed buffers of the program's sizes.
 fn check_in_buffers(head: JobHead, starts: &[u64], rows: &[u32], plan: &[u8]) -> Answer
     ensures { λ r. ⌜ r ≡ checked (jobOf head (now (starts .entry)) (now (rows .entry))) (now (plan .entry)) buffers .answer ⌝ }
 {
@@ -35,8 +35,8 @@ fn check_in_buffers(head: JobHead, starts: &[u64], rows: &[u32], plan: &[u8]) ->
     )
 }
 
-// The check of a plan's bytes for the job of a key that was read through and is within the sizes: its lists, which start at `at` and
-// have `count` rows, are read once more, into buffers of their own.
+// Checks a plan's bytes for the job of a key that was read through and is within the sizes. Reads the key's lists again, which start at
+// `at` and have `count` rows, into buffers of their own.
 fn check_for_key(key: &[u8], head: JobHead, count: u64, at: usize, plan: &[u8]) -> Answer
     requires lists { ⌜ KeyParts (now key) head count at ⌝ }
     requires columns { ⌜ head .n ≤ programColumns ⌝ }
@@ -50,11 +50,11 @@ fn check_for_key(key: &[u8], head: JobHead, count: u64, at: usize, plan: &[u8]) 
     check_in_buffers(head, &starts[..n + 1], &rows[..count as usize], plan)
 }
 
-// An answer is its number this many times, and its place.
+// The one number is this many times the answer's number, plus its place.
 const PLACES: u64 = 4294967296;
 
-// 27 for a key that is not readable, 26 for one with more columns or pattern rows than there is room for, else the check of the plan
-// for its job: the answer's number times 2^32, and its place.
+// Answers 27 if the key is not readable, 26 if its job is over the program's sizes, else the check of the plan for its job: the answer's
+// number times 2^32, plus its place.
 #[no_mangle]
 pub extern "C" fn check(key: &[u8], plan: &[u8]) -> u64
     ensures { λ r. ⌜ r ≡ called (now (key .entry)) (now (plan .entry)) ⌝ }

@@ -1,4 +1,4 @@
-// The run of a plan's steps on a stack of updates: its entry point.
+// The entry point of the run of a plan's steps on a stack of updates.
 use papers::Answer;
 ghost use mathlib.Core.Path.{_≡_};
 ghost use mathlib.Core.Bool.{_||_};
@@ -7,7 +7,7 @@ ghost use lib.ListN.{length};
 ghost use Rattle.papers.specs.Refusals.{EndsAs};
 ghost use Rattle.papers.specs.Run.{ran};
 
-// 7: whether columns, pops or stack list are shorter than n.
+// Test 7: whether columns, pops or stack list have fewer than n places.
 fn too_short(n: u64, columns: &[u32], pops: &[u32], stack: &[u32]) -> bool
     ensures { λ r. ⌜
         r ≡ (ltb (length (now (columns .entry))) n || ltb (length (now (pops .entry))) n || ltb (length (now (stack .entry))) n)
@@ -22,8 +22,8 @@ fn too_short(n: u64, columns: &[u32], pops: &[u32], stack: &[u32]) -> bool
     (stack.len() as u64) < n
 }
 
-// Runs n steps, each a column and its pops, on a factor's lists within a room. Refuses 1, 4, 5, 6, 7 before the first step, with the
-// stack list as it was, and from the steps on 14, 21, 22, 23 and 24; then, and when done, the stack list is zero.
+// Runs n steps, each a column and its pops, on a factor's lists within a room. Tests 1, 4, 5, 6 and 7 before the first step; these leave
+// the stack list as it was. From the steps on it answers 14, 21, 22, 23, 24 or done, and clears the stack list.
 pub fn run(
     n: u64,
     starts: &[u64],

@@ -1,5 +1,5 @@
-// The column lists R(j) of all columns, one behind the other, and the parents.
-// In work the first child of column j stands at j, the sibling behind column c at n + c.
+// Makes the lists R(j) of all columns, one behind the other, and the parents. In work, place j holds the first child of column j, and place
+// n + c the sibling behind column c.
 ghost use mathlib.Core.Path.{_≡_};
 ghost use Rattle.papers.specs.Lists.{head0};
 ghost use Rattle.papers.specs.Job.{columnOf};
@@ -7,7 +7,7 @@ ghost use Rattle.column_laws.specs.Tested.{Tested};
 ghost use Rattle.structure.specs.Hanging.{hanging, Hangable};
 ghost use Rattle.structure.specs.Listed.{Storable, Stores, Lengths, Listed};
 
-// Hangs column c under its parent p, before the children that p has; a root is not hung.
+// Hangs column c under its parent p, before the children that p has already. A root is not hung.
 pub fn hang(n: usize, p: usize, c: usize, work: &mut [u64])
     requires { ⌜ Hangable n p c (now work) ⌝ }
     ensures { λ _. ⌜ now (work .exit) ≡ hanging n p c (now (work .entry)) ⌝ }
@@ -19,7 +19,7 @@ pub fn hang(n: usize, p: usize, c: usize, work: &mut [u64])
     work[p] = c as u64;
 }
 
-// Stores a list as that of column m + 1: its rows, where they end, and its least row as the parent, under which the column is hung.
+// Stores a list as that of column m + 1: its rows, where they end, and its least row as the parent, and hangs the column under this parent.
 pub fn store(
     n: usize,
     m: usize,
@@ -43,7 +43,7 @@ pub fn store(
     hang(n, p as usize, m + 1, work);
 }
 
-// The least row of a list, its first; 0 where it is empty.
+// The least row of a list, which is its first; 0 if the list is empty.
 pub fn least(list: &[u32]) -> u32
     ensures { λ r. ⌜ r ≡ head0 (now (list .entry)) ⌝ }
 {
@@ -53,7 +53,7 @@ pub fn least(list: &[u32]) -> u32
     list[0]
 }
 
-// The lists R(1), R(2), .., their starts and the parents, as far as the lists fit into frows. Answers how many columns are done.
+// Makes the lists R(1), R(2), .., their starts and the parents, as long as the lists fit into frows. Answers how many columns are done.
 pub fn column_lists(
     n: usize,
     starts: &[u64],

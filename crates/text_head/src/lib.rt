@@ -1,4 +1,4 @@
-// Line 1 of a job text: n, the limit, and a mark or none.
+// Reads line 1 of a job text: n, the limit, and perhaps a mark.
 ghost use mathlib.Core.List.{[], _∷_};
 ghost use Prim.Native.Nat.{_≤_};
 ghost use lib.ListN.{length};
@@ -6,13 +6,13 @@ ghost use Rattle.text_head.specs.Heads.{HeadTold};
 use papers::JobHead;
 use text_words::Word;
 
-// What line 1 holds: the numbers of a job, and the place behind the line; or bad text.
+// What line 1 gives: the numbers of a job, and the place behind the line; or bad text.
 pub enum Head {
     Numbers { head: JobHead, next: usize },
     Bad,
 }
 
-// The end of line 1, behind n and limit: the mark.
+// Reads the end of line 1, behind n and limit: the mark.
 fn read_mark(text: &[u8], at: usize, n: u64, limit: u64) -> Head
     requires { ⌜ at ≤ length (now text) ⌝ }
     ensures { λ r. ⌜ HeadTold (now (text .entry)) (n ∷ limit ∷ []) at r ⌝ }
@@ -33,7 +33,7 @@ fn read_mark(text: &[u8], at: usize, n: u64, limit: u64) -> Head
     }
 }
 
-// The rest of line 1, behind n: the limit, and a mark or none.
+// Reads the rest of line 1, behind n: the limit, and perhaps a mark.
 fn read_limit(text: &[u8], at: usize, n: u64) -> Head
     requires { ⌜ at ≤ length (now text) ⌝ }
     ensures { λ r. ⌜ HeadTold (now (text .entry)) (n ∷ []) at r ⌝ }
@@ -58,7 +58,7 @@ fn read_limit(text: &[u8], at: usize, n: u64) -> Head
     }
 }
 
-// Line 1.
+// Reads line 1.
 pub fn read_head(text: &[u8]) -> Head
     ensures { λ r. ⌜ HeadTold (now (text .entry)) [] 0 r ⌝ }
 {

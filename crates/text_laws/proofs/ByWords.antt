@@ -1,5 +1,6 @@
--- A line read word by word: behind a number and a space come the numbers of the rest of the line, behind a number and a newline no more, and a line
--- that begins with neither has none. All of it by the printed form, whose first word is fixed.
+-- Proves that a line can be read word by word. Behind a number and a space come the numbers of the rest of the line; behind a number and a
+-- newline there are no more; a line that begins with neither has none. The first word of a printed line is determined, so each case has one
+-- outcome.
 -- Assumes nothing.
 use Prim.Native.Nat.{ℕ}
 use mathlib.Core.Path.{_≡_, refl, sym, ap, _∙_}
@@ -19,7 +20,7 @@ pub first-line-iff : (t : List ℕ) (x : ℕ) (xs : List ℕ)
 unfolding afterLines
 first-line-iff t x xs = numbers-iff t 1 x xs
 
--- ---- the rest of a line, behind the numbers read
+-- ---- the rest of a line, behind the numbers that were read
 
 pub behind-none : (l : List ℕ) → behind [] l ≡ l
 unfolding behind
@@ -46,13 +47,13 @@ pub no-digit : (b : ℕ) → Ends b → ¬ Digit b
 no-digit b (inl e) d = omega arith
 no-digit b (inr e) d = omega arith
 
--- so a first number is fixed, and with it what follows
+-- the first number is determined, and so is what follows
 pub first-fixed : (x y b c : ℕ) (u v : List ℕ) → Ends b → Ends c → decimalOf x ++ (b ∷ u) ≡ decimalOf y ++ (c ∷ v) → (x ≡ y) × (b ≡ c) × (u ≡ v)
 first-fixed x y b c u v p q e =
     let (w, f, g) = split Digit (decimalOf x) (decimalOf y) b c u v (decimal-digits x) (decimal-digits y) (no-digit b p) (no-digit c q) e in
     (decimal-injective x y w, f, g)
 
--- the first number of a line stands in front of such a byte
+-- the first number of a line is followed by such a byte
 pub first-number : (t : List ℕ) (x : ℕ) (xs : List ℕ) → numbersAt t 1 ≡ x ∷ xs
     → (b : ℕ) × (rest : List ℕ) × Ends b × Short x × (t ≡ decimalOf x ++ (b ∷ rest))
 first-number t x xs e = go xs (first-line-iff t x xs .0 e)
@@ -63,7 +64,7 @@ first-number t x xs e = go xs (first-line-iff t x xs .0 e)
     go (y ∷ ys) h = (space, printed (decimalOf y) ys ++ h .0, inl refl, h .2 .0, h .1 ∙ printed-more x y ys (h .0))
 
 module _ (x : ℕ) (s : Short x) where
-  -- one word more, and no more
+  -- one more word, and it is the last
   pub numbers-last : (rest : List ℕ) → numbersAt (decimalOf x ++ (newline ∷ rest)) 1 ≡ x ∷ []
   numbers-last rest = first-line-iff _ x [] .1 (rest, sym (printed-last x rest), (s, tt))
 
@@ -88,7 +89,7 @@ module _ (x : ℕ) (s : Short x) where
           let (rest, f, small) = first-line-iff t y ys .0 e in
           rw e (first-line-iff _ x (y ∷ ys) .1 (rest, ap (λ (l : List ℕ). decimalOf x ++ (space ∷ l)) f ∙ sym (printed-more x y ys rest), (s, small)))
 
-  -- what follows the line
+  -- the text behind the line
   pub after-last : (rest : List ℕ) → afterLines 1 (decimalOf x ++ (newline ∷ rest)) ≡ rest
   after-last rest = after-line (decimalOf x) rest (all-map (λ b d n. omega arith) (decimalOf x) (decimal-digits x))
 

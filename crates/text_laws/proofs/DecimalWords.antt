@@ -1,4 +1,4 @@
--- A word is a decimal just where it is the decimal of a number of at most 13 digits, and then that number is its value.
+-- Proves that a word is a decimal exactly when it is the decimal of a number of at most 13 digits, and then that number is its value.
 -- Assumes nothing.
 use Prim.Native.Nat.{ℕ, zero, suc, _+_, _-_, _*_, _/_, _%_, _^_, _<_, _≤_}
 use mathlib.Core.Path.{_≡_, refl, sym, ap}
@@ -36,7 +36,7 @@ decimal-word-iff (d ∷ e ∷ ds) =
       λ h. i .1 (k .1 (digits .1 (h .digits), rw (ne-eqb d (digit 0) (h .lead (omega arith)))), le-leb _ _ (h .few)),
     )
 
--- a number of so many digits
+-- how many digits a number has
 pub length-decimal : (k x : ℕ) → x < 10 ^ suc k → length (decimalOf x) ≤ suc k
 length-decimal zero x h = rw (decimal-small x (omega arith)) (omega arith)
 length-decimal (suc k) x h = go (below-or x 10) (length-decimal k (x / 10))
@@ -45,7 +45,7 @@ length-decimal (suc k) x h = go (below-or x 10) (length-decimal k (x / 10))
     go (inl l) ih = rw (decimal-small x l) (omega arith)
     go (inr l) ih = rw (decimal-more x l) (omega (arith, length-append (decimalOf (x / 10)) (digit (x % 10) ∷ []), ih (omega arith)))
 
--- there is a first digit, and it is 0 in 0 alone
+-- a decimal has a first digit, and this is 0 in the decimal of 0 only
 record First (x : ℕ) (w : List ℕ) : Type 0 where
   head : ℕ
   tail : List ℕ
@@ -65,7 +65,7 @@ first =
       alone = λ h. absurd (omega arith);
     })
 
--- the decimal of a number of at most 13 digits is one
+-- the decimal of a number of at most 13 digits passes the test
 pub decimal-is : (x : ℕ) → Short x → Decimal (decimalOf x)
 decimal-is x h =
     let f = first x in
@@ -82,7 +82,7 @@ decimal-is x h =
     lead f l z (inl s) = omega (arith, ap length (f .alone s))
     lead f l z (inr s) = omega (arith, f .zero-alone (omega arith))
 
--- a decimal is that of its value
+-- a word that passes the test is the decimal of its value
 pub is-decimal : (w : List ℕ) → Decimal w → (w ≡ decimalOf (valueOf 0 w)) × Short (valueOf 0 w)
 unfolding valueOf
 is-decimal [] h = absurd (let l = h .some in omega arith)
@@ -103,7 +103,7 @@ is-decimal (d ∷ c ∷ ds) h =
       omega arith,
     )
 
--- a word is a decimal of value x just where it is the shortest decimal of x, of at most 13 digits
+-- a word is a decimal of value x exactly when it is the decimal of x, of at most 13 digits
 pub decimal-iff : (w : List ℕ) (x : ℕ) → ((isDecimal w ≡ true) × (valueOf 0 w ≡ x)) ↔ ((w ≡ decimalOf x) × (Short x))
 decimal-iff w x =
     let i = decimal-word-iff w in

@@ -1,4 +1,5 @@
--- Decimals. One more digit is ten times the number and the digit (decimal-next), so digits behind a number are the decimal of their value.
+-- Proves facts of decimals. One more digit makes a number ten times as large, plus the digit (decimal-next), so digits behind a number are
+-- the decimal of their value.
 -- Assumes nothing.
 use Prim.Native.Nat.{ℕ, zero, suc, _+_, _-_, _*_, _/_, _%_, _^_, _<_, _≤_}
 use mathlib.Core.Path.{_≡_, refl, sym, ap, _∙_}
@@ -25,7 +26,7 @@ digits-more : (f x : ℕ) → 10 ≤ x → digitsOf (suc f) x ≡ digitsOf f (x 
 unfolding digitsOf
 digits-more f x h = rw (le-ltb x 10 h, digitsOf)
 
--- enough fuel is enough
+-- with enough fuel, more fuel changes nothing
 digits-fuel : (f g x : ℕ) → x ≤ f → x ≤ g → digitsOf f x ≡ digitsOf g x
 unfolding digitsOf
 digits-fuel zero zero x a b = refl
@@ -38,7 +39,7 @@ digits-fuel (suc f) (suc g) x a b = go (below-or x 10) (digits-fuel f g (x / 10)
     go (inr l) ih = rw (digits-more f x l, digits-more g x l, ih (omega arith) (omega arith))
 
 module _ (x : ℕ) where
-  -- a number below ten is a digit; any other has the last digit behind those of its tenth
+  -- a number below ten is one digit; any other is the digits of its tenth, then its last digit
   pub decimal-small : x < 10 → decimalOf x ≡ digit x ∷ []
   unfolding decimalOf
   decimal-small h = digits-fuel x (suc x) x (omega arith) (omega arith) ∙ digits-small x x h
@@ -49,14 +50,14 @@ module _ (x : ℕ) where
       digits-fuel x (suc x) x (omega arith) (omega arith) ∙ digits-more x x h
       ∙ ap (λ (l : List ℕ). l ++ (digit (x % 10) ∷ [])) (digits-fuel x (x / 10) (x / 10) (omega arith) (omega arith))
 
--- a digit behind a number
+-- the decimal of a number with one more digit
 pub decimal-next : (v k : ℕ) → 1 ≤ v → k < 10 → decimalOf (10 * v + k) ≡ decimalOf v ++ (digit k ∷ [])
 decimal-next v k h l =
     let a : (10 * v + k) / 10 ≡ v = omega arith in
     let b : (10 * v + k) % 10 ≡ k = omega arith in
     decimal-more (10 * v + k) (omega arith) ∙ rw (a, b)
 
--- what holds of a digit, and of a digit behind what it holds of, holds of every decimal
+-- induction: what holds of one digit, and of a digit behind what it holds of, holds of every decimal
 pub decimal-each : (P : ℕ → List ℕ → Type 0) → ((x : ℕ) → x < 10 → P x (digit x ∷ []))
     → ((x : ℕ) → 10 ≤ x → P (x / 10) (decimalOf (x / 10)) → P x (decimalOf (x / 10) ++ (digit (x % 10) ∷ []))) → (x : ℕ) → P x (decimalOf x)
 decimal-each P small more = strong (λ x. P x (decimalOf x)) (λ x ih. go x ih (below-or x 10))
@@ -90,7 +91,7 @@ unfolding valueOf
 value-append v [] ys = refl
 value-append v (x ∷ xs) ys = value-append (10 * v + (x - digit 0)) xs ys
 
--- a decimal reads back as its number
+-- a decimal is read back as its number
 pub decimal-value : (x : ℕ) → valueOf 0 (decimalOf x) ≡ x
 unfolding valueOf
 decimal-value =
@@ -100,7 +101,7 @@ decimal-value =
 pub decimal-injective : (x y : ℕ) → decimalOf x ≡ decimalOf y → x ≡ y
 decimal-injective x y e = sym (decimal-value x) ∙ ap (valueOf 0) e ∙ decimal-value y
 
--- digits behind a number
+-- digits behind a number are the decimal of their value
 pub digits-behind : (v : ℕ) (ds : List ℕ) → 1 ≤ v → All Digit ds → decimalOf (valueOf v ds) ≡ decimalOf v ++ ds
 unfolding valueOf
 digits-behind v [] h p = sym (append-nil (decimalOf v))

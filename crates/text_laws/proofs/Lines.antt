@@ -1,4 +1,4 @@
--- Lines: the first line of a text is what stands before its first newline, and the lines behind it are those of what follows.
+-- Proves that the first line of a text is what precedes its first newline, and that the lines behind it are those of the rest.
 -- Assumes nothing.
 use Prim.Native.Nat.{ℕ, suc}
 use mathlib.Core.Path.{_≡_, refl, ap, _∙_}
@@ -11,7 +11,7 @@ use Rattle.papers.specs.Text.{newline, Cut, line, unended, startingWith, cut, a
 use Rattle.list_laws.proofs.Tests.{Test, passes, fails, test}
 use Rattle.text_laws.specs.Grammar.{All, InLine}
 
--- the first byte ends the line, or is in it
+-- the first byte ends the line, or belongs to it
 cut-here : (b : ℕ) (bs : List ℕ) → b ≡ newline → cut (b ∷ bs) ≡ line [] bs
 unfolding cut
 cut-here b bs e = rw (eq-eqb b newline e, cut)
@@ -47,13 +47,13 @@ line-cut (b ∷ bs) l rest e = go (test (eqb b newline)) (cut bs) refl (λ k r q
         let y : r ≡ rest = cc in
         rw (← x, ← y) (ap (λ (c : List ℕ). b ∷ c) s, (n, a))
 
--- the first line is what stands before the first newline
+-- the first line is what precedes the first newline
 pub cut-iff : (t l rest : List ℕ) → (cut t ≡ line l rest) ↔ ((t ≡ l ++ (newline ∷ rest)) × All InLine l)
 cut-iff t l rest = (line-cut t l rest, λ h. rw (h .0) (cut-line l rest (h .1)))
 
--- ---- what follows lines
+-- ---- the text behind lines
 
--- what follows one line more
+-- the text behind one more line
 pub after-next : (q : ℕ) (text : List ℕ) → afterLines (suc q) text ≡ afterLines 1 (afterLines q text)
 unfolding afterLines
 after-next q text = refl
@@ -62,7 +62,7 @@ pub after-line : (l rest : List ℕ) → All InLine l → afterLines 1 (l ++ (ne
 unfolding afterLines
 after-line l rest p = rw (cut-line l rest p, afterLines)
 
--- bytes that end no line do not change what follows it
+-- a byte that ends no line does not change what follows the line
 after-byte : (b : ℕ) (t : List ℕ) → InLine b → afterLines 1 (b ∷ t) ≡ afterLines 1 t
 unfolding afterLines startingWith
 after-byte b t n = go (cut t) refl

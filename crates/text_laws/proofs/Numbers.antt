@@ -1,5 +1,5 @@
--- The numbers of a line: a line reads as numbers just where it is those numbers printed, and each has at most 13 digits. The line's words are then
--- their decimals, and no byte of a decimal ends a word or a line.
+-- Proves that a line reads as numbers exactly when it is those numbers printed, and each has at most 13 digits. The words of the line are
+-- then their decimals, and no byte of a decimal ends a word or a line.
 -- Assumes nothing.
 use Prim.Native.Nat.{ℕ, suc, _-_}
 use mathlib.Core.Path.{_≡_, refl, sym, ap, _∙_}
@@ -22,7 +22,7 @@ no-cons e = let z : _≡_ {A = ℕ} 0 1 = cc in omega arith
 
 -- ---- words
 
--- words are decimals of these values just where they are these numbers' decimals
+-- words are decimals of these values exactly when they are the decimals of these numbers
 decimals-iff : (ws : List (List ℕ)) (xs : List ℕ) → ((allDecimal ws ≡ true) × (map (valueOf 0) ws ≡ xs)) ↔ ((ws ≡ map decimalOf xs) × All Short xs)
 unfolding allDecimal
 decimals-iff [] [] = (λ h. (refl, tt), λ h. (refl, refl))
@@ -45,7 +45,7 @@ decimals-iff (w ∷ ws) (x ∷ xs) =
           (both .1 (d, ds), cc),
     )
 
--- a line of decimals holds no other byte than digits and spaces
+-- a line of decimals consists of digits and spaces
 in-line : (w : List ℕ) (xs : List ℕ) → All Digit w → All InLine (spaced w (map decimalOf xs))
 in-line w [] p = all-map (λ b d n. omega arith) w p
 in-line w (x ∷ xs) p = all-append InLine w _ (all-map (λ b d n. omega arith) w p) (λ n. omega arith, in-line (decimalOf x) xs (decimal-digits x))
@@ -97,7 +97,7 @@ module _ (text : List ℕ) (q : ℕ) where
   unfolding numbersAt
   at-end e = rw (e, numbersAt)
 
-  -- line q reads as numbers just where the text goes on there with those numbers printed
+  -- line q reads as numbers exactly when the text continues there with those numbers printed
   pub numbers-iff : (x : ℕ) (xs : List ℕ)
       → (numbersAt text q ≡ x ∷ xs) ↔ ((rest : List ℕ) × (afterLines (q - 1) text ≡ printed (decimalOf x) xs ++ rest) × All Short (x ∷ xs))
   numbers-iff x xs = (there (cut (afterLines (q - 1) text)) refl, back)
@@ -116,7 +116,7 @@ module _ (text : List ℕ) (q : ℕ) where
           (e ∙ printed-line x xs rest, in-line (decimalOf x) xs (decimal-digits x)) in
           at-line f ∙ numbers-of-iff (spaced (decimalOf x) (map decimalOf xs)) x xs .1 (refl, s)
 
--- a line is the first of what follows the lines before it
+-- a line is the first of the text behind the lines before it
 pub numbers-later : (text : List ℕ) (q : ℕ) → numbersAt text (suc q) ≡ numbersAt (afterLines q text) 1
 unfolding numbersAt afterLines
 numbers-later text q = let e : suc q - 1 ≡ q = omega arith in rw (e, numbersAt)

@@ -1,4 +1,4 @@
--- A property of every byte of a word: what stands in front of the first byte without it is fixed.
+-- Proves that a text determines its longest first part whose bytes all have a property.
 -- Assumes nothing.
 use Prim.Native.Nat.{ℕ}
 use mathlib.Core.Path.{_≡_, refl}
@@ -36,7 +36,7 @@ every-iff f (x ∷ xs) = go (test (f x)) (every-iff f xs)
     go (fails q) ih = (λ e. absurd (true-false (rw (q, every) at e) refl), λ p. absurd (true-false (p .0) q))
 
 module _ (P : ℕ → Type 0) where
-  -- a run of bytes with the property does not reach beyond another that ends in a byte without it
+  -- a run of bytes with the property does not go beyond a byte without it
   pub within : (v w : List ℕ) (t : ℕ) (x y : List ℕ) → All P v → ¬ P t → v ++ x ≡ w ++ (t ∷ y) → (u : List ℕ) × (w ≡ v ++ u) × (x ≡ u ++ (t ∷ y))
   within [] w t x y p n e = (w, refl, e)
   within (b ∷ v) [] t x y p n e = let z : b ≡ t = cc in absurd (n (rw z at (p .0)))
@@ -45,7 +45,7 @@ module _ (P : ℕ → Type 0) where
       let (u, f, g) = within v w t x y (p .1) n cc in
       (u, cc, g)
 
-  -- so two such runs, each in front of a byte without it, are one
+  -- two such runs, each followed by a byte without the property, are the same
   pub split : (v w : List ℕ) (s t : ℕ) (x y : List ℕ) → All P v → All P w → ¬ P s → ¬ P t → v ++ (s ∷ x) ≡ w ++ (t ∷ y) → (v ≡ w) × (s ≡ t) × (x ≡ y)
   split [] [] s t x y p q m n e = (refl, cc, cc)
   split [] (c ∷ w) s t x y p q m n e = let z : c ≡ s = cc in absurd (m (rw z at (q .0)))

@@ -1,4 +1,4 @@
--- Words: a line is its words with one space between, and its words are what stands between its spaces.
+-- Proves that a line is its words with one space between, and that its words are the parts between its spaces.
 -- Assumes nothing.
 use Prim.Native.Nat.{ℕ}
 use mathlib.Core.Path.{_≡_, refl, sym, ap, _∙_}
@@ -17,7 +17,7 @@ words-later : (b : ℕ) (bs : List ℕ) → InWord b → wordsOf (b ∷ bs) ≡ 
 unfolding wordsOf
 words-later b bs n = rw (ne-eqb b space n, wordsOf)
 
--- the words of a word, and of a word before more
+-- the words of a single word, and of a word before others
 words-one : (w : List ℕ) → All InWord w → wordsOf w ≡ w ∷ []
 unfolding wordsOf onWord
 words-one [] p = refl
@@ -65,7 +65,7 @@ line-words (b ∷ bs) = go (test (eqb b space)) (line-words bs)
           makes = ap (λ (l : List ℕ). b ∷ l) (k .makes) ∙ on (k .word) (k .words);
         }
 
--- what is printed is words with one space between, and a newline
+-- what is printed is words with one space between, and then a newline
 pub printed-spaced : (w xs : List ℕ) → printed w xs ≡ spaced w (map decimalOf xs) ++ (newline ∷ [])
 unfolding printed
 printed-spaced w [] = refl

@@ -1,4 +1,4 @@
--- The words in which the grammar of a job text is stated.
+-- Defines the words in which the grammar of a job text is stated.
 -- Assumes nothing.
 use Prim.Native.Nat.{ℕ, _^_, _<_, _≤_}
 use mathlib.Core.Path.{_≡_}
@@ -27,7 +27,7 @@ InLine b = b ≢ newline
 abbrev pub Short : ℕ → Type 0
 Short x = x < 10 ^ maxDigits
 
--- a word of digits: at least one and at most 13, the first no 0 before others
+-- a word of digits: one to 13 of them, and no 0 before others
 pub record Decimal (w : List ℕ) : Type 0 where
   pub digits : All Digit w
   pub some : 0 < length w
@@ -39,11 +39,11 @@ abbrev pub spaced : List ℕ → List (List ℕ) → List ℕ
 spaced w [] = w
 spaced w (v ∷ vs) = w ++ (space ∷ spaced v vs)
 
--- what stands between words, and behind the last
+-- the byte after each word: a space, and a newline behind the last
 abbrev pub Ends : ℕ → Type 0
 Ends b = (b ≡ space) ⊎ (b ≡ newline)
 
--- the numbers of the rest of a line, behind those read before; none where the rest has none
+-- the numbers of the rest of a line, behind those read before; none if the rest has none
 unfoldable pub behind : List ℕ → List ℕ → List ℕ
 behind xs [] = []
 behind xs (y ∷ ys) = xs ++ (y ∷ ys)

@@ -1,5 +1,5 @@
-// A line of rows of a job text, which are kept in a lent slice.
-// A line is read to its end or to its first bad word, so that bad text in it is found before anything else is said of it.
+// Reads a line of rows of a job text, and keeps the rows in a lent slice. It reads the line to its end or to its first bad word, so that
+// bad text is found before anything else is said of the line.
 use text_words::Word;
 ghost use mathlib.Core.Path.{_≡_};
 ghost use lib.ListN.{set, length};
@@ -10,7 +10,7 @@ ghost use Rattle.text_lines.specs.Lines.{RowsTold, LineTold};
 // The greatest number of 32 bits.
 const MAX_NARROW: u64 = 4294967295;
 
-// A row as it is kept. A row that 32 bits do not hold is over n, whatever n is, and so is the one that is kept for it.
+// A row as it is kept. A row that does not fit 32 bits exceeds every n, and so does the number that is kept for it.
 fn narrow(row: u64) -> u32
     ensures { λ r. ⌜ r ≡ narrowed row ⌝ }
 {
@@ -29,14 +29,14 @@ fn keep_row(rows: &mut [u32], i: usize, row: u64)
     }
 }
 
-// What a line of rows holds: how many, and the place behind the line; or bad text.
+// What a line of rows gives: how many rows, and the place behind the line; or bad text.
 pub enum Line {
     Rows { count: usize, next: usize },
     Bad,
 }
 
-// The numbers from `at` to the end of the line, kept as rows from place t on while there is room. The first `count` are read and kept,
-// the next stands at k.
+// Reads the numbers from `at` to the end of the line, and keeps them as rows from place t on while there is room. In the loop the first
+// `count` are read and kept, and the next starts at k.
 fn read_rows(text: &[u8], at: usize, rows: &mut [u32], t: usize) -> Line
     requires { ⌜ (at ≤ length (now text)) × (t ≤ at) ⌝ }
     ensures { λ r. ⌜ RowsTold (now (text .entry)) at t (now (rows .entry)) (now (rows .exit)) r ⌝ }
@@ -65,7 +65,7 @@ fn read_rows(text: &[u8], at: usize, rows: &mut [u32], t: usize) -> Line
     Line::Bad
 }
 
-// The line of rows that begins at `at`: a count, and that many rows, kept from place t on while there is room.
+// Reads the line of rows that begins at `at`: a count, and that many rows, which it keeps from place t on while there is room.
 pub fn read_line(text: &[u8], at: usize, rows: &mut [u32], t: usize) -> Line
     requires { ⌜ (at ≤ length (now text)) × (t ≤ at) ⌝ }
     ensures { λ r. ⌜ LineTold (now (text .entry)) at t (now (rows .entry)) (now (rows .exit)) r ⌝ }

@@ -1,5 +1,5 @@
--- What is read of a job text, and what is kept of it. Rows are kept narrowed, as kept_rows does it; that the job's tests do not see the difference is
--- a theorem. After a refusal nothing is said of the slices.
+-- What is read of a job text, and what is kept of it. Rows are kept narrowed, as text_lines keeps them; a theorem says that the job's tests do not
+-- see the difference. After a refusal nothing is said of the slices.
 -- Assumes nothing.
 use Prim.Native.Nat.{ℕ}
 use mathlib.Core.Path.{_≡_}

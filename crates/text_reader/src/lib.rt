@@ -1,4 +1,4 @@
-// A job text read into lent slices, line by line, with 25 and 26 by the first line at fault.
+// Reads a job text into lent slices, line by line; the first line at fault gives 25 or 26.
 ghost use mathlib.Core.Path.{_≡_};
 ghost use Prim.Native.Nat.{_≤_, _<_};
 ghost use lib.ListN.{length};
@@ -10,19 +10,20 @@ use papers::JobHead;
 use text_head::Head;
 use text_lines::Line;
 
-// What the lines of rows hold: how many rows in all; or a refusal's number and place.
+// What the lines of rows give: how many rows in all; or a refusal's number and place.
 pub enum Lines {
     Rows { count: usize },
     Refused { number: u64, place: u64 },
 }
 
-// What a text holds: the numbers of a job, and how many rows it has; or a refusal's number and place.
+// What a text gives: the numbers of a job, and how many rows it has; or a refusal's number and place.
 pub enum JobRead {
     Job { head: JobHead, count: usize },
     Refused { number: u64, place: u64 },
 }
 
-// The n lines of rows from `at` on, and the end of the text. The lines of the first j columns are read, up to k, with `total` rows.
+// Reads the n lines of rows from `at` on, and the end of the text. In the loop the lines of the first j columns are read, up to k, with
+// `total` rows.
 fn read_lines(text: &[u8], at: usize, n: u64, starts: &mut [u64], rows: &mut [u32]) -> Lines
     requires { ⌜ (LineTo (now text) 0 at) × (n ≡ textHead (now text) .n) × (n ≤ programColumns) × (programColumns < length (now starts)) ⌝ }
     ensures { λ r. ⌜ LinesTold (now (text .entry)) (now (starts .entry)) (now (rows .entry)) (now (starts .exit)) (now (rows .exit)) r ⌝ }
@@ -62,7 +63,8 @@ fn read_lines(text: &[u8], at: usize, n: u64, starts: &mut [u64], rows: &mut [u3
     Lines::Rows { count: total }
 }
 
-// The job of a text, of which `more` says whether it goes on behind what is lent: its starts and rows at the front of the lent slices.
+// Reads the job of a text: stores its starts and rows at the front of the lent slices. `more` says whether the text continues behind what
+// is lent.
 pub fn read_job(text: &[u8], more: bool, starts: &mut [u64], rows: &mut [u32]) -> JobRead
     requires { ⌜ programColumns < length (now starts) ⌝ }
     ensures { λ r. ⌜

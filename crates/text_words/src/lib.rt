@@ -1,31 +1,31 @@
-// The numbers of a job text, word by word: a decimal, and the byte that ends it.
+// Reads the numbers of a job text, word by word: a decimal, and the byte that ends it.
 ghost use mathlib.Core.Path.{_≡_};
 ghost use Prim.Native.Nat.{_≤_};
 ghost use lib.ListN.{length, take, drop};
 ghost use Rattle.papers.specs.Text.{isDigit, isDecimal};
 ghost use Rattle.text_words.specs.Words.{DigitsAt, DigitsRead, Stop, WordRead};
 
-// What stands at a place of a text: a number in front of a space, or of a newline, and the place behind that; or neither.
+// What is at a place of a text: a number before a space, or before a newline, and the place behind that byte; or neither.
 pub enum Word {
     More { value: u64, next: usize },
     Last { value: u64, next: usize },
     Bad,
 }
 
-// Digits in a row: how many, and their value.
+// A run of digits: how many, and their value.
 struct Digits {
     count: usize,
     value: u64,
 }
 
-// Whether a byte is a digit.
+// Tests whether a byte is a digit.
 fn is_digit(b: u64) -> bool
     ensures { λ r. ⌜ r ≡ isDigit b ⌝ }
 {
     48 <= b && b <= 57
 }
 
-// The digits from `at` on, up to the first byte that is none, at most 13. The first i bytes are digits, of this value.
+// Reads the digits from `at` on, up to the first byte that is none, at most 13. In the loop the first i bytes are digits, of this value.
 fn read_digits(text: &[u8], at: usize) -> Digits
     requires { ⌜ at ≤ length (now text) ⌝ }
     ensures reads { λ r. ⌜ DigitsRead (now (text .entry)) at (r .count) (r .value) ⌝ }
@@ -45,7 +45,7 @@ fn read_digits(text: &[u8], at: usize) -> Digits
     Digits { count: i, value }
 }
 
-// Whether digits are a decimal: there are some, and no 0 before others.
+// Tests whether digits are a decimal: there is at least one, and no 0 before others.
 fn is_decimal(text: &[u8], at: usize, count: usize) -> bool
     requires { ⌜ DigitsAt (now text) at count ⌝ }
     ensures { λ r. ⌜ r ≡ isDecimal (take count (drop at (now (text .entry)))) ⌝ }
@@ -59,7 +59,7 @@ fn is_decimal(text: &[u8], at: usize, count: usize) -> bool
     text[at] != 48
 }
 
-// The number at `at`, by the byte behind its digits.
+// Reads the number at `at`; the byte behind its digits decides.
 pub fn read_word(text: &[u8], at: usize) -> Word
     requires { ⌜ at ≤ length (now text) ⌝ }
     ensures { λ r. ⌜ WordRead (now (text .entry)) at r ⌝ }

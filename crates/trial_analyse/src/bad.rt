@@ -1,9 +1,8 @@
-// Bad jobs, with their refusals worked out by hand. Each leaves all lent slices untouched. A line is a case as tests/damage.py has it,
-// without plan bytes and without results; all six lengths are the same. 1 to 3: too many columns, no such mark, too great a limit; the
-// first of several decides. 4 at place 0 if the starts are not n + 1. 4: the first start is not 0, at place 0; a start falls, at the
-// lowest such column; the last is not the row count, at n. 5: a row not above its column, or over n. 6: a row not above the one before
-// it; a row with both is 5, and an earlier column comes first. 7 comes after the tests of the job, and before those of the rows needed
-// and of the peak.
+// Bad jobs, with their refusals worked out by hand. Each leaves all lent slices untouched. A line is a case as tests/damage.py describes
+// it, without plan bytes and without results; all six lengths are the same. The cases are: 1 to 3, alone and several at once, of which the
+// first decides; 4 at place 0, for the number of starts and for the first start; 4 at the lowest column whose start falls, and at n for the
+// last start; 5, a row up to its column or beyond n; 6, a row up to the one before it; both faults in one row, which is 5, and faults in
+// two columns, of which the earlier decides; 7, which comes after the tests of the job and before 8 and 9.
 use super::call::Lengths;
 use super::call::wrong_in_call;
 use trial_lines::line;
@@ -22,7 +21,7 @@ fn lengths(numbers: &Numbers) -> Lengths {
     ]
 }
 
-// How much of the call of a bad job is wrong. There is no result.
+// Counts what is wrong in the call of a bad job, which has no result.
 fn wrong(numbers: &Numbers, starts: &[u64], rows: &[u32]) -> usize {
     let nothing = [0usize; 10200];
     wrong_in_call(

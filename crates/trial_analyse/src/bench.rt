@@ -1,8 +1,7 @@
-// Bench pieces: the elimination is held to the paper's own numbers, and the analysis to the elimination. A line is a piece: n, the
-// mark, the order as the digits of a number, the peak, how many rows there are, and every row with its column, as two digits. The
-// pieces are: nothing; one pair; three columns without rows; dense; star; columns 1 with {3, 4} and 2 with {3}, where row 4 fills
-// column 3; columns 1 with {3}, 2 with {4} and 3 with {4}, whose numbering is no order; and the nine columns of the paper's example,
-// under two marks.
+// Bench pieces: the rules' own numbers try the elimination, and the elimination tries the analysis. A line is a piece: n, the mark, the
+// order as the digits of a number, the peak, how many rows there are, and every row with its column, as two digits. The pieces are:
+// nothing; one pair; three columns without rows; dense; star; columns 1 with {3, 4} and 2 with {3}, where row 4 fills column 3; columns 1
+// with {3}, 2 with {4} and 3 with {4}, whose numbering is no order; and the nine columns of the rules' example, under two marks.
 use super::cases::hold_pattern;
 use super::cases::work_out;
 use trial_elimination::grid::Grid;
@@ -49,14 +48,14 @@ fn digits(sheet: &Sheet, n: usize) -> usize {
     number
 }
 
-// Whether the elimination gives a pattern the order and the peak of a piece.
+// Tests whether the elimination gives a pattern the order and the peak of a piece.
 fn same(sheet: &mut Sheet, pattern: &Grid, piece: &Numbers) -> bool {
     let n = part(piece, N);
     let peak = work_out(sheet, pattern, n, part(piece, MARK));
     digits(sheet, n) == part(piece, ORDER) && peak == part(piece, PEAK)
 }
 
-// Holds the analysis of a pattern. It is named by the order and the peak of its piece.
+// Tries the analysis of a pattern. The order and the peak of its piece name it.
 fn hold_piece(tally: &mut Tally, sheet: &mut Sheet, pattern: &Grid, piece: &Numbers) {
     let seed = add(1000, add(part(piece, ORDER), part(piece, PEAK)));
     hold_pattern(

@@ -1,4 +1,4 @@
-// One call of the analysis, compared with what it has to do.
+// Calls the analysis once, and compares what it does with what it must do.
 ghost use Prim.Native.Nat.{_≤_};
 use papers::Answer;
 use papers::JobHead;
@@ -19,7 +19,7 @@ fn length(lent: &Lengths, slice: usize) -> usize
     lent[slice % 6] % 301
 }
 
-// How many places of parents, order and pops are wrong after an answer.
+// Counts the places of parents, order and pops that are wrong after an answer.
 fn wrong_steps(
     parents: &[u32; 300],
     order: &[u32; 300],
@@ -34,7 +34,8 @@ fn wrong_steps(
     add(a, add(b, c))
 }
 
-// How many places of factor starts, factor rows and work are wrong after an answer. Work has to be zero, as the stack list of a sheet is.
+// Counts the places of factor starts, factor rows and work that are wrong after an answer. Work must be zero, like the stack list of a
+// sheet.
 fn wrong_lists(
     starts: &[u64; 300],
     rows: &[u32; 300],

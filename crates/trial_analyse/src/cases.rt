@@ -1,5 +1,5 @@
-// A pattern under a mark: what the elimination says of it, and the calls that are held against that. All of it is in a sheet: the lists
-// of the fill, the plan, as its room the peak, and in its head the mark and the seed by which the pattern is named.
+// A pattern under a mark: what the elimination says of it, and the calls that are compared with that. A sheet holds all of it: the lists of
+// the fill, the plan, the peak as its room, and in its head the mark and the seed, which name the pattern.
 use super::call::Lengths;
 use super::call::wrong_in_call;
 use papers::Answer;
@@ -24,12 +24,12 @@ const MARK: usize = 20;
 
 const SEED: usize = 21;
 
-// Places of the tally: the factor rows, and the peaks under each mark.
+// Places of the tally: the number of factor rows, and the peaks under each mark.
 const ROWS: usize = 10;
 
 const PEAKS: usize = 11;
 
-// What the elimination says of a pattern under a mark, into a sheet, which has nothing of another pattern. Answers the peak.
+// Writes what the elimination says of a pattern under a mark into a sheet that holds nothing of another pattern. Answers the peak.
 pub fn work_out(sheet: &mut Sheet, pattern: &Grid, n: usize, mark: usize) -> usize {
     let mut grid = *pattern;
     fill::eliminate(&mut grid);
@@ -49,7 +49,7 @@ fn limit(peak: usize, choice: usize) -> usize {
     }
 }
 
-// The lengths tried for the factor rows: one below the rows needed, those, three above, and 0.
+// The lengths tried for the factor rows: one below the rows needed, exactly these, three above, and 0.
 fn rows_length(needed: usize, choice: usize) -> usize {
     match choice / 5 % 4 {
         0 => less(needed, 1),
@@ -59,7 +59,7 @@ fn rows_length(needed: usize, choice: usize) -> usize {
     }
 }
 
-// A slice's length: its fixed length and up to three more, or one less if the choice is to lend this one short.
+// A slice's length: its fixed length and up to three more, or one less if this slice is to be short.
 fn lent(fixed: usize, seed: usize, choice: usize, short: usize) -> usize {
     if choice == short {
         return less(fixed, 1);
@@ -82,7 +82,7 @@ fn lengths(sheet: &Sheet, choice: usize) -> Lengths {
     ]
 }
 
-// Whether a choice lends a slice below its fixed length: no slice is below 0.
+// Tests whether a choice lends a slice below its fixed length; no slice is below 0.
 fn short(n: usize, choice: usize) -> bool {
     if n == 0 {
         return 23 <= choice;
@@ -124,7 +124,7 @@ fn head(sheet: &Sheet, choice: usize) -> JobHead {
     }
 }
 
-// The calls with the limit and the lengths of every choice.
+// Makes the calls with the limit and the lengths of every choice.
 fn hold_choices(tally: &mut Tally, starts: &[u64], rows: &[u32], sheet: &Sheet) {
     for choice in 0..25 {
         let right = right_answer(sheet, choice);
@@ -135,7 +135,7 @@ fn hold_choices(tally: &mut Tally, starts: &[u64], rows: &[u32], sheet: &Sheet) 
     }
 }
 
-// What the elimination says, the peak as the room, mark and seed, into the sheet of a pattern.
+// Writes what the elimination says, the peak as the room, mark and seed into the sheet of a pattern.
 fn write_result(sheet: &mut Sheet, pattern: &Grid, n: usize, mark: usize, seed: usize) {
     let peak = work_out(sheet, pattern, n, mark);
     set(sheet, sheet::HEAD, sheet::ROOM, peak);
@@ -150,8 +150,8 @@ fn note(tally: &mut Tally, sheet: &Sheet, mark: usize) {
     count(tally, add(PEAKS, mark % 3), peak as u64);
 }
 
-// Holds the analysis of a pattern under a mark to what the elimination says. The job's lists stand in the sheet first; those of the
-// fill cover them.
+// Compares the analysis of a pattern under a mark with what the elimination says. The sheet first holds the job's lists; those of the fill
+// are written over them.
 pub fn hold_pattern(
     tally: &mut Tally,
     sheet: &mut Sheet,

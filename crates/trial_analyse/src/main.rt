@@ -1,7 +1,7 @@
-// Holds the analysis against an elimination apart from it: patterns of up to 24 columns in many shapes, every mark, limits about the
-// peak, factor slices about the rows needed, slices lent too short, the paper's bench pieces, and bad jobs. Number, place, count and
-// every place of the six slices are compared. Prints a tally by right answers; a case with anything wrong is named in it by its seed
-// and its choice of limit and lengths.
+// Tries the analysis against an elimination written apart from it: patterns of up to 24 columns in many shapes, every mark, limits about
+// the peak, factor slices about the rows needed, slices lent too short, the rules' bench pieces, and bad jobs. Compares number, place,
+// count and every place of the six slices. Prints a tally by right answers; it names a case with anything wrong by its seed and its choice
+// of limit and lengths.
 mod call; // call.rt: one call, compared
 mod cases; // cases.rt: a pattern under a mark
 mod bench; // bench.rt: bench pieces
@@ -13,10 +13,10 @@ use trial_lines::line::Numbers;
 use trial_lists::shapes;
 use trial_tallies::Tally;
 
-// How many lines of the input are bad jobs. Those after them are bench pieces.
+// How many lines of the input are bad jobs. The lines after them are bench pieces.
 const JOBS: usize = 32;
 
-// Once in how many a random row is put into a pattern: two kinds are random only, the others get a few in later rounds.
+// A random row is put into a pattern once in this many draws: two kinds are random only, the others get a few in later rounds.
 fn odds(kind: usize, round: usize) -> usize {
     if kind == 14 {
         return round % 100 * 2 + 3;
@@ -39,7 +39,7 @@ fn draw(grid: &mut Grid, n: usize, kind: usize, round: usize, seed: usize) {
     shapes::sprinkle(grid, odds(kind, round), n, shapes::next(shapes::next(seed)));
 }
 
-// The pattern of a seed: its number of columns, its kind and its round are read off the seed. It is held under every mark.
+// Tries the pattern of a seed under every mark. The seed gives its number of columns, its kind and its round.
 fn hold(tally: &mut Tally, seed: usize) {
     let n = seed % 25;
     let mut grid = [0usize; 625];
@@ -50,7 +50,7 @@ fn hold(tally: &mut Tally, seed: usize) {
     }
 }
 
-// The patterns of the first seeds.
+// Tries the patterns of the first seeds.
 fn hold_drawn(tally: &mut Tally, seeds: usize) {
     for seed in 0..seeds {
         hold(tally, seed);
@@ -65,7 +65,7 @@ fn hold_line(tally: &mut Tally, numbers: &Numbers, line: usize) {
     bench::hold(tally, numbers);
 }
 
-// The jobs and pieces of all lines, but not of more than `most`.
+// Tries the jobs and pieces of all lines, but no more than `most`.
 fn hold_lines(tally: &mut Tally, most: usize) {
     let mut numbers = [0u64; 4096];
     for k in 0..most {

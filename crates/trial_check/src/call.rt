@@ -1,4 +1,4 @@
-// One call of the check, compared with what it has to do.
+// Calls the check once, and compares what it does with what it must do.
 use papers::Answer;
 use trial_lines::line;
 use trial_lines::line::Numbers;
@@ -17,7 +17,7 @@ struct Found {
     wrong: u64,
 }
 
-// How many of number, place and count differ.
+// Counts how many of number, place and count differ.
 fn wrong_answer(found: Answer, right: Answer) -> u64 {
     let mut wrong = 0;
     if found.number != right.number {
@@ -32,7 +32,7 @@ fn wrong_answer(found: Answer, right: Answer) -> u64 {
     wrong
 }
 
-// How many places of parents, order, pops and factor rows are wrong.
+// Counts the places of parents, order, pops and factor rows that are wrong.
 fn wrong_words(
     numbers: &Numbers,
     parents: &Words,
@@ -47,7 +47,7 @@ fn wrong_words(
     plus(plus(a, b), plus(c, d))
 }
 
-// How many places of factor starts and work are wrong.
+// Counts the places of factor starts and work that are wrong.
 fn wrong_longs(numbers: &Numbers, starts: &Longs, work: &Longs) -> u64 {
     let a = wrong64(starts, numbers, 3);
     let b = wrong64(work, numbers, 5);
@@ -89,7 +89,7 @@ fn call(numbers: &Numbers, starts: &[u64], rows: &[u32], plan: &[u8]) -> Found {
     }
 }
 
-// Holds one case.
+// Tries one case.
 pub fn hold(tally: &mut Tally, numbers: &Numbers) {
     let starts = sheet::longs(numbers, line::STARTS);
     let rows = sheet::words(numbers, line::ROWS);

@@ -1,13 +1,13 @@
-// Holds the check of a plan against answers that a plain reading of the rules gave, apart from the product (tests/damage.py, which also
-// made the input and says what a line of it is): sound plans and plans damaged in many ways, short slices, limits about the peak, keys
-// of other jobs, bad jobs. Number, place, count and what each of the six lent slices holds afterwards are compared. Prints how often
-// each number was answered; a case with anything wrong is named by its line, with what was answered.
+// Tries the check of a plan against answers from a plain reading of the rules, written apart from the product (tests/damage.py, which also
+// made the input and says what a line is): sound plans and plans damaged in many ways, short slices, limits about the peak, keys of other
+// jobs, bad jobs. Compares number, place, count and what each of the six lent slices holds afterwards. Prints how often each number was
+// answered; it names a case with anything wrong by its line, with what was answered.
 mod call; // call.rt: one call, compared
 
 use trial_lines::line;
 use trial_tallies::Tally;
 
-// Holds the cases of all lines, but not of more than `most`.
+// Tries the cases of all lines, but no more than `most`.
 fn hold_all(tally: &mut Tally, most: usize) {
     let mut numbers = [0u64; 4096];
     for _ in 0..most {

@@ -1,7 +1,7 @@
 // Runs plans that passed the check, in the room of their peak and in one less: patterns of up to 24 columns in many shapes, the plan of
-// each mark, and each of these plans under the key of every mark, so that the check also passes orders that its mark would not give. In
-// the peak a run answers what the check did; in one less it is refused 23, where and with what count a simulation says. Prints a tally;
-// a plan with anything wrong is named in it by the seed of its pattern and the key that it was checked under.
+// each mark, and each of these plans under the key of every mark, so that the check also passes orders that the mark of its key would not
+// give. In the peak a run answers what the check did; in one less it is refused with 23, at the place and with the count that a simulation
+// gives. Prints a tally; it names a plan with anything wrong by the seed of its pattern and the key of its check.
 mod plans; // plans.rt: plans written and checked
 
 use papers::Answer;
@@ -12,8 +12,8 @@ use trial_elimination::sheet::Sheet;
 use trial_elimination::sheet::set;
 use trial_tallies::Tally;
 
-// Places of the tally: plans that passed the check, runs in the peak that were done, runs in one less that were refused 23, and all
-// peaks together.
+// Places of the tally: plans that passed the check, runs in the peak that were done, runs in one less that were refused with 23, and the
+// sum of all peaks.
 const CHECKED: u64 = 0;
 
 const DONE: u64 = 1;
@@ -22,7 +22,7 @@ const BELOW: u64 = 2;
 
 const PEAKS: usize = 3;
 
-// How much of a run in one less than the peak is wrong: it is refused 23, and as the simulation refuses it.
+// Counts what is wrong in a run in one less than the peak: it must be refused with 23, as the simulation is.
 fn wrong_below(case: &Sheet) -> usize {
     let right = trial_simulation::simulate(case);
     if right.number != 23 {
@@ -31,7 +31,7 @@ fn wrong_below(case: &Sheet) -> usize {
     trial_run_call::wrong_in_call(case, right)
 }
 
-// The runs of a plan that passed the check, in its peak and in one less.
+// Runs a plan that passed the check, in its peak and in one less.
 fn hold_runs(tally: &mut Tally, case: &mut Sheet, checked: Answer, seed: u64, key: u64) {
     let peak = checked.count as usize;
     set(case, sheet::HEAD, sheet::ROOM, peak);
@@ -44,7 +44,7 @@ fn hold_runs(tally: &mut Tally, case: &mut Sheet, checked: Answer, seed: u64, ke
     }
 }
 
-// A plan of so many bytes under the key of a mark has to pass the check. Its lists go into a case.
+// Checks a plan of this many bytes under the key of a mark, which must pass. Writes its lists into a case.
 fn hold_plan(
     tally: &mut Tally,
     case: &mut Sheet,
@@ -62,7 +62,7 @@ fn hold_plan(
     }
 }
 
-// The plan of a mark, under the key of each.
+// Tries the plan of a mark under the key of each mark.
 fn hold_mark(tally: &mut Tally, case: &mut Sheet, job: &Sheet, mark: u8, seed: u64) {
     let mut plan = [0u8; 1024];
     let count = plans::write(job, mark, &mut plan);
@@ -71,7 +71,7 @@ fn hold_mark(tally: &mut Tally, case: &mut Sheet, job: &Sheet, mark: u8, seed: u
     }
 }
 
-// The pattern of a seed, under every mark.
+// Tries the pattern of a seed under every mark.
 fn hold_seed(tally: &mut Tally, case: &mut Sheet, seed: usize) {
     let n = seed % 25;
     let mut grid = [0usize; 625];

@@ -1,4 +1,4 @@
-// Plans written, and checked under the key of any mark; the lists of a check go into a case, as a run takes them.
+// Writes plans, and checks them under the key of any mark. Writes the lists of a check into a case, as a run takes them.
 use papers::Answer;
 use papers::JobHead;
 use trial_elimination::grid::add;
@@ -9,7 +9,7 @@ use trial_elimination::sheet::length;
 use trial_elimination::sheet::set;
 use trial_elimination::sheet::set_length;
 
-// More bytes than a plan of 24 columns has.
+// More bytes than any plan of 24 columns.
 pub type Plan = [u8; 1024];
 
 fn wide(x: u8) -> u64 {
@@ -33,7 +33,7 @@ fn head(job: &Sheet, mark: u8) -> JobHead {
     }
 }
 
-// The plan of a job under a mark. Answers how many bytes it has.
+// Writes the plan of a job under a mark. Answers how many bytes it has.
 pub fn write(job: &Sheet, mark: u8, plan: &mut Plan) -> u64 {
     let starts = trial_comparison::longs(job, sheet::STARTS);
     let rows = trial_comparison::words(job, sheet::ROWS);
@@ -60,7 +60,7 @@ pub fn write(job: &Sheet, mark: u8, plan: &mut Plan) -> u64 {
     written.count
 }
 
-// Columns, pops or rows, as a part of a case with so many places.
+// Copies columns, pops or rows to a part of a case with this many places.
 fn write_words(case: &mut Sheet, part: usize, list: &[u32; 300], count: usize) {
     for i in 0..count % 301 {
         set(case, part, i, index32(list[i % 300]));
@@ -68,7 +68,7 @@ fn write_words(case: &mut Sheet, part: usize, list: &[u32; 300], count: usize) {
     set_length(case, part, count);
 }
 
-// The starts of n columns.
+// Copies the starts of n columns.
 fn write_starts(case: &mut Sheet, list: &[u64; 300], n: usize) {
     let count = add(n, 1);
     for i in 0..count {
@@ -77,7 +77,7 @@ fn write_starts(case: &mut Sheet, list: &[u64; 300], n: usize) {
     set_length(case, sheet::STARTS, count);
 }
 
-// What a check found, as a case with a stack list of n places. There are as many rows as the last start says.
+// Writes what a check found into a case with a stack list of n places. The last start says how many rows there are.
 fn write_case(
     case: &mut Sheet,
     n: usize,
@@ -95,7 +95,7 @@ fn write_case(
     write_words(case, sheet::ROWS, factor_rows, count);
 }
 
-// Checks a plan; its lists go into a case with a stack list of n places.
+// Checks a plan, and writes its lists into a case with a stack list of n places.
 fn check_lists(
     case: &mut Sheet,
     head: JobHead,
@@ -132,14 +132,14 @@ fn check_lists(
     answer
 }
 
-// A plan with the key of a mark, which is its third byte.
+// Gives a plan the key of a mark: writes the mark as its third byte.
 fn keyed(plan: &Plan, key: u8) -> Plan {
     let mut bytes = *plan;
     bytes[2] = key;
     bytes
 }
 
-// Checks a plan of so many bytes under the key of a mark.
+// Checks a plan of this many bytes under the key of a mark.
 pub fn check(case: &mut Sheet, job: &Sheet, plan: &Plan, count: u64, key: u8) -> Answer {
     let starts = trial_comparison::longs(job, sheet::STARTS);
     let rows = trial_comparison::words(job, sheet::ROWS);

@@ -1,5 +1,5 @@
-// Lists as a call takes them, what lent slices hold before a call and have to hold after it, and how much of that is wrong, for the
-// test programs. Nothing is promised but that every function is safe and ends, and of one that a length stays.
+// For the test programs: lists as a call takes them, what lent slices hold before a call and must hold after it, and how much of that is
+// wrong. Only this is proved: every function is safe and ends, and one keeps a length.
 ghost use lib.ListN.{length};
 ghost use mathlib.Core.Path.{_≡_};
 use papers::Answer;
@@ -8,7 +8,7 @@ use trial_elimination::sheet::Sheet;
 use trial_elimination::sheet::get;
 use trial_elimination::sheet::length;
 
-// A part of a sheet as rows, columns or pops, as many as it has.
+// A part of a sheet as rows, columns or pops, as many as the part has.
 pub fn words(sheet: &Sheet, part: usize) -> [u32; 300] {
     let mut list = [0u32; 300];
     for i in 0..length(sheet, part) % 301 {
@@ -17,7 +17,7 @@ pub fn words(sheet: &Sheet, part: usize) -> [u32; 300] {
     list
 }
 
-// A part of a sheet as starts, as many as it has.
+// A part of a sheet as starts, as many as the part has.
 pub fn longs(sheet: &Sheet, part: usize) -> [u64; 300] {
     let mut list = [0u64; 300];
     for i in 0..length(sheet, part) % 301 {
@@ -26,7 +26,7 @@ pub fn longs(sheet: &Sheet, part: usize) -> [u64; 300] {
     list
 }
 
-// What stands at a place of a lent slice before a call. It is neither 0 nor in a result of a small pattern.
+// What a place of a lent slice holds before a call: never 0, and never part of the result of a small pattern.
 fn before(i: usize) -> u32 {
     (i % 7 + 9000) as u32
 }
@@ -43,7 +43,7 @@ pub fn filled32() -> [u32; 300] {
     slice
 }
 
-// In place, since a copy of so many bytes is dear. That the length stays is what lending a part needs.
+// Works in place, since copying so many bytes is slow. A part can only be lent if the length stays.
 pub fn fill64(slice: &mut [u64; 300])
     ensures { λ _. ⌜ length (now (slice .exit)) ≡ length (now (slice .entry)) ⌝ }
 {
@@ -52,8 +52,8 @@ pub fn fill64(slice: &mut [u64; 300])
     }
 }
 
-// What has to stand at a place after an answer: behind the lent length what stood there, and the same if the answer is 1 to 7; the
-// result if it is done; else 0.
+// What a place must hold after an answer: behind the lent length what it held before, and the same if the answer is 1 to 7; the result if
+// the call is done; else 0.
 fn after(number: u64, lent: usize, i: usize, result: usize) -> u64 {
     if lent <= i {
         return wide(before(i));
@@ -67,7 +67,7 @@ fn after(number: u64, lent: usize, i: usize, result: usize) -> u64 {
     0
 }
 
-// Where the comparison of a slice ends: four places behind its lent length, if there are so many.
+// Where the comparison of a slice ends: four places behind its lent length, if there are as many.
 fn end(lent: usize) -> usize {
     if lent < 296 {
         return lent + 4;
@@ -75,7 +75,7 @@ fn end(lent: usize) -> usize {
     300
 }
 
-// How many places of a slice hold something else than they have to after an answer. A part of the sheet has the result, then zeros.
+// Counts the places of a slice that do not hold what they must after an answer. A part of the sheet holds the result, then zeros.
 pub fn wrong32(found: &[u32; 300], lent: usize, number: u64, sheet: &Sheet, part: usize) -> usize {
     let mut wrong = 0;
     for i in 0..end(lent) {
@@ -96,7 +96,7 @@ pub fn wrong64(found: &[u64; 300], lent: usize, number: u64, sheet: &Sheet, part
     wrong
 }
 
-// How many of number, place and count differ.
+// Counts how many of number, place and count differ.
 pub fn differences(a: Answer, b: Answer) -> usize {
     let mut wrong = 0;
     if a.number != b.number {

@@ -1,7 +1,7 @@
 // Grids of 25 by 25 numbers. Places count from 0 and wrap, so every number is a place.
 pub type Grid = [usize; 625];
 
-// What stands in a row and a column of a grid.
+// The number in a row and a column of a grid.
 pub fn cell(grid: &Grid, row: usize, column: usize) -> usize {
     grid[row % 25 * 25 + column % 25]
 }
@@ -15,7 +15,7 @@ pub fn add(a: usize, b: usize) -> usize {
     a % 1000000 + b % 1000000
 }
 
-// The difference, or 0 where it would be negative.
+// The difference, or 0 if it would be negative.
 pub fn less(a: usize, b: usize) -> usize {
     if a < b {
         return 0;

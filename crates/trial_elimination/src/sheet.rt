@@ -1,12 +1,12 @@
-// The lists of a pattern, its plan and the arguments of a run in one list of numbers: 34 parts of 300 places. Places wrap, so every
-// number is a place.
+// A sheet: the lists of a pattern, its plan and the arguments of a run in one list of numbers, 34 parts of 300 places. Places wrap, so
+// every number is a place.
 use super::grid::add;
 use super::grid::less;
 
 pub type Sheet = [usize; 10200];
 
-// The head has a room, n, and behind n the lengths of the parts up to the stack list. Of that list, as of work, nothing else is there:
-// it is zero.
+// The head holds a room, n, and behind n the lengths of the parts up to the stack list. Of the stack list, and of work, a sheet holds
+// nothing else: they are zero.
 pub const HEAD: usize = 0;
 
 pub const ROOM: usize = 0;
@@ -27,8 +27,8 @@ pub const STACK: usize = 5;
 // The parents, that of column 1 first.
 pub const PARENTS: usize = 6;
 
-// At the place of a column: by what it is arranged among its siblings, and how many steps its subtree has. At place 0 of the sizes, how
-// many the whole order has.
+// At the place of a column: its measure among its siblings, and how many steps its subtree has. Place 0 of the sizes holds how many steps
+// the whole order has.
 pub const KEYS: usize = 7;
 
 pub const SIZES: usize = 8;
@@ -41,7 +41,7 @@ pub fn set(sheet: &mut Sheet, part: usize, place: usize, value: usize) {
     sheet[part % 34 * 300 + place % 300] = value;
 }
 
-// The part that has the columns of the subtree of j, step by step; of the whole order if j is 0.
+// The part that holds the columns of the subtree of j, step by step; of the whole order if j is 0.
 pub fn subtree(j: usize) -> usize {
     if j == 0 {
         return COLUMNS;

@@ -1,4 +1,4 @@
-// The stack of updates, by the rule of the room in use: the columns that they come from, the lowest first.
+// The stack of updates, by the rule of the room in use: the columns whose updates are held, the lowest first.
 use super::grid::add;
 use super::grid::less;
 use super::sheet;
@@ -8,7 +8,7 @@ use super::sheet::row_count;
 
 pub type Stack = [usize; 32];
 
-// The entries of a lower triangle of r rows: 1 and 2 and so on up to r.
+// The entries of a lower triangle of r rows: the sum of 1 to r.
 pub fn triangle(r: usize) -> usize {
     let mut entries = 0;
     for k in 0..r {
@@ -26,8 +26,8 @@ fn entries(sheet: &Sheet, stack: &Stack, height: usize) -> usize {
     sum
 }
 
-// The room in use at a step that takes off `pops` updates for the front of c: the entries held before it, less those of the top update
-// if it takes any off, and those of the front.
+// The room in use at a step that takes off `pops` updates for the front of c: all that is held before it, without the top update if it
+// takes any off, and the front.
 pub fn in_use(sheet: &Sheet, stack: &Stack, height: usize, c: usize, pops: usize) -> usize {
     let front = triangle(add(row_count(sheet, c), 1));
     if pops == 0 {
@@ -36,7 +36,7 @@ pub fn in_use(sheet: &Sheet, stack: &Stack, height: usize, c: usize, pops: usize
     add(entries(sheet, stack, less(height, 1)), front)
 }
 
-// The topmost `pops` updates come off and that of c goes on, unless c has no rows. Answers how many there are then.
+// Takes off the topmost `pops` updates and puts that of c on, unless c has no rows. Answers how many are then held.
 pub fn change(sheet: &Sheet, stack: &mut Stack, height: usize, c: usize, pops: usize) -> usize {
     let left = less(height, pops);
     if row_count(sheet, c) == 0 {
@@ -53,7 +53,8 @@ pub fn greater(a: usize, b: usize) -> usize {
     a
 }
 
-// The greatest room in use over the steps of the subtree of j, of all steps if j is 0. The pops of a step are the children of its column.
+// The greatest room in use of any step of the subtree of j, or of all steps if j is 0. A step pops as many updates as its column has
+// children.
 pub fn peak(sheet: &Sheet, j: usize) -> usize {
     let mut stack = [0usize; 32];
     let mut height = 0;

@@ -1,11 +1,11 @@
-// A case as numbers, and where its parts stand among them. Places wrap, so every number is a place.
+// A case as numbers, and where its parts are among them. Places wrap, so every number is a place.
 ghost use Prim.Native.Nat.{_≤_};
 use papers::Answer;
 use papers::JobHead;
 
 pub type Numbers = [u64; 4096];
 
-// The number, the place and the count of the answer that is right.
+// The number, the place and the count of the right answer.
 pub const RIGHT: usize = 3;
 
 // The counts of the nine lists: given starts, rows and plan bytes, then the result in each of the six lent slices.
@@ -65,7 +65,7 @@ pub fn lent(numbers: &Numbers, slice: usize) -> usize {
     size(numbers, add(LENGTHS, slice))
 }
 
-// The list that has the result in a lent slice.
+// The list that holds the result in a lent slice.
 pub fn result(slice: usize) -> usize {
     add(SLICES, slice)
 }
@@ -88,7 +88,7 @@ fn followed(number: u64, digit: u8) -> u64 {
     std::num::wrapping_add_u64(ten, (digit % 16) as u64)
 }
 
-// How many bytes come after the five digits and the space that a line begins with.
+// How many bytes follow the five digits and the space with which a line begins.
 fn length(head: &[u8; 6]) -> usize
     ensures { λ r. ⌜ r ≤ 8192 ⌝ }
 {
@@ -99,7 +99,7 @@ fn length(head: &[u8; 6]) -> usize
     (number % 8193) as usize
 }
 
-// The numbers of a text in which each number ends with a space or a newline.
+// Reads the numbers of a text in which each number ends with a space or a newline.
 fn decode(text: &[u8; 8192], length: usize, numbers: &mut Numbers) {
     let mut place = 0;
     let mut number = 0;
@@ -115,7 +115,7 @@ fn decode(text: &[u8; 8192], length: usize, numbers: &mut Numbers) {
     }
 }
 
-// Reads the next line of the input, into numbers. Answers whether there was one.
+// Reads the next line of the input into numbers. Answers whether there was one.
 pub fn next(numbers: &mut Numbers) -> bool {
     let mut head = [0u8; 6];
     if io::read_full(0, &mut head) < 6 {

@@ -1,4 +1,4 @@
-// Lists as a call takes them, and lent slices: what they hold before a call, and what they have to hold after it.
+// Lists as a call takes them, and lent slices: what they hold before a call, and what they must hold after it.
 use super::line;
 use super::line::Numbers;
 use super::line::add;
@@ -10,7 +10,7 @@ pub type Longs = [u64; 1152];
 
 pub type Bytes = [u8; 2048];
 
-// What stands at every place before a call.
+// What every place holds before a call.
 pub const BEFORE: u32 = 7;
 
 pub fn longs(numbers: &Numbers, list: usize) -> Longs {
@@ -44,7 +44,7 @@ fn wide(x: u32) -> u64 {
     x as u64
 }
 
-// What has to stand at a place of a slice that has no result there: what stood there if the answer is 1 to 7, else 0.
+// What a place of a slice must hold if there is no result at it: what it held before if the answer is 1 to 7, else 0.
 fn rest(number: u64) -> u64 {
     if number == 0 {
         return 0;
@@ -55,8 +55,8 @@ fn rest(number: u64) -> u64 {
     0
 }
 
-// What has to stand at a place of a slice: behind its lent length what stood there, before that the result from `first` on, and then
-// the rest.
+// What a place of a slice must hold: behind its lent length what it held before, in front of that the result from `first` on, and then the
+// rest.
 pub fn after(numbers: &Numbers, slice: usize, first: usize, i: usize) -> u64 {
     if line::lent(numbers, slice) <= i {
         return wide(BEFORE);
@@ -72,7 +72,7 @@ pub fn plus(a: u64, b: u64) -> u64 {
     a % 1099511627776 + b % 1099511627776
 }
 
-// How many places of a slice hold something else than they have to; four behind its lent length are looked at as well.
+// Counts the places of a slice that do not hold what they must; looks at four places behind its lent length as well.
 pub fn wrong32(found: &Words, numbers: &Numbers, slice: usize) -> u64 {
     let mut wrong = 0;
     let first = line::first(numbers, line::result(slice));

@@ -1,5 +1,4 @@
-// Patterns to try, drawn from a seed. What draws from a seed answers the seed to go on with. Nothing is promised but that every
-// function is safe and ends.
+// Draws patterns to try from a seed. A function that draws answers the next seed. Only this is proved: every function is safe and ends.
 pub mod shapes; // shapes.rt: named shapes, and random rows
 
 use shapes::choice;
@@ -19,7 +18,7 @@ fn thin(grid: &mut Grid, seed: usize) -> usize {
     state
 }
 
-// A pattern of n columns: a named shape, sometimes with a tree by lot, sometimes with rows by lot.
+// Draws a pattern of n columns: a named shape, sometimes with a random tree, sometimes with random rows.
 pub fn draw_pattern(grid: &mut Grid, n: usize, seed: usize) -> usize {
     let a = next(seed);
     let b = next(a);

@@ -4,7 +4,7 @@ use trial_elimination::grid::add;
 use trial_elimination::grid::less;
 use trial_elimination::grid::put;
 
-// The number after a seed, below 2^31. Its low digits repeat soon, so a choice is made by the high ones.
+// The number after a seed, below 2^31. Its low digits repeat soon, so a choice uses the high ones.
 pub fn next(seed: usize) -> usize {
     (seed % 2147483648 * 1103515245 + 12345) % 2147483648
 }
@@ -36,8 +36,8 @@ fn only_row(shape: usize, j: usize, n: usize) -> usize {
     }
 }
 
-// Whether a named shape has row i in column j: nothing if it is 0, everything, star with its centre first, band, blocks of four under
-// the last column, columns of up to three of the last rows, and the shapes with one row.
+// Tests whether a named shape has row i in column j: shape 0 has nothing, then everything, star with its centre first, band, blocks of four
+// under the last column, columns of up to three of the last rows, and the shapes with one row.
 fn in_shape(shape: usize, i: usize, j: usize, n: usize) -> bool {
     match shape {
         1 => true,
@@ -49,7 +49,7 @@ fn in_shape(shape: usize, i: usize, j: usize, n: usize) -> bool {
     }
 }
 
-// Couples row i to column j, if it lies below the diagonal and is not over n.
+// Couples row i to column j, if it is below the diagonal and at most n.
 fn couple(grid: &mut Grid, i: usize, j: usize, n: usize) {
     if j == 0 {
         return;
@@ -76,7 +76,7 @@ pub fn shape(grid: &mut Grid, shape: usize, n: usize) {
     }
 }
 
-// A random row in every column but the last.
+// Adds a random row to every column but the last.
 pub fn tree(grid: &mut Grid, n: usize, seed: usize) {
     let mut state = seed;
     for j in 1..25 {
@@ -85,7 +85,7 @@ pub fn tree(grid: &mut Grid, n: usize, seed: usize) {
     }
 }
 
-// A row below the diagonal once in `odds`, at random; none if `odds` is 0.
+// Adds each row below the diagonal once in `odds`, at random; none if `odds` is 0.
 pub fn sprinkle(grid: &mut Grid, odds: usize, n: usize, seed: usize) {
     let mut state = seed;
     for place in 0..cells(n) {

@@ -1,5 +1,5 @@
-// Runs to try, of up to 12 columns, drawn from a seed: lists with and without fill, steps of a plan and steps by lot, columns repeated,
-// damage to every argument, and rooms about the one needed. What draws from a seed answers the seed to go on with.
+// Draws runs to try, of up to 12 columns, from a seed: lists with and without fill, steps of a plan and random steps, repeated columns,
+// damage to every argument, and rooms about the one needed. A function that draws answers the next seed.
 use super::damage::damage;
 use super::lot::draw_lot;
 use trial_elimination::fill;
@@ -15,7 +15,7 @@ use trial_lists::shapes::next;
 // The greatest room.
 const MOST: usize = 18446744073709551615;
 
-// A number that is right nowhere, at every place of the arguments; the stack list has none.
+// Puts a number that is never right at every place of the arguments; the stack list has none.
 fn clear(case: &mut Sheet) {
     for place in 0..1500 {
         case[place] = 7000;
@@ -41,7 +41,7 @@ fn draw_lists(case: &mut Sheet, n: usize, seed: usize) -> usize {
     a
 }
 
-// All arguments but the room, which is the greatest: the steps are those of a plan, or drawn by lot.
+// Draws all arguments but the room, which is the greatest: the steps are those of a plan, or random.
 fn draw_steps(case: &mut Sheet, seed: usize) -> usize {
     let a = next(seed);
     let b = draw_lists(case, choice(a, 13), a);
@@ -55,7 +55,7 @@ fn draw_steps(case: &mut Sheet, seed: usize) -> usize {
     draw_lot(case, d)
 }
 
-// Half of the cases stay as they are; one argument is changed, or two.
+// Leaves half of the cases as they are; changes one argument of the others, or two.
 fn draw_damage(case: &mut Sheet, seed: usize) -> usize {
     let a = next(seed);
     let harm = choice(a, 6);
@@ -69,7 +69,7 @@ fn draw_damage(case: &mut Sheet, seed: usize) -> usize {
     damage(case, b)
 }
 
-// A room where so much is needed: that, one less, one more, something below, and the least and the greatest of all.
+// Draws a room where this much is needed: this, one less, one more, something below, and the least and the greatest of all.
 fn room_of(needed: usize, lot: usize, seed: usize) -> usize {
     match lot {
         0 => 0,
@@ -82,7 +82,7 @@ fn room_of(needed: usize, lot: usize, seed: usize) -> usize {
     }
 }
 
-// A room about what the steps need.
+// Draws a room about what the steps need.
 fn draw_room(case: &mut Sheet, seed: usize) -> usize {
     let needed = trial_simulation::simulate(case).count as usize;
     let a = next(seed);
@@ -92,7 +92,7 @@ fn draw_room(case: &mut Sheet, seed: usize) -> usize {
     b
 }
 
-// The case of a seed, into a sheet that has nothing in its stack list.
+// Draws the case of a seed into a sheet whose stack list is empty.
 pub fn draw_case(case: &mut Sheet, seed: usize) -> usize {
     clear(case);
     let a = draw_steps(case, seed);

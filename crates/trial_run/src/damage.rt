@@ -1,4 +1,4 @@
-// One argument of a case changed.
+// Changes one argument of a case.
 use trial_elimination::grid::add;
 use trial_elimination::grid::less;
 use trial_elimination::sheet;
@@ -9,7 +9,7 @@ use trial_elimination::sheet::set;
 use trial_lists::shapes::choice;
 use trial_lists::shapes::next;
 
-// The part to change: in the head n and the lengths stand.
+// Draws the part to change; the head holds n and the lengths.
 fn part_of(lot: usize) -> usize {
     match lot {
         0 | 1 | 2 => sheet::HEAD,
@@ -20,7 +20,7 @@ fn part_of(lot: usize) -> usize {
     }
 }
 
-// The place to change in a part that has so many.
+// Draws the place to change in a part with this many.
 fn place_of(part: usize, places: usize, seed: usize) -> usize {
     if part == sheet::HEAD {
         return add(sheet::N, choice(seed, 6));
@@ -28,8 +28,8 @@ fn place_of(part: usize, places: usize, seed: usize) -> usize {
     choice(seed, places)
 }
 
-// A number to put in the place of x: one of its neighbours, the least, the greatest of 32 and of 64 bits, the greatest n and one more,
-// one more than n, or one from 0 to n.
+// Draws a number to replace x: one of its neighbours, the least, the greatest of 32 and of 64 bits, the greatest n and one more, one more
+// than n, or one from 0 to n.
 fn other(x: usize, n: usize, lot: usize, seed: usize) -> usize {
     match lot {
         0 | 1 => less(x, 1),

@@ -1,4 +1,4 @@
-// Steps by lot.
+// Draws random steps.
 use trial_elimination::grid::add;
 use trial_elimination::grid::less;
 use trial_elimination::sheet;
@@ -15,7 +15,7 @@ fn least(a: usize, b: usize) -> usize {
     b
 }
 
-// The column after column c: any of n, c or the next, or one of the last two.
+// Draws the column after column c: any of n, c or the next, or one of the last two.
 fn column(kind: usize, c: usize, n: usize, seed: usize) -> usize {
     match kind {
         0 => add(choice(seed, n), 1),
@@ -24,7 +24,7 @@ fn column(kind: usize, c: usize, n: usize, seed: usize) -> usize {
     }
 }
 
-// Columns, often repeated, and pops below a number.
+// Draws columns, often repeated, and pops below a number.
 fn write_steps(case: &mut Sheet, n: usize, kind: usize, pops: usize, seed: usize) -> usize {
     let mut state = seed;
     let mut c = 1;
@@ -38,7 +38,7 @@ fn write_steps(case: &mut Sheet, n: usize, kind: usize, pops: usize, seed: usize
     state
 }
 
-// Takes one off the pops of the step that is refused 21, or a number up to the given one. Answers whether there was one.
+// Takes one off the pops of the step that is refused with 21, or with a number up to the given one. Answers whether there was such a step.
 fn mend_step(case: &mut Sheet, upto: u64) -> bool {
     let right = trial_simulation::simulate(case);
     if right.number < 21 {
@@ -53,7 +53,7 @@ fn mend_step(case: &mut Sheet, upto: u64) -> bool {
     true
 }
 
-// Mends pops, so many times.
+// Mends pops this many times.
 fn mend(case: &mut Sheet, upto: u64, times: usize) {
     for _ in 0..times {
         if !mend_step(case, upto) {
@@ -62,7 +62,7 @@ fn mend(case: &mut Sheet, upto: u64, times: usize) {
     }
 }
 
-// Up to which number pops are mended: they are no more than held, or have their rows in the front too.
+// Draws up to which number pops are mended: no more than are held, or their rows are in the front too.
 fn mended(lot: usize) -> u64 {
     if lot == 0 {
         return 21;
@@ -70,7 +70,7 @@ fn mended(lot: usize) -> u64 {
     22
 }
 
-// The columns and the pops of a case. The pops are mended, but for a quarter of the cases.
+// Draws the columns and the pops of a case. Mends the pops, except in a quarter of the cases.
 pub fn draw_lot(case: &mut Sheet, seed: usize) -> usize {
     let a = next(seed);
     let b = next(a);

@@ -1,6 +1,6 @@
-// Holds the run against a simulation apart from it, over drawn cases that meet every refusal of a run. Number, place, count and every
-// place of the stack list are compared. Prints a tally by right answers; a case with anything wrong is named by the seed that it is
-// drawn from, and its right place.
+// Tries the run against a simulation written apart from it, over drawn cases that meet every refusal of a run. Compares number, place,
+// count and every place of the stack list. Prints a tally by right answers; it names a case with anything wrong by its seed, and its right
+// place.
 mod cases; // cases.rt: drawn cases
 mod lot; // lot.rt: steps by lot
 mod damage; // damage.rt: an argument changed
@@ -9,7 +9,7 @@ mod notes; // notes.rt: what else is told of a case
 use trial_elimination::sheet::Sheet;
 use trial_tallies::Tally;
 
-// One case; what else is told of it may change it.
+// Tries one case; what else is counted of it may change it.
 fn hold(tally: &mut Tally, case: &mut Sheet, seed: usize) {
     let right = trial_simulation::simulate(case);
     let wrong = trial_run_call::wrong_in_call(case, right);

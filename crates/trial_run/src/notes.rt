@@ -1,4 +1,4 @@
-// What else is told of a case: cases that a run could get wrong and still meet every number.
+// Counts further cases, which a run could get wrong and still meet every number.
 use papers::Answer;
 use trial_elimination::grid::less;
 use trial_elimination::sheet;
@@ -8,7 +8,8 @@ use trial_elimination::sheet::set;
 use trial_tallies::Tally;
 use trial_tallies::count;
 
-// Places of the tally: done cases with a column repeated, cases refused 22 for an update below the top, all places and all counts together.
+// Places of the tally: done cases with a repeated column, cases refused with 22 for an update below the top, the sum of all places and of
+// all counts.
 const REPEATED: usize = 25;
 
 const DEEP: usize = 26;
@@ -17,12 +18,12 @@ const PLACES: usize = 27;
 
 const COUNTS: usize = 29;
 
-// Whether the columns of the steps i and j are the same; they are two of the first n.
+// Tests whether the columns of the steps i and j, two of the first n, are the same.
 fn same(case: &Sheet, i: usize, j: usize, n: usize) -> bool {
     j < i && i < n && get(case, sheet::COLUMNS, i) == get(case, sheet::COLUMNS, j)
 }
 
-// 1 if a column stands at two of the first n steps.
+// 1 if two of the first n steps have the same column.
 fn repeats(case: &Sheet, n: usize) -> u64 {
     for place in 0..256 {
         if same(case, place % 16, place / 16, n) {
@@ -32,7 +33,7 @@ fn repeats(case: &Sheet, n: usize) -> u64 {
     0
 }
 
-// 1 if a step that is refused 22 is not any more, when it takes off the top update only.
+// 1 if a step that is refused with 22 is not refused when it pops only the top update.
 fn deep(case: &mut Sheet, place: u64) -> u64 {
     set(case, sheet::POPS, less(place as usize, 1), 1);
     let answer = trial_simulation::simulate(case);

@@ -1,4 +1,4 @@
-// One run of a case, compared with what it has to do, for the test programs. Nothing is promised but that every function is safe and ends.
+// For the test programs: runs one case and compares. Only this is proved: every function is safe and ends.
 use papers::Answer;
 use trial_comparison::differences;
 use trial_comparison::words;

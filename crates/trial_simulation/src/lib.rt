@@ -1,6 +1,6 @@
-// A run straight from its rules, on a plain stack of column numbers: the other opinion that the test programs hold the proved run
-// against. It shares no code with it. It is for runs of up to 31 columns, with their arguments in a sheet. Nothing is promised but that
-// every function is safe and ends: places wrap and numbers stay small, so no function asks anything of its caller.
+// A run straight from its rules, on a plain stack of column numbers: the test programs compare the proved run with it. It shares no code
+// with that run. It takes runs of up to 31 columns, with their arguments in a sheet. Only this is proved: every function is safe and ends:
+// places wrap and numbers stay small, so no function asks anything of its caller.
 mod lists; // lists.rt: 4, 5 and 6
 mod fronts; // fronts.rt: the front of a column
 mod steps; // steps.rt: 14 and 21 to 24
@@ -18,14 +18,14 @@ fn answer(number: u64, place: usize, count: usize) -> Answer {
     }
 }
 
-// 7: whether columns, pops or stack list have fewer than n places.
+// Test 7: whether columns, pops or stack list have fewer than n places.
 fn short(case: &Sheet, n: usize) -> bool {
     length(case, sheet::COLUMNS) < n
         || length(case, sheet::POPS) < n
         || length(case, sheet::STACK) < n
 }
 
-// What a run has to answer.
+// What a run must answer.
 pub fn simulate(case: &Sheet) -> Answer {
     let n = sheet::n(case);
     if 4096 < n {

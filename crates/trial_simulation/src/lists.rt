@@ -1,4 +1,4 @@
-// The refusals of the lists: 4, 5 and 6. Number 0 says that there is none.
+// The refusals of the lists: 4, 5 and 6. Number 0 means that there is none.
 use super::answer;
 use papers::Answer;
 use trial_elimination::grid::add;
@@ -9,7 +9,7 @@ use trial_elimination::sheet::begin;
 use trial_elimination::sheet::get;
 use trial_elimination::sheet::length;
 
-// 4 at place 0: not n + 1 starts, or the first not 0.
+// 4 at place 0: there are not n + 1 starts, or the first is not 0.
 fn bad_starts(case: &Sheet, n: usize) -> bool {
     length(case, sheet::STARTS) != add(n, 1) || get(case, sheet::STARTS, 0) != 0
 }
@@ -29,7 +29,7 @@ fn bad_last(case: &Sheet, n: usize) -> bool {
     get(case, sheet::STARTS, n) != length(case, sheet::ROWS)
 }
 
-// The column whose list has the row at a place: the first that ends behind it.
+// The column whose list contains the row at a place: the first that ends behind it.
 fn owner(case: &Sheet, n: usize, place: usize) -> usize {
     for j in 0..n {
         if place < get(case, sheet::STARTS, j + 1) {
@@ -39,7 +39,8 @@ fn owner(case: &Sheet, n: usize, place: usize) -> usize {
     0
 }
 
-// 5: the row at a place is not above its column j, or over n. 6: it is not above the row before it, in the same list. 0: neither.
+// The fault of the row at a place: 5 if it does not exceed its column j or exceeds n, 6 if it does not exceed the row before it in the same
+// list, else 0.
 fn row_fault(case: &Sheet, n: usize, place: usize, j: usize) -> u64 {
     let row = get(case, sheet::ROWS, place);
     if row <= j || n < row {
@@ -54,7 +55,7 @@ fn row_fault(case: &Sheet, n: usize, place: usize, j: usize) -> u64 {
     0
 }
 
-// The first row that is 5 or 6, as the rows are read.
+// Finds the first row with 5 or 6 in reading order.
 fn rows_answer(case: &Sheet, n: usize) -> Answer {
     for place in 0..length(case, sheet::ROWS) {
         let j = owner(case, n, place);

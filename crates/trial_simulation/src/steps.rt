@@ -11,7 +11,7 @@ use trial_elimination::stack::change;
 use trial_elimination::stack::greater;
 use trial_elimination::stack::in_use;
 
-// Whether all rows of the topmost `pops` updates are in the front of c.
+// Tests whether all rows of the topmost `pops` updates are in the front of c.
 fn all_fit(case: &Sheet, stack: &Stack, height: usize, c: usize, pops: usize) -> bool {
     for k in less(height, pops)..height {
         if !fits(case, c, stack[k % 32]) {
@@ -21,7 +21,7 @@ fn all_fit(case: &Sheet, stack: &Stack, height: usize, c: usize, pops: usize) ->
     true
 }
 
-// 14, 21, 22 or 23 of a step that would use so much room, the first that holds; 0 if none does.
+// The first of 14, 21, 22 and 23 that holds of a step that would use this much room; 0 if none does.
 fn step_fault(
     case: &Sheet,
     stack: &Stack,
@@ -45,7 +45,7 @@ fn step_fault(
     0
 }
 
-// 24 if updates are left behind the last step, else done.
+// 24 if updates are left after the last step, else done.
 fn last_answer(n: usize, height: usize, greatest: usize) -> Answer {
     if height == 0 {
         return answer(0, 0, greatest);
@@ -53,7 +53,7 @@ fn last_answer(n: usize, height: usize, greatest: usize) -> Answer {
     answer(24, n, greatest)
 }
 
-// The steps one after the other, up to the first that is refused. `greatest` is over the steps before it.
+// Does the steps one after the other, up to the first that is refused. `greatest` is the greatest room of the steps before it.
 pub fn steps_answer(case: &Sheet, n: usize) -> Answer {
     let mut stack = [0usize; 32];
     let mut height = 0;

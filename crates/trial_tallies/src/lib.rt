@@ -1,8 +1,8 @@
-// What a test program counts over its cases, and how it is printed at the end. Nothing is promised but that every function is safe and
-// ends: places wrap, so no function asks anything of its caller.
+// Counts what a test program finds over its cases, and prints it at the end. Only this is proved: every function is safe and ends: places
+// wrap, so no function asks anything of its caller.
 
-// At the place of a number the cases that have it and of which nothing is wrong. Behind the numbers a program counts what else it
-// tells. At 30 all cases, at 31 those with anything wrong.
+// The place of a number counts the cases that have this number and nothing wrong. The places behind the numbers count what else a program
+// prints. Place 30 counts all cases, place 31 those with anything wrong.
 pub type Tally = [u64; 32];
 
 const CASES: usize = 30;
@@ -18,8 +18,8 @@ pub fn count(tally: &mut Tally, place: usize, more: u64) {
     tally[place % 32] = plus(tally[place % 32], more);
 }
 
-// A byte of a text. Those from 64 to 95 stand for the numbers of a tally: `@` for that at place 0, `A` for that at 1 and so on up to
-// `Z`, then `[`, `\`, `]`, `^` and `_`.
+// A byte of a text. Bytes from 64 to 95 are replaced by numbers of a tally: `@` by that at place 0, `A` by that at 1 and so on up to `Z`,
+// then `[`, `\`, `]`, `^` and `_`.
 fn put(tally: &Tally, byte: u8) {
     if byte / 32 == 2 {
         io::print_decimal(1, tally[(byte % 32) as usize]);
@@ -36,7 +36,7 @@ pub fn print(tally: &Tally, text: &[u8]) {
     }
 }
 
-// Tells of a case with anything wrong: how many cases there were up to it, its number, how much is wrong, and two numbers that name it.
+// Prints a case with anything wrong: how many cases there were up to it, its number, how much is wrong, and two numbers that name it.
 fn mismatch(case: u64, number: u64, wrong: usize, a: u64, b: u64) {
     let mut told = [0u64; 32];
     told[0] = case;
@@ -47,7 +47,7 @@ fn mismatch(case: u64, number: u64, wrong: usize, a: u64, b: u64) {
     print(&told, b"mismatch @ A B C D\n");
 }
 
-// Counts a case, by its number if nothing of it is wrong. Tells of the first twenty with anything wrong.
+// Counts a case, by its number if nothing of it is wrong. Prints the first twenty with anything wrong.
 pub fn tell(tally: &mut Tally, number: u64, wrong: usize, a: u64, b: u64) {
     count(tally, CASES, 1);
     if wrong == 0 {

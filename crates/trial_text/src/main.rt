@@ -1,18 +1,18 @@
-// Holds the listing of a job text against what a plain reading of the rules has printed for it, apart from the product (tests/texts.py,
-// which also made the input and says what a case of it is): every refusal that a text can meet, every size met and passed by one, trees
-// of many forms, real patterns, texts drawn and damaged. The answer and every byte of the lent slice are compared, the zeros behind
-// what is printed too. Prints how often each number was told; a case with anything wrong is named.
+// Tries the listing of a job text against what a plain reading of the rules prints for it, written apart from the product (tests/texts.py,
+// which also made the input and says what a case is): every refusal that a text can meet, every size met exactly and exceeded by one, trees
+// of many forms, real patterns, texts drawn and damaged. Compares the answer and every byte of the lent slice, the zeros behind what is
+// printed too. Prints how often each number was printed; it names a case with anything wrong.
 use papers::Answer;
 use trial_tallies::Tally;
 ghost use Prim.Native.Nat.{_≤_, _<_};
 
-// The head of a case, `ttttt m lllll` and a newline: bytes of text, 1 if more input follows them, bytes that have to be printed.
+// The head of a case, `ttttt m lllll` and a newline: bytes of text, 1 if more input follows them, bytes that must be printed.
 pub type Head = [u8; 14];
 
-// More of a text than the program `plan` keeps.
+// More bytes than the program `plan` keeps of a text.
 pub type Text = [u8; 8448];
 
-// A slice longer than any listing needs, as it has to be after a call: what is printed, then zeros.
+// A slice longer than any listing needs, as it must be after a call: what is printed, then zeros.
 pub type Printed = [u8; 24600];
 
 // A digit.
@@ -47,7 +47,7 @@ fn printed_length(head: &Head) -> usize
     five_digits(head, 8) % 24601
 }
 
-// The number that is told: 0 by a listing, which begins with `plan`, else the one or two digits behind `refused `.
+// The number that is printed: 0 by a listing, which begins with `plan`, else the one or two digits behind `refused `.
 fn number_told(printed: &Printed) -> usize
     ensures { λ r. ⌜ r < 100 ⌝ }
 {
@@ -61,7 +61,7 @@ fn number_told(printed: &Printed) -> usize
     first * 10 + digit(printed[9])
 }
 
-// Whether an answer is not that of a listing of so many bytes, or the bytes are not the same.
+// Tests whether an answer is not that of a listing of this many bytes, or the bytes differ.
 fn wrong(answer: Answer, printed: usize, same: bool) -> usize {
     if answer.number != 0 {
         return 1;
@@ -78,8 +78,8 @@ fn wrong(answer: Answer, printed: usize, same: bool) -> usize {
     1
 }
 
-// Lends a slice that holds something at every place, and compares what a call made of it. A case with anything wrong is named by the
-// right number.
+// Lends a slice that holds something at every place, and compares what a call makes of it. The right number names a case with anything
+// wrong.
 fn hold(tally: &mut Tally, head: &Head, text: &Text, right: &Printed) {
     let mut printed = [7u8; 24600];
     let given = slices::part(text, text_length(head));
@@ -90,7 +90,7 @@ fn hold(tally: &mut Tally, head: &Head, text: &Text, right: &Printed) {
     trial_tallies::tell(tally, told, wrong, number_told(right) as u64, 0);
 }
 
-// Holds the next case. Answers whether there was one.
+// Tries the next case. Answers whether there was one.
 fn hold_next(tally: &mut Tally) -> bool {
     let mut head = [0u8; 14];
     if io::read_full(0, &mut head) < 14 {
@@ -106,7 +106,7 @@ fn hold_next(tally: &mut Tally) -> bool {
     true
 }
 
-// Holds all cases, but not more than `most`.
+// Tries all cases, but no more than `most`.
 fn hold_all(tally: &mut Tally, most: usize) {
     for _ in 0..most {
         if !hold_next(tally) {

@@ -1,12 +1,12 @@
-// The walk over the tree: one task does a column, one does a list of siblings. Of the siblings the largest is handed back for the column
-// task to go on with, so the tasks call each other no deeper than columns can be halved.
+// The walk over the tree, by two tasks: `column` writes a column's subtree, `siblings` a list of siblings, and they call each other. The
+// siblings' task hands its largest subtree back to the column's task, so the calls nest no deeper than the number of columns can be halved.
 ghost use mathlib.Core.Path.{_≡_};
 ghost use Prim.Native.Nat.{_+_, _<_, _≤_, _^_};
 ghost use lib.ListN.{length, getD};
 ghost use lib.Seq.{sets};
 ghost use Rattle.walk.specs.Tasks.{Asked, ownSteps, kidsSteps};
 
-// A column, the count of its subtree's columns, and the first step of that block. Column 0 is none, of no steps.
+// A column, the number of columns of its subtree, and the first step of that block. Column 0 means no column, with no steps.
 pub struct Block {
     pub column: usize,
     pub size: usize,
@@ -48,11 +48,11 @@ pub fn column(
     };
     while b.column != 0 {
         order[b.at + b.size - 1] = b.column as u32;
-        // many columns are leaves: no child, so no need to ask for siblings
+        // many columns are leaves: they have no child, so the siblings' task is not called
         if b.size == 1 {
             return;
         }
-        // many have one child: there is nothing to choose, and it is gone on with at once
+        // many columns have one child: there is nothing to choose, and the loop takes the child itself
         let c = b.column;
         let child = child_block(list, counts, starts[c] as usize, b.at);
         if child.size == b.size - 1 {
@@ -63,8 +63,8 @@ pub fn column(
     }
 }
 
-// Writes the steps of j's children, `left` of them, from `at` on, but for those of the largest child, whose block it hands back. The
-// largest so far is held; a child that is no larger is done at once, and a larger one takes its place.
+// Writes the steps of j's children, `left` of them, from `at` on, except those of the largest child, whose block it hands back. It holds
+// the largest child so far: a child that is no larger is done at once, and a larger one takes its place.
 pub fn siblings(
     starts: &[u64],
     list: &[u32],

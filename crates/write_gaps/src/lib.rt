@@ -1,5 +1,5 @@
-// The gaps of a run of rows written into a lent slice, as far as the slice has places: all as low bytes at once where each has one
-// byte, else one by one.
+// Writes the gaps of a run of rows into a lent slice, as far as the slice goes: all low bytes at once if each gap has one byte, else one by
+// one.
 ghost use mathlib.Core.Path.{_≡_};
 ghost use Prim.Native.Nat.{_+_, _-_, _^_, _≤_, _<_};
 ghost use lib.ListN.{length};
@@ -10,9 +10,9 @@ ghost use Rattle.papers.specs.Key.{gapsOf};
 ghost use Rattle.write_gaps.specs.ListAt.{ListAt};
 ghost use Rattle.write_gaps.specs.LowBytes.{lowBytes};
 
-// Stores the low byte of each gap of the rows from `from` up to `to` behind the row b, and answers the greatest gap: where that is
-// below 128, these are the bytes of the gaps. The rows before i are stored, `before` is the last of them, or b. Without a jump in the
-// loop.
+// Stores the low byte of each gap of the rows from `from` up to `to` behind the row b, and answers the greatest gap: if that is below 128,
+// these are the bytes of the gaps. In the loop the rows before i are stored, and `before` is the last of them, or b. The loop contains no
+// jump.
 fn low_bytes(rows: &[u32], from: usize, to: usize, b: u32, bytes: &mut [u8], at: usize) -> u32
     requires { ⌜ ListAt b (now rows) from to × (at + (to - from) ≤ length (now bytes)) ⌝ }
     ensures widest { λ r. ⌜ r ≡ greatest (gapsOf b (slice from to (now (rows .entry)))) ⌝ }
@@ -34,8 +34,8 @@ fn low_bytes(rows: &[u32], from: usize, to: usize, b: u32, bytes: &mut [u8], at:
     widest
 }
 
-// Writes the gaps of the rows from `from` up to `to` behind the row b, from `at` on, and answers the place behind them.
-// The rows before i are written up to next, and `before` is the last of them, or b.
+// Writes the gaps of the rows from `from` up to `to` behind the row b, from `at` on, and answers the place behind them. In the loop the
+// rows before i are written up to next, and `before` is the last of them, or b.
 fn write_gaps(rows: &[u32], from: usize, to: usize, b: u32, bytes: &mut [u8], at: usize) -> usize
     requires { ⌜ ListAt b (now rows) from to × (at < 2 ^ 62) ⌝ }
     ensures place { λ r. ⌜ r ≡ at + length (encode (gapsOf b (slice from to (now (rows .entry))))) ⌝ }
@@ -53,7 +53,7 @@ fn write_gaps(rows: &[u32], from: usize, to: usize, b: u32, bytes: &mut [u8], at
     next
 }
 
-// Writes gaps as write_gaps does. Most gaps have one byte: where all have, and the slice has the places, the low bytes are all of it.
+// Writes gaps as write_gaps does. Most gaps have one byte: if all have, and the slice has the places, storing the low bytes is enough.
 pub fn write_run(rows: &[u32], from: usize, to: usize, b: u32, bytes: &mut [u8], at: usize) -> usize
     requires { ⌜ ListAt b (now rows) from to × (at < 2 ^ 62) ⌝ }
     ensures place { λ r. ⌜ r ≡ at + length (encode (gapsOf b (slice from to (now (rows .entry))))) ⌝ }

@@ -1,5 +1,5 @@
-// The lists of columns written into a lent slice, for keys and plans: of each its count and the gaps between its rows, as far as the
-// slice has places.
+// Writes the lists of columns into a lent slice, for keys and plans: of each its count and the gaps between its rows, as far as the slice
+// goes.
 ghost use mathlib.Core.Path.{_≡_};
 ghost use Prim.Native.Nat.{_+_, _-_, _^_, _≤_, _<_};
 ghost use lib.ListN.{length};
@@ -25,8 +25,8 @@ fn run_end(i: usize, to: usize) -> usize
     i + RUN
 }
 
-// Writes the list of column j, its count and its gaps, from `at` on, and answers the place behind it.
-// The rows before i are written up to next, and `before` is the last of them, or j.
+// Writes the list of column j, its count and its gaps, from `at` on, and answers the place behind it. In the loop the rows before i are
+// written up to next, and `before` is the last of them, or j.
 fn write_list(rows: &[u32], from: usize, to: usize, j: u32, bytes: &mut [u8], at: usize) -> usize
     requires { ⌜ ListAt j (now rows) from to × (at < 2 ^ 61) ⌝ }
     ensures place { λ r. ⌜ r ≡ at + length (encode (listNumbers j (slice from to (now (rows .entry))))) ⌝ }
@@ -46,8 +46,8 @@ fn write_list(rows: &[u32], from: usize, to: usize, j: u32, bytes: &mut [u8], at
     next
 }
 
-// Writes the lists of the columns 1 to n from `at` on, and answers the place behind them. Those of the first `done` columns are written
-// up to next.
+// Writes the lists of the columns 1 to n from `at` on, and answers the place behind them. In the loop those of the first `done` columns are
+// written up to next.
 pub fn write_lists(n: u64, starts: &[u64], rows: &[u32], bytes: &mut [u8], at: usize) -> usize
     requires few { ⌜ n ≤ maxColumns ⌝ }
     requires starts_pass { ⌜ startsTest n (now starts) (now rows) ≡ passed ⌝ }

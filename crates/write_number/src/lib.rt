@@ -1,5 +1,5 @@
-// A number written into a lent slice, as far as the slice has places. So whoever writes numbers one behind the other learns at the end
-// how many bytes all of them take, and needs no count before.
+// Writes a number into a lent slice, as far as the slice goes. So whoever writes numbers one behind the other learns at the end how many
+// bytes they all take, and need not count before.
 ghost use mathlib.Core.Path.{_≡_};
 ghost use Prim.Native.Nat.{_+_, _<_, _^_};
 ghost use lib.ListN.{length, set};
@@ -16,9 +16,8 @@ fn put_byte(dst: &mut [u8], at: usize, b: u8)
     }
 }
 
-// Writes the bytes of x from `at` on, those for which there is a place, and answers the place behind them all, which follows from the
-// leading zeros of x. One byte or two, which most numbers have, are stored at once; of more the first i of the little array are
-// written.
+// Writes the bytes of x from `at` on, those for which there is a place, and answers the place behind them all, known from the leading zeros
+// of x. Most numbers have one byte or two, which are stored at once; of more, in the loop the first i of the little array are written.
 pub fn put(dst: &mut [u8], at: usize, x: u64) -> usize
     requires { ⌜ Fits x × (at < 2 ^ 63) ⌝ }
     ensures { λ r. ⌜ (r ≡ at + length (bytesOf x)) × (now (dst .exit) ≡ sets (now (dst .entry)) at (bytesOf x)) ⌝ }

@@ -1,4 +1,4 @@
-// The bytes of a plan, written into a lent slice: its key, its steps, its lists and its peak.
+// Writes the bytes of a plan into a lent slice: its key, its steps, its lists and its peak.
 ghost use mathlib.Core.Path.{_≡_};
 ghost use Prim.Native.Nat.{_+_, _^_, _≤_, _<_};
 ghost use lib.ListN.{length};
@@ -13,7 +13,7 @@ ghost use Rattle.write_stored.specs.Stored.{stored};
 use papers::Answer;
 use papers::JobHead;
 
-// Writes the steps from `at` on, and answers the place behind them. The first `done` are written up to next.
+// Writes the steps from `at` on, and answers the place behind them. In the loop the first `done` are written up to next.
 pub fn write_steps(order: &[u32], pops: &[u32], bytes: &mut [u8], at: usize) -> usize
     requires paired { ⌜ length (now order) ≤ length (now pops) ⌝ }
     requires few { ⌜ length (now order) ≤ maxColumns ⌝ }
@@ -33,7 +33,7 @@ pub fn write_steps(order: &[u32], pops: &[u32], bytes: &mut [u8], at: usize) -> 
     next
 }
 
-// Writes the plan of a job to the front of a slice, as far as it has places, and answers the place behind it: the bytes needed.
+// Writes the plan of a job to the front of a slice, as far as the slice goes, and answers the place behind it: the bytes needed.
 pub fn put_plan(
     head: JobHead,
     starts: &[u64],
@@ -62,7 +62,8 @@ pub fn put_plan(
     write_number::put(bytes, lists, peak)
 }
 
-// The plan of a job, whose steps, lists and peak are these, in a lent slice, then zeros; 10 with the bytes needed where it does not fit.
+// Writes the plan of a job with these steps, lists and peak into a lent slice, then zeros. Answers 10 with the bytes needed if it does not
+// fit.
 pub fn store_plan(
     head: JobHead,
     starts: &[u64],

@@ -1,5 +1,5 @@
-// What comes of bytes that were written from the front of a lent slice on, as far as it has places, and of the slice where nothing is
-// written.
+// Ends a writing: decides between 10 and done for bytes that were written from the front of a slice as far as it goes, and clears the rest
+// or all of the slice.
 ghost use mathlib.Core.Path.{_≡_};
 ghost use mathlib.Core.List.{List};
 ghost use Prim.Native.Nat.{ℕ, _<_, _≤_};
@@ -10,7 +10,7 @@ ghost use Rattle.papers.specs.Refusals.{EndsAs};
 ghost use Rattle.write_stored.specs.Stored.{stored};
 use papers::Answer;
 
-// 10 with the bytes needed where they do not all have a place, and the slice is zero; else done, and zeros stand behind them.
+// Answers 10 with the bytes needed, and clears the slice, if the bytes do not fit; else answers done, and clears what is behind them.
 pub fn finish(bytes: &mut [u8], needed: usize) -> Answer
     ensures { λ r. ⌜
         ((written before : List ℕ) → needed ≡ length written → now (bytes .entry) ≡ sets before 0 written
@@ -25,7 +25,7 @@ pub fn finish(bytes: &mut [u8], needed: usize) -> Answer
     basics::answered(0, 0, needed as u64)
 }
 
-// What a refusal with this number leaves of the bytes: up to 7 they stay, after it they are zero.
+// Clears the bytes after a refusal with a number over 7; up to 7 they stay as they were.
 pub fn clear_late(number: u64, bytes: &mut [u8])
     ensures early { λ _. ⌜ (number ≤ 7 → now (bytes .exit) ≡ now (bytes .entry)) ⌝ }
     ensures late { λ _. ⌜ (7 < number → now (bytes .exit) ≡ zeros (now (bytes .entry))) ⌝ }
