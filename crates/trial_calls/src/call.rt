@@ -70,8 +70,9 @@ fn write_key(numbers: &Numbers, starts: &[u64], rows: &[u32]) -> Found {
     compared(numbers, answer, &bytes)
 }
 
-// 1 for a plan that the check of its own job does not pass.
-fn fails(numbers: &Numbers, starts: &[u64], rows: &[u32], plan: &[u8]) -> u64 {
+// 1 for a written plan that the check of its own job does not pass. The plan is handed on as the part of the slice that holds it.
+fn fails(numbers: &Numbers, starts: &[u64], rows: &[u32], bytes: &Bytes, count: u64) -> u64 {
+    let plan = slices::part(bytes, (count % 4097) as usize);
     let mut parents = [0u32; 512];
     let mut order = [0u32; 512];
     let mut pops = [0u32; 512];
@@ -123,10 +124,10 @@ fn write_plan(numbers: &Numbers, starts: &[u64], rows: &[u32]) -> Found {
     if answer.number != 0 {
         return found;
     }
-    let plan = slices::part(&bytes, (answer.count % 4097) as usize);
+    let count = answer.count;
     Found {
         answer,
-        wrong: plus(found.wrong, fails(numbers, starts, rows, plan)),
+        wrong: plus(found.wrong, fails(numbers, starts, rows, &bytes, count)),
     }
 }
 

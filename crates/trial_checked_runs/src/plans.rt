@@ -139,13 +139,13 @@ fn keyed(plan: &Plan, key: u8) -> Plan {
     bytes
 }
 
-// Checks a plan of this many bytes under the key of a mark.
+// Checks a plan of so many bytes, handed on as the part that holds it, under the key of a mark.
 pub fn check(case: &mut Sheet, job: &Sheet, plan: &Plan, count: u64, key: u8) -> Answer {
     let starts = trial_comparison::longs(job, sheet::STARTS);
     let rows = trial_comparison::words(job, sheet::ROWS);
     let a = length(job, sheet::STARTS) % 301;
     let b = length(job, sheet::ROWS) % 301;
     let bytes = keyed(plan, key);
-    let c = (count % 1025) as usize;
-    check_lists(case, head(job, key), &starts[..a], &rows[..b], &bytes[..c])
+    let written = slices::part(&bytes, (count % 1025) as usize);
+    check_lists(case, head(job, key), &starts[..a], &rows[..b], written)
 }

@@ -12,9 +12,6 @@ slice-aggregate-check-lists c = simp length-take (omega arith)
 slice-aggregate-check-lists-2 : tie.Need-slice-aggregate-check-lists-2
 slice-aggregate-check-lists-2 c = simp length-take (omega arith)
 
-slice-aggregate-check-lists-3 : tie.Need-slice-aggregate-check-lists-3
-slice-aggregate-check-lists-3 c = simp length-take (omega arith)
-
 pub check-spec : {M : Type 1} → statement M
 check-spec =
     tie.close
@@ -24,12 +21,12 @@ check-spec =
     (λ c κs. tt)
     (λ c κs. tt)
     (λ c κs. tt)
+    (λ c. search needs)
+    (λ c κs. tt)
     (λ c κs. tt)
     (λ c. search needs)
     slice-aggregate-check-lists
     (λ c. search needs)
     slice-aggregate-check-lists-2
-    (λ c. search needs)
-    slice-aggregate-check-lists-3
     (λ c κs. tt)
     (λ c. tt))

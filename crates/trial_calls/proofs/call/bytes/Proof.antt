@@ -1,0 +1,31 @@
+-- The loop asks nothing of what it holds; the measure is how many turns are left.
+-- Assumes nothing.
+use Prim.Native.Nat.{_-_}
+use native.Mathlib.Omega.{arith}
+use borrow.Author.Needs.{needs}
+use Rattle.trial_calls.proofs.call.bytes.Statement.{statement}
+use Rattle.trial_calls.proofs.call.bytes.Tie as tie
+
+abbrev Inv-loop : tie.InvT-loop
+Inv-loop numbers list out₀ first i₀ i-end out i = Unit {0}
+
+abbrev μ-loop : tie.MeasureT-loop
+μ-loop numbers list out₀ first i₀ i-end out i = i-end - i
+
+pub bytes-spec : {M : Type 1} → statement M
+bytes-spec =
+    tie.close
+    (tie.spec
+    Inv-loop
+    μ-loop
+    (λ c κs. tt)
+    (λ c κs. tt)
+    (λ c. tt)
+    (λ c κs. tt)
+    (λ c κs. tt)
+    (λ c. search needs)
+    (λ c. search needs)
+    (λ c. omega arith)
+    (λ c. omega arith)
+    (λ c. tt)
+    (λ c. tt))
