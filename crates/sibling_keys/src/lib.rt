@@ -1,11 +1,10 @@
 // A column and its children: the keys by which these descend, and the W of the column from theirs.
 ghost use mathlib.Core.Path.{_≡_};
-ghost use Prim.Native.Nat.{_+_, _-_, _≤_};
-ghost use lib.ListN.{length};
+ghost use Prim.Native.Nat.{_≤_};
 ghost use Rattle.papers.specs.Bounds.{maxColumns};
 ghost use Rattle.papers.specs.Order.{siblingKey};
 ghost use Rattle.tree.specs.Laid.{part};
-ghost use Rattle.sibling_keys.specs.Kids.{keyAt, needAt, Kids, Keyed};
+ghost use Rattle.sibling_keys.specs.Kids.{keyAt, needAt, Kids, Keyable, Keyed};
 
 // The key by which siblings descend: of a child with its rows and its W, under a parent with `above` rows.
 fn sibling_key(mark: u64, above: u64, rows: u64, w: u64) -> u64
@@ -35,8 +34,7 @@ pub fn store_keys(
     w: usize,
     k: usize,
 )
-    requires kids { ⌜ Kids (now factor) (part w k (now work)) (now kids) j ⌝ }
-    requires room { ⌜ (w ≤ k) × (k + (k - w) ≤ length (now work)) ⌝ }
+    requires { ⌜ Keyable (now factor) (now kids) j (now work) w k ⌝ }
     ensures { λ _. ⌜
         Keyed k (keyAt mark (now (factor .entry)) (part w k (now (work .entry))) j) (now (kids .entry)) (now (work .entry))
         (now (work .exit))
