@@ -10,7 +10,7 @@ use Rattle.papers.specs.Bounds.{maxColumns}
 abbrev pub countAt : List ℕ → ℕ → ℕ
 countAt starts i = getD starts (i + 1) 0 - getD starts i 0
 
--- such a list is there
+-- the list from start i to the next one is there
 pub record ListAt (starts : List ℕ) (i : ℕ) : Type 0 where
   pub known : i + 1 < length starts
   pub rise : getD starts i 0 ≤ getD starts (i + 1) 0
@@ -26,7 +26,7 @@ pub record Column (factor : List ℕ) (j : ℕ) : Type 0 where
   pub rise : getD factor (j - 1) 0 ≤ getD factor j 0
   pub few : getD factor j 0 ≤ getD factor (j - 1) 0 + maxColumns
 
--- r is the number of its rows
+-- r is the number of column j's rows, no more than there may be columns
 pub record RowsOf (factor : List ℕ) (j r : ℕ) : Type 0 where
   pub same : r ≡ rowsIn factor j
   pub few : r ≤ maxColumns

@@ -30,7 +30,7 @@ pub record Over (below : List ℕ) (depth pops rows : ℕ) : Type 0 where
   pub light : (i : ℕ) → i ≤ depth → getD below i 0 ≤ maxColumns * mostEntries
   pub few : rows ≤ maxColumns
 
--- the step done: so many updates are then held, and `after` has their sums
+-- the step done: so many updates are then held, and their sums stand in what was below
 pub record Held (below : List ℕ) (depth pops rows : ℕ) (after : List ℕ) (count : ℕ) : Type 0 where
   pub counted : count ≡ depth - pops + min rows 1
   pub summed : after ≡ set below (depth - pops + 1) (getD below (depth - pops) 0 + t rows)

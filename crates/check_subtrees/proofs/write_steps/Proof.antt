@@ -1,4 +1,5 @@
--- The loop's invariant: the first k steps are written. The measure is how many are left.
+-- No column has two steps, so a step once written stays. The loop's invariant: the first k steps are written; the measure is how many are
+-- left.
 -- Assumes nothing.
 use Prim.Native.Nat.{_-_}
 use native.Mathlib.Omega.{arith}

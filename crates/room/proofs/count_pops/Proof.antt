@@ -1,4 +1,5 @@
--- The loop's invariant: the pops of the first k steps are written. The measure is how many are left.
+-- A list of children is as long as from its start to the next one. The loop's invariant: the pops of the first k steps are written; the
+-- measure is how many are left.
 -- Assumes nothing.
 use Prim.Native.Nat.{ℕ, _+_, _-_, _<_, _≤_}
 use mathlib.Core.Path.{_≡_, refl, _∙_}

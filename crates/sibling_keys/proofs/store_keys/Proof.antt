@@ -1,5 +1,5 @@
--- The loop's invariant: the keys of the first i children are stored, and what lies before the keys is as it was. The measure is how many are
--- left.
+-- The keys lie behind the W, so no W that is still to be read is lost. The loop's invariant: the keys of the first i children are stored,
+-- and what lies before the keys is as it was; the measure is how many are left.
 -- Assumes nothing.
 use Prim.Native.Nat.{_-_}
 use native.Mathlib.Omega.{arith}
