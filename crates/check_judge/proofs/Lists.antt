@@ -8,6 +8,7 @@ use native.Mathlib.Omega.{arith}
 use lib.ListN.{length, take, length-map}
 use lib.Seq.{sets, sets-eq, take-at}
 use Rattle.papers.specs.declared.Answer.{Answer}
+use Rattle.papers.specs.Bounds.{workLength}
 use Rattle.papers.specs.Lists.{upTo}
 use Rattle.papers.specs.Job.{Job, pattern}
 use Rattle.papers.specs.Tree.{parent}
@@ -17,8 +18,21 @@ use Rattle.papers.specs.Check.{repeatTest, listTest}
 use Rattle.list_laws.proofs.UpTo.{length-upTo}
 use Rattle.job_laws.proofs.Firsts.{first-passes}
 use Rattle.check_lists.specs.Lists.{PlanLists, HoldLists, FirstWrong}
-use Rattle.check_judge.specs.Judged.{InFront, OnTree, SomeOnTree, treeTests, judgeTests, ruling}
+use Rattle.check_judge.specs.Judged.{InFront, OnTree, TreeGiven, judgeTests, ruling, TreeJudged}
 use Rattle.check_judge.proofs.Rulings.{ruling-refused, decides, at-refuses, at-passes}
+
+length-family : (f : ℕ → ℕ) (n : ℕ) → length (map f (upTo n)) ≡ n
+length-family f n = length-map (upTo n) f ∙ length-upTo n
+
+pub parents-count : (f : ℕ → ℕ) (n : ℕ) {parents : List ℕ} → parents ≡ map f (upTo n) → length parents ≡ n
+parents-count f n e = ap length e ∙ length-family f n
+
+-- the front of a slice in which the parents are stored
+parents-in-front : (f : ℕ → ℕ) (n : ℕ) (parents : List ℕ) {after : List ℕ} → n ≤ length parents → after ≡ sets parents 0 (map f (upTo n))
+    → take n after ≡ map f (upTo n)
+parents-in-front f n parents h e =
+    let long = length-family f n in
+    rw (e, sets-eq (map f (upTo n)) parents 0 (omega arith)) (take-at (map f (upTo n)) _ n long)
 
 module _ (job : Job) (valid : first jobTests job ≡ passed) (plan : Plan) {peak : ℕ} {order pops fstarts frows : List ℕ}
     (front : InFront (job .n) plan peak order pops fstarts frows) where
@@ -43,28 +57,35 @@ module _ (job : Job) (valid : first jobTests job ≡ passed) (plan : Plan) {peak
       passes-17 z = at-passes 17 (e (plan .lists) plan-lists) z
 
     module _ (right : listTest job plan ≡ passed) where
-      -- the tests of the tree are left, of a plan on the job's tree
-      pub left-to-tree : {r : Answer} → r ≡ ruling (first (treeTests job) plan) peak → r ≡ ruling (first (judgeTests job) plan) peak
-      unfolding judgeTests
-      left-to-tree q = q ∙ sym (ap (λ v. ruling v peak) (first-passes _ _ plan unrepeated ∙ first-passes _ _ plan right))
+      -- the parents are stored in the front of their slice
+      module _ {limit : ℕ} (parents : List ℕ) {after : List ℕ} (limited : job .limit ≡ limit) (long : job .n ≤ length parents)
+          (stored : after ≡ sets parents 0 (map (parent (pattern job)) (upTo (job .n))))
+        where
+          parents-are : take (job .n) after ≡ map (parent (pattern job)) (upTo (job .n))
+          parents-are = parents-in-front (parent (pattern job)) (job .n) parents long stored
 
-      pub on-tree : {limit : ℕ} {parents : List ℕ} → job .limit ≡ limit → parents ≡ map (parent (pattern job)) (upTo (job .n))
-          → OnTree job plan limit peak parents (take (job .n) order) (take (job .n) pops) (take (job .n + 1) fstarts)
-      on-tree l e = record { valid = valid; limited = l; held = front .held; unrepeated = unrepeated; right = right; parents-are = e }
+          on-tree : OnTree job plan limit peak (take (job .n) after) (take (job .n) order) (take (job .n) pops) (take (job .n + 1) fstarts)
+          on-tree = record {
+            valid = valid;
+            limited = limited;
+            held = front .held;
+            unrepeated = unrepeated;
+            right = right;
+            parents-are = parents-are;
+          }
 
-      pub some-on-tree : {limit : ℕ} {parents : List ℕ} → job .limit ≡ limit → parents ≡ map (parent (pattern job)) (upTo (job .n))
-          → SomeOnTree limit peak parents (take (job .n) order) (take (job .n) pops) (take (job .n + 1) fstarts)
-      some-on-tree l e = record { job = job; plan = plan; on = on-tree l e }
+          -- what the tests of the tree ask
+          pub tree-given : {work : List ℕ} → workLength (job .n) ≤ length work
+              → TreeGiven limit peak (take (job .n) after) (take (job .n) order) (take (job .n) pops) (take (job .n + 1) fstarts) work
+          tree-given h = record {
+            plan = record { job = job; plan = plan; on = on-tree };
+            room = rw (parents-count (parent (pattern job)) (job .n) parents-are) h;
+          }
 
-length-family : (f : ℕ → ℕ) (n : ℕ) → length (map f (upTo n)) ≡ n
-length-family f n = length-map (upTo n) f ∙ length-upTo n
-
-pub parents-count : (f : ℕ → ℕ) (n : ℕ) {parents : List ℕ} → parents ≡ map f (upTo n) → length parents ≡ n
-parents-count f n e = ap length e ∙ length-family f n
-
--- the front of a slice in which the parents are stored
-pub parents-in-front : (f : ℕ → ℕ) (n : ℕ) (parents : List ℕ) {after : List ℕ} → n ≤ length parents → after ≡ sets parents 0 (map f (upTo n))
-    → take n after ≡ map f (upTo n)
-parents-in-front f n parents h e =
-    let long = length-family f n in
-    rw (e, sets-eq (map f (upTo n)) parents 0 (omega arith)) (take-at (map f (upTo n)) _ n long)
+          -- they are left, and their answer is the plan's
+          pub left-to-tree : {r : Answer}
+              → TreeJudged limit peak (take (job .n) after) (take (job .n) order) (take (job .n) pops) (take (job .n + 1) fstarts) r
+              → r ≡ ruling (first (judgeTests job) plan) peak
+          unfolding judgeTests
+          left-to-tree judged =
+              judged job plan on-tree ∙ sym (ap (λ v. ruling v peak) (first-passes _ _ plan unrepeated ∙ first-passes _ _ plan right))

@@ -1,17 +1,20 @@
 -- A plan that was read, as slices hold it; the tests that judge it, and the answer to their verdict.
 -- Assumes nothing.
-use Prim.Native.Nat.{ℕ, _+_}
+use Prim.Native.Nat.{ℕ, _+_, _≤_}
 use mathlib.Core.Path.{_≡_}
 use mathlib.Core.List.{List, [], _∷_, map}
 use lib.ListN.{length, take}
+use lib.Seq.{sets}
 use Rattle.papers.specs.declared.Answer.{Answer}
+use Rattle.papers.specs.Bounds.{workLength}
 use Rattle.papers.specs.Lists.{upTo, flat, startsFrom}
 use Rattle.papers.specs.Job.{Job, pattern}
 use Rattle.papers.specs.Tree.{parent}
 use Rattle.papers.specs.Plan.{Plan, columnsIn, popsIn}
-use Rattle.papers.specs.Refusals.{answer, Verdict, passed, refused, first, jobTests, peakTest}
+use Rattle.papers.specs.Refusals.{answer, Verdict, passed, refused, first, jobTests, peakTest, Lent}
 use Rattle.papers.specs.Check.{repeatTest, listTest, subtreeTest, popsTest, truePeak, declaredTest}
 use Rattle.bytes_laws.proofs.Plans.{Fit}
+use Rattle.lent.specs.Six.{LongEnough}
 
 -- a plan of n columns, its numbers in their ranges; its steps and where its lists begin, in slices that are just as long
 pub record PlanHeld (n : ℕ) (plan : Plan) (peak : ℕ) (order pops fstarts : List ℕ) : Type 0 where
@@ -31,6 +34,12 @@ pub record HoldPlan (n peak : ℕ) (order pops fstarts frows : List ℕ) : Type 
   pub plan : Plan
   pub front : InFront n plan peak order pops fstarts frows
 
+-- what 16 to 20 and 9 stand on: a job that passed 1 to 6, and some plan in slices that are long enough
+pub record PlanGiven (job : Job) (peak : ℕ) (lent : Lent) : Type 0 where
+  pub valid : first jobTests job ≡ passed
+  pub plan : HoldPlan (job .n) peak (lent .order) (lent .pops) (lent .factorStarts) (lent .factorRows)
+  pub long : LongEnough (job .n) lent
+
 -- a plan of a job that passed 1 to 6, with the parents of the job's columns; the plan has passed 16 and 17, so its lists are R
 pub record OnTree (job : Job) (plan : Plan) (limit peak : ℕ) (parents order pops fstarts : List ℕ) : Type 0 where
   pub valid : first jobTests job ≡ passed
@@ -45,6 +54,11 @@ pub record SomeOnTree (limit peak : ℕ) (parents order pops fstarts : List ℕ)
   pub job : Job
   pub plan : Plan
   pub on : OnTree job plan limit peak parents order pops fstarts
+
+-- what 18, 19, 20 and 9 stand on: these, and room
+pub record TreeGiven (limit peak : ℕ) (parents order pops fstarts work : List ℕ) : Type 0 where
+  pub plan : SomeOnTree limit peak parents order pops fstarts
+  pub room : workLength (length parents) ≤ length work
 
 -- 18, 19, 20, 9
 unfoldable pub treeTests : Job → List (Plan → Verdict)
@@ -67,3 +81,8 @@ TreeJudged limit peak parents order pops fstarts r =
 abbrev pub Judged : Job → ℕ → List ℕ → List ℕ → List ℕ → List ℕ → Answer → Type 0
 Judged job peak order pops fstarts frows r =
     (plan : Plan) → InFront (job .n) plan peak order pops fstarts frows → r ≡ ruling (first (judgeTests job) plan) peak
+
+-- r answers 16 to 20 and 9, and where the plan passes the parents stand in front of what lay behind them
+pub record Judgement (job : Job) (peak : ℕ) (parents order pops fstarts frows after : List ℕ) (r : Answer) : Type 0 where
+  pub answers : Judged job peak order pops fstarts frows r
+  pub stores : r .number ≡ 0 → after ≡ sets parents 0 (map (parent (pattern job)) (upTo (job .n)))

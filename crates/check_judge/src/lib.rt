@@ -1,18 +1,9 @@
 // The judgement on a plan that was read: tests 16 to 20 and 9.
 use papers::Answer;
 use papers::JobHead;
-ghost use mathlib.Core.Path.{_≡_};
-ghost use mathlib.Core.List.{map};
-ghost use Prim.Native.Nat.{_≤_};
-ghost use lib.ListN.{length};
-ghost use lib.Seq.{sets};
-ghost use Rattle.papers.specs.Bounds.{workLength};
-ghost use Rattle.papers.specs.Lists.{upTo};
-ghost use Rattle.papers.specs.Job.{jobOf, columnOf};
-ghost use Rattle.papers.specs.Tree.{parent};
-ghost use Rattle.papers.specs.Refusals.{passed, first, jobTests};
-ghost use Rattle.lent.specs.Six.{six, LongEnough};
-ghost use Rattle.check_judge.specs.Judged.{HoldPlan, SomeOnTree, TreeJudged, Judged};
+ghost use Rattle.papers.specs.Job.{jobOf};
+ghost use Rattle.lent.specs.Six.{six};
+ghost use Rattle.check_judge.specs.Judged.{PlanGiven, TreeGiven, TreeJudged, Judgement};
 
 // Tests 18, 19, 20 and 9 of a plan whose lists are right; parents are those of its lists. When done, the count is the peak.
 fn judge_tree(
@@ -24,8 +15,7 @@ fn judge_tree(
     fstarts: &[u64],
     work: &mut [u64],
 ) -> Answer
-    requires plan { ⌜ SomeOnTree limit peak (now parents) (now order) (now pops) (now fstarts) ⌝ }
-    requires room { ⌜ workLength (length (now parents)) ≤ length (now work) ⌝ }
+    requires { ⌜ TreeGiven limit peak (now parents) (now order) (now pops) (now fstarts) (now work) ⌝ }
     ensures { λ r. ⌜ TreeJudged limit peak (now (parents .entry)) (now (order .entry)) (now (pops .entry)) (now (fstarts .entry)) r ⌝ }
 {
     let top = check_subtrees::first_scattered(parents, order, work);
@@ -60,16 +50,13 @@ pub fn judge(
     frows: &[u32],
     work: &mut [u64],
 ) -> Answer
-    requires valid { ⌜ first jobTests (jobOf head (now starts) (now rows)) ≡ passed ⌝ }
-    requires plan { ⌜ HoldPlan (head .n) peak (now order) (now pops) (now fstarts) (now frows) ⌝ }
-    requires long { ⌜ LongEnough (head .n) (six (now parents) (now order) (now pops) (now fstarts) (now frows) (now work)) ⌝ }
-    ensures answers { λ r. ⌜
-        Judged (jobOf head (now (starts .entry)) (now (rows .entry))) peak (now (order .entry)) (now (pops .entry))
-        (now (fstarts .entry)) (now (frows .entry)) r
+    requires { ⌜
+        PlanGiven (jobOf head (now starts) (now rows)) peak
+        (six (now parents) (now order) (now pops) (now fstarts) (now frows) (now work))
         ⌝ }
-    ensures stores { λ r. ⌜
-        (r .number ≡ 0 → now (parents .exit)
-        ≡ sets (now (parents .entry)) 0 (map (parent (columnOf (now (starts .entry)) (now (rows .entry)))) (upTo (head .n))))
+    ensures { λ r. ⌜
+        Judgement (jobOf head (now (starts .entry)) (now (rows .entry))) peak (now (parents .entry)) (now (order .entry))
+        (now (pops .entry)) (now (fstarts .entry)) (now (frows .entry)) (now (parents .exit)) r
         ⌝ }
 {
     let n = head.n as usize;

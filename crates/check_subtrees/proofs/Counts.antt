@@ -42,7 +42,7 @@ module _ (parents : List ℕ) (tree : TreeIn parents) (j : ℕ) (l : 1 ≤ j) (u
       (λ x m. subtree-is tree j x l u .1 (o .all x .0 m)) (λ x m. o .all x .1 (subtree-is tree j x l u .0 m))
 
   pub subtree-count : (counts : List ℕ) → Descendants parents counts → length (subtreeOf (parentIn parents) (length parents) j) ≡ getD counts j 0 + 1
-  subtree-count counts d = omega (arith, block-subtree, block-count (kidsIn parents) (kids-lower parents tree) j l, d j u)
+  subtree-count counts d = omega (arith, block-subtree, block-count (kidsIn parents) (kids-lower parents tree) j l, d .each j u)
 
   -- and no more columns than there are
   pub subtree-few : length (subtreeOf (parentIn parents) (length parents) j) ≤ length parents

@@ -26,16 +26,22 @@ earlier-least zero b r x y e = absurd (x refl)
 earlier-least (suc a) zero r x y e = absurd (y refl)
 earlier-least (suc a) (suc b) r x y e = e
 
-pub earliest-none : (f : ℕ → ℕ) → 0 ≡ earliest f 0
-unfolding earliest
-earliest-none f = refl
+-- first is the least of f 1 to f i, of n in all
+pub record Earlier (f : ℕ → ℕ) (n first i : ℕ) : Type 0 where
+  pub so-far : first ≡ earliest f i
+  pub seen : i ≤ n
 
-pub earliest-next : (f : ℕ → ℕ) (i : ℕ) {first x r : ℕ} → first ≡ earliest f i → x ≡ f (i + 1) → r ≡ earlier first x → r ≡ earliest f (i + 1)
+pub earliest-none : (f : ℕ → ℕ) (n : ℕ) → Earlier f n 0 0
 unfolding earliest
-earliest-next f i e q h = rw (add-one, ← e, ← (add-one i), ← q) h
+earliest-none f n = record { so-far = refl; seen = omega arith }
 
-pub earliest-all : (f : ℕ → ℕ) {i n first : ℕ} → first ≡ earliest f i → i ≤ n → n ≤ i → first ≡ earliest f n
-earliest-all f {i} {n} e l u = let q : i ≡ n = omega arith in rw q at e
+pub earliest-next : (f : ℕ → ℕ) {n first i x r : ℕ} → Earlier f n first i → i < n → x ≡ f (i + 1) → r ≡ earlier first x → Earlier f n r (i + 1)
+unfolding earliest
+earliest-next f {i = i} inv h q e =
+    record { so-far = rw (add-one, ← (inv .so-far), ← (add-one i), ← q) e; seen = omega arith }
+
+pub earliest-all : (f : ℕ → ℕ) {n first i : ℕ} → Earlier f n first i → n ≤ i → first ≡ earliest f n
+earliest-all f {n} {i = i} inv u = let q : i ≡ n = omega (arith, inv .seen) in rw q at (inv .so-far)
 
 -- ---- what it is
 

@@ -15,7 +15,7 @@ use Rattle.order_laws.proofs.Steps.{column-at, one-step}
 use Rattle.tree.specs.Parents.{parentIn}
 use Rattle.tree.proofs.Children.{parent-is, parent-low}
 use Rattle.check_subtrees.specs.Steps.{EachOnce, listed, StepsIn}
-use Rattle.check_subtrees.specs.Strays.{strayStep, Placed}
+use Rattle.check_subtrees.specs.Strays.{strayStep, PlacedAt}
 use Rattle.check_subtrees.proofs.Judged.{stray-root, stray-late, stray-early, stray-none}
 
 -- ---- the first k steps are written
@@ -50,7 +50,7 @@ module _ {order : List ℕ} (each : EachOnce (length order) order) where
           let e : i ≡ k = omega arith in rw e (getD-set-same steps (getD order k 0) (k + 1) 0 (omega (arith, inv .long, column-fits k h)))
 
 pub writing-stop : {order steps : List ℕ} {k : ℕ} → Writing order steps k → length order ≤ k → StepsIn order steps
-writing-stop inv h i l = inv .done i (omega arith)
+writing-stop inv h = record { each = λ i l. inv .done i (omega arith) }
 
 -- ---- the column at place i, and p its parent
 module _ (parents steps below : List ℕ) (i : ℕ) where
@@ -78,13 +78,20 @@ module _ (parents steps below : List ℕ) (i : ℕ) where
   none-judged = rw above at (stray-none (parentIn parents) (listed steps) (listed below) (i + 1))
 
   -- the parent has its places, and no sum is too great
-  pub sums-fit : Placed parents steps below → i < length parents → p ≢ 0
-      → (p < length steps) × (p < length below) × (listed steps (i + 1) + listed below p ≤ maxColumns + maxColumns) ×
-      (listed steps p + listed below (i + 1) ≤ maxColumns + maxColumns)
-  sums-fit placed h z =
-      let low = parent-low parents (placed .tree) i in (
-        omega (arith, placed .steps-length),
-        omega (arith, placed .below-length),
-        omega (arith, placed .steps-low (i + 1) (omega arith) (omega arith), placed .below-low p (omega arith) low),
-        omega (arith, placed .steps-low p (omega arith) low, placed .below-low (i + 1) (omega arith) (omega arith)),
-      )
+  pub record Fitting : Type 0 where
+    pub step : p < length steps
+    pub count : p < length below
+    pub own : listed steps (i + 1) + listed below p ≤ maxColumns + maxColumns
+    pub top : listed steps p + listed below (i + 1) ≤ maxColumns + maxColumns
+
+  pub sums-fit : PlacedAt parents steps below i → p ≢ 0 → Fitting
+  sums-fit at z =
+      let placed = at .placed in
+      let h = at .known in
+      let low = parent-low parents (placed .tree) i in
+      record {
+        step = omega (arith, placed .steps-length);
+        count = omega (arith, placed .below-length);
+        own = omega (arith, placed .steps-low (i + 1) (omega arith) (omega arith), placed .below-low p (omega arith) low);
+        top = omega (arith, placed .steps-low p (omega arith) low, placed .below-low (i + 1) (omega arith) (omega arith));
+      }

@@ -4,7 +4,9 @@ use Prim.Native.Nat.{ℕ, _+_, _<_, _≤_}
 use mathlib.Core.Path.{_≡_}
 use mathlib.Core.List.{List}
 use lib.ListN.{length, getD}
+use Rattle.papers.specs.Bounds.{maxColumns, workLength}
 use Rattle.papers.specs.Lists.{_∈_, Distinct}
+use Rattle.tree.specs.Parents.{TreeIn}
 
 -- only columns of 1 to n, and none twice
 pub record EachOnce (n : ℕ) (order : List ℕ) : Type 0 where
@@ -16,5 +18,18 @@ abbrev pub listed : List ℕ → ℕ → ℕ
 listed numbers c = getD numbers c 0
 
 -- steps has for each column of the order its step, counted from 1
-abbrev pub StepsIn : List ℕ → List ℕ → Type 0
-StepsIn order steps = (k : ℕ) → k < length order → listed steps (getD order k 0) ≡ k + 1
+pub record StepsIn (order steps : List ℕ) : Type 0 where
+  pub each : (k : ℕ) → k < length order → listed steps (getD order k 0) ≡ k + 1
+
+-- columns each once, and a place for the step of each
+pub record Writable (order steps : List ℕ) : Type 0 where
+  pub each : EachOnce (length order) order
+  pub long : length steps ≡ length order + 1
+
+-- a tree, an order that has each of its columns once, and in work places for the steps and the counts of descendants
+pub record OrderGiven (parents order work : List ℕ) : Type 0 where
+  pub tree : TreeIn parents
+  pub few : length parents ≤ maxColumns
+  pub each : EachOnce (length parents) order
+  pub long : length order ≡ length parents
+  pub room : workLength (length parents) ≤ length work

@@ -1,7 +1,7 @@
 -- Columns that stray from their parents. A subtree of b + 1 columns whose top is done at step s should take the steps from s - b to s; so a
 -- column's steps should lie within its parent's.
 -- Assumes nothing.
-use Prim.Native.Nat.{ℕ, zero, suc, _+_, _≤_, min}
+use Prim.Native.Nat.{ℕ, zero, suc, _+_, _<_, _≤_, min}
 use mathlib.Core.Path.{_≡_}
 use mathlib.Core.Bool.{true, false, _&&_}
 use mathlib.Core.List.{List}
@@ -37,3 +37,8 @@ pub record Placed (parents steps below : List ℕ) : Type 0 where
   pub below-length : length below ≡ length parents + 1
   pub steps-low : (c : ℕ) → 1 ≤ c → c ≤ length parents → listed steps c ≤ maxColumns
   pub below-low : (c : ℕ) → 1 ≤ c → c ≤ length parents → listed below c ≤ maxColumns
+
+-- one of these columns, at place i
+pub record PlacedAt (parents steps below : List ℕ) (i : ℕ) : Type 0 where
+  pub placed : Placed parents steps below
+  pub known : i < length parents

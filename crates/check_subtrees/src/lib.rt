@@ -3,18 +3,17 @@
 // child with parent shows this: a column strays if it is done after its parent, or if its own window begins before its parent's. The answer
 // is the least step of a parent from which a child strays: before that step all is well.
 ghost use mathlib.Core.Path.{_≡_};
-ghost use Prim.Native.Nat.{_+_, _<_, _≤_};
+ghost use Prim.Native.Nat.{_+_};
 ghost use lib.ListN.{length};
-ghost use Rattle.papers.specs.Bounds.{maxColumns, workLength};
 ghost use Rattle.papers.specs.Lists.{least};
 ghost use Rattle.papers.specs.Check.{scattered};
-ghost use Rattle.tree.specs.Parents.{parentIn, TreeIn};
-ghost use Rattle.check_subtrees.specs.Steps.{EachOnce, listed, StepsIn};
-ghost use Rattle.check_subtrees.specs.Strays.{strayStep, earlier, earliest, Placed};
+ghost use Rattle.tree.specs.Parents.{parentIn};
+ghost use Rattle.check_subtrees.specs.Steps.{listed, StepsIn, Writable, OrderGiven};
+ghost use Rattle.check_subtrees.specs.Strays.{strayStep, earlier, earliest, Placed, PlacedAt};
 
 // Writes the step of each column. In the loop the first k steps are written.
 fn write_steps(order: &[u32], steps: &mut [u64])
-    requires { ⌜ EachOnce (length (now order)) (now order) × (length (now steps) ≡ length (now order) + 1) ⌝ }
+    requires { ⌜ Writable (now order) (now steps) ⌝ }
     ensures { λ _. ⌜ StepsIn (now (order .entry)) (now (steps .exit)) ⌝ }
 {
     let mut k = 0;
@@ -27,7 +26,7 @@ fn write_steps(order: &[u32], steps: &mut [u64])
 // Answers the step of the parent of the column at place i, if the column strays from it; else 0. Its window begins at own less its count of
 // descendants, its parent's at top less the parent's count; the counts change sides, so that no difference falls below 0.
 fn stray_step(parents: &[u32], steps: &[u64], below: &[u64], i: usize) -> u64
-    requires { ⌜ Placed (now parents) (now steps) (now below) × (i < length (now parents)) ⌝ }
+    requires { ⌜ PlacedAt (now parents) (now steps) (now below) i ⌝ }
     ensures { λ r. ⌜ r ≡ strayStep (parentIn (now (parents .entry))) (listed (now (steps .entry))) (listed (now (below .entry))) (i + 1) ⌝ }
 {
     let p = parents[i] as usize;
@@ -78,9 +77,7 @@ fn first_stray(parents: &[u32], steps: &[u64], below: &[u64]) -> u64
 // Finds the first step whose column's subtree is scattered, 0 if none is. work holds the steps of the columns, and behind them the counts
 // of their descendants.
 pub fn first_scattered(parents: &[u32], order: &[u32], work: &mut [u64]) -> u64
-    requires tree { ⌜ TreeIn (now parents) × (length (now parents) ≤ maxColumns) ⌝ }
-    requires order { ⌜ EachOnce (length (now parents)) (now order) × (length (now order) ≡ length (now parents)) ⌝ }
-    requires room { ⌜ workLength (length (now parents)) ≤ length (now work) ⌝ }
+    requires { ⌜ OrderGiven (now parents) (now order) (now work) ⌝ }
     ensures { λ r. ⌜
         r ≡ least (scattered (parentIn (now (parents .entry))) (length (now (parents .entry))) (now (order .entry)))
         (length (now (parents .entry)))

@@ -2,12 +2,10 @@
 -- Assumes nothing.
 use Prim.Native.Nat.{ℕ, _+_}
 use mathlib.Core.Path.{_≡_}
-use mathlib.Core.List.{List, _++_, map}
+use mathlib.Core.List.{List, _++_}
 use lib.ListN.{length, take, drop}
 use Rattle.papers.specs.Lists.{zeros}
-use Rattle.papers.specs.Room.{peakOf}
-use Rattle.room.specs.Rows.{rowsIn}
-use Rattle.order.specs.Given.{Given, popsIn, orderIn}
+use Rattle.order.specs.Given.{Given, OrderMade}
 use Rattle.lent_plan.specs.Ordering.{Orderable, Ordering}
 use lib.Seq.{length-take-le}
 
@@ -16,9 +14,7 @@ module _ {mark n : ℕ} {parents order pops starts work : List ℕ} (h : Orderab
   pub order-given : Given mark (take n parents) (take (n + 1) starts) (length (take n order)) (length (take n pops)) (length work)
   order-given = rw (length-take-le n order (h .order-long), length-take-le n pops (h .pops-long)) (h .given)
 
-  pub ordering-made : (w₁ : List ℕ) {x y w : List ℕ} {peak : ℕ} → x ≡ orderIn mark (take n parents) (take (n + 1) starts)
-      → y ≡ map (popsIn (take n parents)) (orderIn mark (take n parents) (take (n + 1) starts))
-      → peak ≡ peakOf (rowsIn (take (n + 1) starts)) (popsIn (take n parents)) (orderIn mark (take n parents) (take (n + 1) starts))
+  pub ordering-made : (w₁ : List ℕ) {x y w : List ℕ} {peak : ℕ} → OrderMade mark (take n parents) (take (n + 1) starts) x y peak
       → length w₁ ≡ length work → w ≡ zeros w₁
       → Ordering mark n parents order pops starts work (x ++ drop n order) (y ++ drop n pops) w peak
-  ordering-made w₁ a b c d e = record { steps = rw a; counts = rw b; greatest = c; cleared = rw (← d) e }
+  ordering-made w₁ made d e = record { steps = rw (made .steps); counts = rw (made .counts); greatest = made .greatest; cleared = rw (← d) e }

@@ -10,12 +10,12 @@ use native.Mathlib.Nat.{le-suc-iff}
 use native.Mathlib.Numerals.{add-one}
 use lib.ListN.{length, getD, set, length-append}
 use lib.Seq.{sets, length-sets}
-use Rattle.papers.specs.Bounds.{maxColumns}
 use Rattle.papers.specs.Job.{columnOf}
 use Rattle.papers.specs.Tree.{t}
 use Rattle.papers.specs.Text.{decimalOf, printed}
 use Rattle.list_laws.proofs.Stores.{sets-append}
-use Rattle.room.specs.Rows.{rowsIn}
+use Rattle.room.specs.Rows.{RowsOf}
+use Rattle.room.specs.Steps.{Held}
 use Rattle.room.proofs.Stacks.{Stacked, stacked-start, stacked-room, stacked-turn}
 use Rattle.listing_steps.specs.Steps.{lineBehind, linesTo, Printable}
 
@@ -59,8 +59,7 @@ module _ (order pops starts rows : List ℕ) where
         (bytes ≡ sets bytes₀ at (linesTo order pops starts rows (length order)))
     printing-stop h = let e : k ≡ length order = omega (arith, inv .stacked .seen) in rw (← e) (inv .place, inv .written)
 
-    module _ (pre : Printable order pops starts rows) (more : k < length order) {r u : ℕ} (er : (r ≡ rowsIn starts (getD order k 0)) ×
-        (r ≤ maxColumns))
+    module _ (pre : Printable order pops starts rows) (more : k < length order) {r u : ℕ} (er : RowsOf starts (getD order k 0) r)
         (eu : u ≡ getD below (depth - min (getD pops k 0) 1) 0 + t (r + 1))
       where
         -- the line that is written next
@@ -85,13 +84,13 @@ module _ (order pops starts rows : List ℕ) where
         pub printing-turn : {d m : ℕ} {b bytes′ : List ℕ}
             → (m ≡ next + length (printed (decimalOf (getD order k 0)) (getD pops k 0 ∷ u ∷ columnOf starts rows (getD order k 0))))
             × (bytes′ ≡ sets bytes next (printed (decimalOf (getD order k 0)) (getD pops k 0 ∷ u ∷ columnOf starts rows (getD order k 0))))
-            → d ≡ depth - getD pops k 0 + min r 1 → b ≡ set below (depth - getD pops k 0 + 1) (getD below (depth - getD pops k 0) 0 + t r)
+            → Held below depth (getD pops k 0) r b d
             → Printing order pops starts rows below₀ bytes₀ at b bytes′ d m (k + 1)
-        printing-turn {m = m} {bytes′ = bytes′} p ed eb =
+        printing-turn {m = m} {bytes′ = bytes′} p one =
             let (e, f) : (m ≡ next + length (lineBehind order pops starts rows k)) ×
             (bytes′ ≡ sets bytes next (lineBehind order pops starts rows k)) = rw line-is at p in
             record {
-              stacked = stacked-turn starts order pops (inv .stacked) (pre .stepped) more er ed eb;
+              stacked = stacked-turn starts order pops (inv .stacked) (pre .stepped) more er one;
               place = rw add-one (omega (arith, e, inv .place, length-next order pops starts rows k));
               written = rw (
                 add-one,

@@ -6,16 +6,17 @@ use mathlib.Core.Path.{_≡_, sym, ap, _∙_}
 use mathlib.Core.List.{List}
 use native.Mathlib.Omega.{arith}
 use lib.ListN.{length, getD, take}
-use lib.Seq.{length-take-le, take-take, getD-take, length-slice}
+use lib.Seq.{sets, length-take-le, take-take, getD-take, length-slice}
 use Rattle.tree.specs.Parents.{kidsIn}
 use Rattle.tree.specs.Blocks.{kidsAt}
 use Rattle.tree.specs.Laid.{part, LaidOut}
 use Rattle.tree.proofs.Blocks.{kids-are}
-use Rattle.order.specs.Given.{Given, Starts}
+use Rattle.order.specs.Given.{Given, Starts, StepsWritten}
+use Rattle.walk.specs.Tasks.{kidsSteps}
 use Rattle.siblings.specs.Arranged.{arrangedIn, Arrangeable, AllArranged}
 use Rattle.tree.proofs.Parts.{part-length, part-same}
 use Rattle.order.proofs.Families.{family-of, lists-end, lists-are}
-use Rattle.order.proofs.Walked.{Lists}
+use Rattle.order.proofs.Walked.{Lists, walk-wrote}
 
 module _ {mark : ℕ} {parents factor list work : List ℕ} {order pops lent : ℕ} (given : Given mark parents factor order pops lent)
     (laid : LaidOut parents list work)
@@ -85,11 +86,19 @@ module _ {mark : ℕ} {parents factor list work : List ℕ} {order pops lent : �
         many = part-length m w work (omega arith) (omega (arith, work-kept, given .work-length)) ∙ omega arith;
       })
 
+      -- as the walk takes them, the starts fill the front of work
+      pub starts-long : length (take m work′) ≡ m
+      starts-long = rw front-same front-length
+
       -- the starts are those of the children's lists
-      pub starts-lie : Starts parents (take m work′)
+      starts-lie : Starts parents (take m work′)
       starts-lie = rw front-same (record {
         count = λ j h. sym (length-slice (getD (take m work) j 0) (getD (take m work) (j + 1) 0) list (laid .lie .inside j h)) ∙ ap length
             (sym (kids-are (take m work) list j) ∙ laid .lie .same j h);
         rise = λ j h. laid .lie .rise j h;
         inside = λ j h. omega (arith, laid .lie .inside j h, list-length);
       })
+
+      pub steps-written : (before : List ℕ) {order′ : List ℕ} → order′ ≡ sets before 0 (kidsSteps (take m work′) list′ 0) → length before ≡ columns
+          → StepsWritten mark parents factor order′ work′
+      steps-written before q e = record { steps = walk-wrote lists-lie before e q; starts = starts-lie }

@@ -11,9 +11,9 @@ use Rattle.papers.specs.Room.{peakOf}
 use Rattle.list_laws.proofs.Members.{at-place}
 use Rattle.order_laws.proofs.Orders.{ordered-length, marked-ordered}
 use Rattle.room.specs.Rows.{countAt, rowsIn}
-use Rattle.room.specs.Steps.{rowsAt, popsAt, Stepped, Counted}
+use Rattle.room.specs.Steps.{rowsAt, popsAt, Stepped, PeakGiven, PopsGiven}
 use Rattle.room.proofs.BySteps.{peak-by-steps, enough-by-steps}
-use Rattle.order.specs.Given.{Given, popsIn, orderIn, Starts}
+use Rattle.order.specs.Given.{Given, popsIn, orderIn, StepsWritten, OrderMade}
 use Rattle.order.proofs.Marked.{order-enough}
 use Rattle.order.proofs.Families.{column-of, roots-all}
 
@@ -34,26 +34,6 @@ module _ {mark : ℕ} {parents factor : List ℕ} {order-room pops-room lent : �
   at-step : (k : ℕ) → k < length steps → (1 ≤ getD steps k 0) × (getD steps k 0 ≤ length parents)
   at-step k h = in-range (getD steps k 0) (at-place steps k h)
 
-  -- ---- pops
-  module _ (work : List ℕ) (kept : length work ≡ lent) (starts : Starts parents (take (length parents + 2) work)) where
-    abbrev front : List ℕ
-    front = take (length parents + 2) work
-
-    front-length : length front ≡ length parents + 2
-    front-length = length-take-le (length parents + 2) work (omega (arith, given .work-length))
-
-    counted : Counted front steps
-    counted k h =
-        let (l, u) = at-step k h in
-        (omega (arith, front-length), starts .rise (getD steps k 0) u, omega (arith, starts .inside (getD steps k 0) u, given .columns))
-
-    pub pops-asked : {order : List ℕ} → order ≡ steps → Counted front order
-    pops-asked e = rw e counted
-
-    pub pops-wrote : {order pops : List ℕ} → order ≡ steps → pops ≡ map (countAt front) order → pops ≡ map (popsIn parents) steps
-    pops-wrote e q = q ∙ rw e (map-same (countAt front) (popsIn parents) steps (λ j m. starts .count j (in-range j m .1)))
-
-  -- ---- peak
   stepped : Stepped factor steps (map (popsIn parents) steps)
   stepped = record {
     column = λ k h. let (l, u) = at-step k h in column-of (given .rowed) (getD steps k 0) l u;
@@ -66,7 +46,41 @@ module _ {mark : ℕ} {parents factor : List ℕ} {order-room pops-room lent : �
   pub peak-asked : {order pops : List ℕ} → order ≡ steps → pops ≡ map (popsIn parents) steps → Stepped factor order pops
   peak-asked e q = rw (e, q) stepped
 
-  pub peak-found : {order pops : List ℕ} {r : ℕ} → order ≡ steps → pops ≡ map (popsIn parents) steps
-      → r ≡ peakOf (rowsAt factor order) (popsAt pops) (upTo (length order))
-      → r ≡ peakOf (rowsIn factor) (popsIn parents) steps
-  peak-found e q p = (rw (e, q) at p) ∙ peak-by-steps (rowsIn factor) (popsIn parents) steps
+  -- ---- the steps written
+  module _ {order work : List ℕ} (written : StepsWritten mark parents factor order work) (kept : length work ≡ lent) where
+    abbrev front : List ℕ
+    front = take (length parents + 2) work
+
+    pub front-length : length front ≡ length parents + 2
+    front-length = length-take-le (length parents + 2) work (omega (arith, given .work-length))
+
+    order-length : length order ≡ length parents
+    order-length = ap length (written .steps) ∙ steps-length
+
+    -- what their pops ask
+    pub pops-asked : {pops : List ℕ} → length pops ≡ pops-room → PopsGiven front order pops
+    pops-asked room = rw (written .steps) (record {
+      list = λ k h. record {
+        known = omega (arith, at-step k h, front-length);
+        rise = written .starts .rise (getD steps k 0) (at-step k h .1);
+      };
+      small = λ k h. omega (arith, written .starts .inside (getD steps k 0) (at-step k h .1), given .columns);
+      room = omega (arith, steps-length, given .pops-length);
+    })
+
+    module _ {pops : List ℕ} (counted : pops ≡ map (countAt front) order) where
+      pops-are : pops ≡ map (popsIn parents) steps
+      pops-are =
+          counted ∙ rw (written .steps)
+          (map-same (countAt front) (popsIn parents) steps (λ j m. written .starts .count j (in-range j m .1)))
+
+      -- what the peak asks
+      pub peak-given : PeakGiven factor order pops work
+      peak-given = record { stepped = peak-asked (written .steps) pops-are; room = omega (arith, order-length, given .work-length) }
+
+      pub order-made : {r : ℕ} → r ≡ peakOf (rowsAt factor order) (popsAt pops) (upTo (length order)) → OrderMade mark parents factor order pops r
+      order-made found = record {
+        steps = written .steps;
+        counts = pops-are;
+        greatest = (rw (written .steps, pops-are) at found) ∙ peak-by-steps (rowsIn factor) (popsIn parents) steps;
+      }

@@ -70,7 +70,7 @@ module _ {mark : ℕ} {parents factor starts list counts : List ℕ} (lying : Li
     counted = λ j l b.
         omega (
           arith,
-          lying .descendants j (omega (arith, lying .many)),
+          lying .descendants .each j (omega (arith, lying .many)),
           block-count kids (kids-lower parents (lying .rowed .tree)) j l,
           ap length (own-steps j l (omega (arith, lying .many))),
           steps-count (lying .rowed .tree) mark 0 (rowsIn factor) (λ c. 0) n j j l

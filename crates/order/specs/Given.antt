@@ -3,9 +3,10 @@
 use Prim.Native.Nat.{ℕ, _+_, _-_, _*_, _<_, _≤_}
 use mathlib.Core.Path.{_≡_}
 use mathlib.Core.Logic.{_↔_}
-use mathlib.Core.List.{List, flatMap}
-use lib.ListN.{length, getD}
+use mathlib.Core.List.{List, map, flatMap}
+use lib.ListN.{length, getD, take}
 use Rattle.papers.specs.Bounds.{maxColumns, maxMark}
+use Rattle.papers.specs.Room.{peakOf}
 use Rattle.papers.specs.Order.{stepsOf}
 use Rattle.tree.specs.Parents.{parentIn, TreeIn, kidsIn}
 use Rattle.room.specs.Rows.{countAt, rowsIn}
@@ -44,3 +45,14 @@ pub record Starts (parents starts : List ℕ) : Type 0 where
   pub count : (j : ℕ) → j ≤ length parents → countAt starts j ≡ popsIn parents j
   pub rise : (j : ℕ) → j ≤ length parents → getD starts j 0 ≤ getD starts (j + 1) 0
   pub inside : (j : ℕ) → j ≤ length parents → getD starts (j + 1) 0 ≤ length parents
+
+-- the steps are written, and the starts of the children's lists stand in the front of work
+pub record StepsWritten (mark : ℕ) (parents factor order work : List ℕ) : Type 0 where
+  pub steps : order ≡ orderIn mark parents factor
+  pub starts : Starts parents (take (length parents + 2) work)
+
+-- the order, the pops of its steps, and its peak
+pub record OrderMade (mark : ℕ) (parents factor order pops : List ℕ) (peak : ℕ) : Type 0 where
+  pub steps : order ≡ orderIn mark parents factor
+  pub counts : pops ≡ map (popsIn parents) (orderIn mark parents factor)
+  pub greatest : peak ≡ peakOf (rowsIn factor) (popsIn parents) (orderIn mark parents factor)

@@ -8,7 +8,6 @@ use native.Mathlib.Omega.{arith}
 use native.Mathlib.Numerals.{add-one}
 use lib.ListN.{length, getD, set, drop, length-set}
 use lib.Seq.{getD-set-same}
-use Rattle.papers.specs.Bounds.{maxColumns}
 use Rattle.papers.specs.Lists.{sum, greatest, upTo}
 use Rattle.papers.specs.Tree.{t}
 use Rattle.papers.specs.Room.{roomAt, heldAfter, rooms, peakOf}
@@ -17,8 +16,8 @@ use Rattle.order_laws.proofs.Greatest.{greatest-append}
 use Rattle.order_laws.proofs.Rooms.{rooms-nil, rooms-cons, rooms-append, held-append}
 use Rattle.order_laws.proofs.Steps.{column-at}
 use Rattle.tree.proofs.Sums.{sum-nil}
-use Rattle.room.specs.Rows.{rowsIn, mostEntries}
-use Rattle.room.specs.Steps.{rowsAt, popsAt, heldAt, Over, Stepped}
+use Rattle.room.specs.Rows.{rowsIn, RowsOf, mostEntries}
+use Rattle.room.specs.Steps.{rowsAt, popsAt, heldAt, Over, Held, Stepped}
 use Rattle.room.proofs.Entries.{entries-fit}
 use Rattle.room.proofs.OneStep.{sum-drop, room-here, after}
 
@@ -62,7 +61,7 @@ module _ (factor order pops : List ℕ) where
 
   module _ {below₀ below : List ℕ} {depth k : ℕ} (inv : Stacked factor order pops below₀ below depth k) (pre : Stepped factor order pops)
       (more : k < length order) {r : ℕ}
-      (rows : (r ≡ rowsIn factor (getD order k 0)) × (r ≤ maxColumns))
+      (rows : RowsOf factor (getD order k 0) r)
     where
       enough : getD pops k 0 ≤ depth
       enough = omega (arith, pre .enough k more, inv .deep, column-at pops k)
@@ -71,7 +70,7 @@ module _ (factor order pops : List ℕ) where
       inside = omega (arith, inv .few, inv .wide)
 
       rows-here : rowsAt factor order (suc k) ≡ r
-      rows-here = ap (rowsIn factor) (column-at order k) ∙ sym (rows .0)
+      rows-here = ap (rowsIn factor) (column-at order k) ∙ sym (rows .same)
 
       -- no sum is more than so many fronts
       pub stacked-over : Over below depth (getD pops k 0) r
@@ -79,7 +78,7 @@ module _ (factor order pops : List ℕ) where
         enough = enough;
         inside = inside;
         light = λ i h. omega (arith, inv .sums i h, inv .light, sum-drop (depth - i) (heldAt factor order pops k), pre .few);
-        few = rows .1;
+        few = rows .few;
       }
 
       -- the room of the next step
@@ -89,19 +88,17 @@ module _ (factor order pops : List ℕ) where
           rw (rows-here, column-at pops k) (e ∙ room-here below (heldAt factor order pops k) depth (getD pops k 0) r (inv .deep) enough (inv .sums)
           inside)
 
-      pub stacked-turn : {d : ℕ} {b : List ℕ} → d ≡ depth - getD pops k 0 + min r 1
-          → b ≡ set below (depth - getD pops k 0 + 1) (getD below (depth - getD pops k 0) 0 + t r)
-          → Stacked factor order pops below₀ b d (k + 1)
-      stacked-turn e f =
+      pub stacked-turn : {d : ℕ} {b : List ℕ} → Held below depth (getD pops k 0) r b d → Stacked factor order pops below₀ b d (k + 1)
+      stacked-turn one =
           let p = getD pops k 0 in
           let held = heldAt factor order pops k in
           let next : heldAt factor order pops (k + 1) ≡ heldAfter p r held = rw (add-one, ← rows-here, ← (column-at pops k))
           (next-held factor order pops k) in
           let a = after below held depth p r (inv .deep) enough (inv .sums) inside (getD below (depth - p) 0 + t r) refl in
-          rw (e, f) (record {
+          rw (one .counted, one .summed) (record {
             deep = rw next (a .length-after);
             few = omega (arith, inv .few, enough);
-            light = rw next (omega (arith, a .sum-after, entries-fit r (omega (arith, rows .1)), inv .light));
+            light = rw next (omega (arith, a .sum-after, entries-fit r (omega (arith, rows .few)), inv .light));
             sums = rw next (a .sums-after);
             seen = omega arith;
             wide = omega (arith, inv .wide, length-set below (depth - p + 1) (getD below (depth - p) 0 + t r));
@@ -125,11 +122,10 @@ module _ (factor order pops : List ℕ) where
     peaked-stop h = let e : k ≡ length order = omega (arith, inv .stacked .seen) in rw (← e) (inv .so-far)
 
     pub peaked-turn : (pre : Stepped factor order pops) (more : k < length order) {r u m d : ℕ} {b : List ℕ}
-        → (r ≡ rowsIn factor (getD order k 0)) × (r ≤ maxColumns)
-        → u ≡ getD below (depth - min (getD pops k 0) 1) 0 + t (r + 1) → m ≡ max most u → d ≡ depth - getD pops k 0 + min r 1
-        → b ≡ set below (depth - getD pops k 0 + 1) (getD below (depth - getD pops k 0) 0 + t r)
+        → RowsOf factor (getD order k 0) r
+        → u ≡ getD below (depth - min (getD pops k 0) 1) 0 + t (r + 1) → m ≡ max most u → Held below depth (getD pops k 0) r b d
         → Peaked factor order pops below₀ b d m (k + 1)
-    peaked-turn pre more rows eu em ed eb = record {
-      stacked = stacked-turn factor order pops (inv .stacked) pre more rows ed eb;
+    peaked-turn pre more rows eu em one = record {
+      stacked = stacked-turn factor order pops (inv .stacked) pre more rows one;
       so-far = rw add-one (omega (arith, next-room factor order pops k, stacked-room factor order pops (inv .stacked) pre more rows eu, inv .so-far));
     }

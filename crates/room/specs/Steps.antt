@@ -1,14 +1,15 @@
--- The steps of an order with their pops in two slices: what the pass for the peak is given.
+-- The steps of an order with their pops in two slices: what the passes over them are given.
 -- Assumes nothing.
-use Prim.Native.Nat.{ℕ, suc, _+_, _*_, _^_, _<_, _≤_}
+use Prim.Native.Nat.{ℕ, suc, _+_, _-_, _*_, _^_, _<_, _≤_, min}
 use mathlib.Core.Path.{_≡_}
 use mathlib.Core.List.{List, []}
-use lib.ListN.{length, getD}
+use lib.ListN.{length, getD, set}
 use Rattle.papers.specs.Bounds.{maxColumns}
 use Rattle.papers.specs.Lists.{upTo}
+use Rattle.papers.specs.Tree.{t}
 use Rattle.papers.specs.Order.{columnAt}
 use Rattle.order_laws.specs.Held.{heldAfterAll}
-use Rattle.room.specs.Rows.{rowsIn, Column, mostEntries}
+use Rattle.room.specs.Rows.{ListAt, rowsIn, Column, mostEntries}
 
 -- the rows of the column of step s, the steps counted from 1
 abbrev pub rowsAt : List ℕ → List ℕ → ℕ → ℕ
@@ -29,6 +30,11 @@ pub record Over (below : List ℕ) (depth pops rows : ℕ) : Type 0 where
   pub light : (i : ℕ) → i ≤ depth → getD below i 0 ≤ maxColumns * mostEntries
   pub few : rows ≤ maxColumns
 
+-- the step done: so many updates are then held, and their sums stand in what was below
+pub record Held (below : List ℕ) (depth pops rows : ℕ) (after : List ℕ) (count : ℕ) : Type 0 where
+  pub counted : count ≡ depth - pops + min rows 1
+  pub summed : after ≡ set below (depth - pops + 1) (getD below (depth - pops) 0 + t rows)
+
 -- steps of known columns, none of which takes off more updates than are held
 pub record Stepped (factor order pops : List ℕ) : Type 0 where
   pub column : (k : ℕ) → k < length order → Column factor (getD order k 0)
@@ -36,9 +42,13 @@ pub record Stepped (factor order pops : List ℕ) : Type 0 where
   pub same : length pops ≡ length order
   pub few : length order ≤ maxColumns
 
--- steps whose children's lists are known by their starts
-abbrev pub Counted : List ℕ → List ℕ → Type 0
-Counted starts order =
-    (k : ℕ) → k < length order
-    → (getD order k 0 + 1 < length starts) × (getD starts (getD order k 0) 0 ≤ getD starts (getD order k 0 + 1) 0) ×
-    (getD starts (getD order k 0 + 1) 0 < 2 ^ 32)
+-- such steps, and room for the sums of all updates and one before them
+pub record PeakGiven (factor order pops below : List ℕ) : Type 0 where
+  pub stepped : Stepped factor order pops
+  pub room : length order < length below
+
+-- steps whose children's lists are known by their starts, and room for the pops of each
+pub record PopsGiven (starts order pops : List ℕ) : Type 0 where
+  pub list : (k : ℕ) → k < length order → ListAt starts (getD order k 0)
+  pub small : (k : ℕ) → k < length order → getD starts (getD order k 0 + 1) 0 < 2 ^ 32
+  pub room : length pops ≡ length order

@@ -1,14 +1,13 @@
 // Computes pops, room in use and the peak of an order.
 ghost use mathlib.Core.Path.{_≡_};
 ghost use mathlib.Core.List.{map};
-ghost use Prim.Native.Nat.{_+_, _-_, _<_, _≤_, min};
-ghost use lib.ListN.{length, getD, set};
-ghost use Rattle.papers.specs.Bounds.{maxColumns};
+ghost use Prim.Native.Nat.{_+_, _-_, min};
+ghost use lib.ListN.{length, getD};
 ghost use Rattle.papers.specs.Lists.{upTo};
 ghost use Rattle.papers.specs.Tree.{t};
 ghost use Rattle.papers.specs.Room.{peakOf};
-ghost use Rattle.room.specs.Rows.{countAt, rowsIn, Column};
-ghost use Rattle.room.specs.Steps.{rowsAt, popsAt, Over, Stepped, Counted};
+ghost use Rattle.room.specs.Rows.{countAt, ListAt, Column, RowsOf};
+ghost use Rattle.room.specs.Steps.{rowsAt, popsAt, Over, Held, PeakGiven, PopsGiven};
 
 // 0 for 0, and 1 for any other count.
 fn at_most_one(count: u64) -> usize
@@ -20,14 +19,14 @@ fn at_most_one(count: u64) -> usize
 // The number of rows of column j.
 pub fn rows_of(factor: &[u64], j: usize) -> u64
     requires { ⌜ Column (now factor) j ⌝ }
-    ensures { λ r. ⌜ (r ≡ rowsIn (now (factor .entry)) j) × (r ≤ maxColumns) ⌝ }
+    ensures { λ r. ⌜ RowsOf (now (factor .entry)) j r ⌝ }
 {
     factor[j] - factor[j - 1]
 }
 
 // The length of the list from start i to the next one.
 fn count_at(starts: &[u64], i: usize) -> u64
-    requires { ⌜ (i + 1 < length (now starts)) × (getD (now starts) i 0 ≤ getD (now starts) (i + 1) 0) ⌝ }
+    requires { ⌜ ListAt (now starts) i ⌝ }
     ensures { λ r. ⌜ r ≡ countAt (now (starts .entry)) i ⌝ }
 {
     starts[i + 1] - starts[i]
@@ -36,8 +35,7 @@ fn count_at(starts: &[u64], i: usize) -> u64
 // Writes the pops of each step: the number of its column's children, from the starts of their lists. In the loop the first k steps are
 // counted.
 pub fn count_pops(starts: &[u64], order: &[u32], pops: &mut [u32])
-    requires { ⌜ Counted (now starts) (now order) ⌝ }
-    requires room { ⌜ length (now pops) ≡ length (now order) ⌝ }
+    requires { ⌜ PopsGiven (now starts) (now order) (now pops) ⌝ }
     ensures { λ _. ⌜ now (pops .exit) ≡ map (countAt (now (starts .entry))) (now (order .entry)) ⌝ }
 {
     let mut k = 0;
@@ -59,10 +57,7 @@ pub fn in_use(below: &[u64], depth: usize, pops: usize, rows: u64) -> u64
 // Does the step: its pops come off and its update goes on, in one store; a root puts none on. Answers how many updates are held afterwards.
 pub fn hold(below: &mut [u64], depth: usize, pops: usize, rows: u64) -> usize
     requires { ⌜ Over (now below) depth pops rows ⌝ }
-    ensures count { λ r. ⌜ r ≡ depth - pops + min rows 1 ⌝ }
-    ensures sums { λ r. ⌜
-        now (below .exit) ≡ set (now (below .entry)) (depth - pops + 1) (getD (now (below .entry)) (depth - pops) 0 + t rows)
-        ⌝ }
+    ensures { λ r. ⌜ Held (now (below .entry)) depth pops rows (now (below .exit)) r ⌝ }
 {
     let left = depth - pops;
     below[left + 1] = below[left] + triangle::entries(rows);
@@ -72,8 +67,7 @@ pub fn hold(below: &mut [u64], depth: usize, pops: usize, rows: u64) -> usize
 // The peak: the greatest room in use of all steps, each with its column's rows and its pops. In the loop the first k steps are done, and
 // depth updates are held.
 pub fn peak(factor: &[u64], order: &[u32], pops: &[u32], below: &mut [u64]) -> u64
-    requires { ⌜ Stepped (now factor) (now order) (now pops) ⌝ }
-    requires room { ⌜ length (now order) < length (now below) ⌝ }
+    requires { ⌜ PeakGiven (now factor) (now order) (now pops) (now below) ⌝ }
     ensures { λ r. ⌜
         r ≡ peakOf (rowsAt (now (factor .entry)) (now (order .entry))) (popsAt (now (pops .entry))) (upTo (length (now (order .entry))))
         ⌝ }

@@ -14,7 +14,7 @@ use Rattle.papers.specs.Order.{siblingKey}
 use Rattle.list_laws.proofs.Members.{at-place}
 use Rattle.tree.proofs.Children.{equal-or}
 use Rattle.tree.specs.Laid.{part}
-use Rattle.sibling_keys.specs.Kids.{Kids, Keyed}
+use Rattle.sibling_keys.specs.Kids.{Keyable, Keyed}
 
 -- ---- the marks
 
@@ -34,6 +34,11 @@ key-two (suc (suc m)) above rows w a b = refl
 
 pub same-key : (mark : ℕ) {v a b r s x y : ℕ} → v ≡ siblingKey mark a r x → a ≡ b → r ≡ s → x ≡ y → v ≡ siblingKey mark b s y
 same-key mark e p q h = cc
+
+-- the W of a kid and its key have their places in work
+pub record Places (w k kid : ℕ) (work : List ℕ) : Type 0 where
+  pub own : w + kid < k
+  pub key : k + kid < length work
 
 -- ---- the keys of the first i kids are stored
 pub record Keying (k : ℕ) (key : ℕ → ℕ) (kids before after : List ℕ) (i : ℕ) : Type 0 where
@@ -56,12 +61,13 @@ module _ {k : ℕ} {key : ℕ → ℕ} {kids before after : List ℕ} {i : ℕ} 
       ∙ (ap (λ l. getD l (w + c) 0) (inv .same) ∙ (getD-take k before (w + c) 0 b ∙ sym (getD-take (k - w) (drop w before) c 0 (omega arith)
       ∙ getD-drop w before c 0)))
 
-  -- the W of a kid and its key have their places
-  pub keying-places : {factor : List ℕ} {w j : ℕ} → Kids factor (part w k before) kids j → w ≤ k → k + (k - w) ≤ length before → i < length kids
-      → (w + getD kids i 0 < k) × (k + getD kids i 0 < length after)
-  keying-places {factor} {w} pre h room more =
-      let u = pre .known (getD kids i 0) (at-place kids i more) in
-      (omega (arith, length-take (k - w) (drop w before)), omega (arith, length-take (k - w) (drop w before), inv .long))
+  pub keying-places : {factor : List ℕ} {w j : ℕ} → Keyable factor kids j before w k → i < length kids → Places w k (getD kids i 0) after
+  keying-places {factor} {w} pre more =
+      let u = pre .children .known (getD kids i 0) (at-place kids i more) in
+      record {
+        own = omega (arith, length-take (k - w) (drop w before), pre .rise);
+        key = omega (arith, length-take (k - w) (drop w before), pre .rise, pre .room, inv .long);
+      }
 
   module _ (more : i < length kids) {v : ℕ} (e : v ≡ key (getD kids i 0)) (room : k + getD kids i 0 < length after) where
     keys-next : (c : ℕ) → (c ∈ take i kids) ⊎ (c ∈ (getD kids i 0 ∷ [])) → (c ≡ getD kids i 0) ⊎ (c ≢ getD kids i 0)

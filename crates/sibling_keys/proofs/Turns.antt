@@ -15,7 +15,7 @@ use Rattle.order_laws.specs.Subtrees.{inTurn, butLast}
 use Rattle.order_laws.proofs.Greatest.{sum-append}
 use Rattle.order_laws.proofs.Needs.{in-turn-next, but-last-next}
 use Rattle.tree.proofs.Sums.{sum-nil, sum-cons}
-use Rattle.room.specs.Rows.{rowsIn, Column, mostEntries}
+use Rattle.room.specs.Rows.{rowsIn, Column, RowsOf, mostEntries}
 use Rattle.room.proofs.Entries.{entries-fit}
 use Rattle.sibling_keys.specs.Kids.{needAt, Kids}
 
@@ -57,8 +57,7 @@ module _ (factor rooms kids : List ℕ) (j : ℕ) where
       pub turned-light : held + getD rooms (getD kids i 0) 0 ≤ 2 * (maxColumns * mostEntries)
       turned-light = omega (arith, inv .light, pre .few, pre .light (getD kids i 0) child)
 
-      pub turned-turn : {m r v : ℕ} → m ≡ max most (held + getD rooms (getD kids i 0) 0) → (r ≡ rowsIn factor (getD kids i 0)) × (r ≤ maxColumns)
-          → v ≡ t r
+      pub turned-turn : {m r v : ℕ} → m ≡ max most (held + getD rooms (getD kids i 0) 0) → RowsOf factor (getD kids i 0) r → v ≡ t r
           → Turned factor rooms kids m held (held + v) (i + 1)
       turned-turn {m} {r} {v} em er ev =
           let c = getD kids i 0 in
@@ -73,8 +72,8 @@ module _ (factor rooms kids : List ℕ) (j : ℕ) where
           record {
             so-far = rw one (omega (arith, turn, em, inv .so-far, inv .updates));
             but-last = rw one (omega (arith, last, inv .updates));
-            updates = rw one (omega (arith, sums, ev, ap t (er .0), inv .updates));
-            light = omega (arith, inv .light, ev, entries-fit r (omega (arith, er .1)));
+            updates = rw one (omega (arith, sums, ev, ap t (er .same), inv .updates));
+            light = omega (arith, inv .light, ev, entries-fit r (omega (arith, er .few)));
             lighter = omega arith;
             seen = omega arith;
           }

@@ -1,6 +1,6 @@
 -- A column and its children: the children's keys, and the column's W from theirs.
 -- Assumes nothing.
-use Prim.Native.Nat.{ℕ, suc, _+_, _*_, _<_, _≤_, max}
+use Prim.Native.Nat.{ℕ, suc, _+_, _-_, _*_, _<_, _≤_, max}
 use mathlib.Core.Path.{_≡_}
 use mathlib.Core.List.{List}
 use lib.ListN.{length, getD, take}
@@ -9,6 +9,7 @@ use Rattle.papers.specs.Lists.{_∈_}
 use Rattle.papers.specs.Tree.{t}
 use Rattle.papers.specs.Order.{siblingKey}
 use Rattle.order_laws.specs.Subtrees.{inTurn, butLast}
+use Rattle.tree.specs.Laid.{part}
 use Rattle.room.specs.Rows.{rowsIn, Column, mostEntries}
 
 -- the key of child c of column j, where rooms has the W of each column
@@ -27,6 +28,12 @@ pub record Kids (factor rooms kids : List ℕ) (j : ℕ) : Type 0 where
   pub known : (c : ℕ) → c ∈ kids → c < length rooms
   pub light : (c : ℕ) → c ∈ kids → getD rooms c 0 ≤ maxColumns * mostEntries
   pub few : length kids ≤ maxColumns
+
+-- the same where the W stand in work from w to k, and room for the keys behind them
+pub record Keyable (factor kids : List ℕ) (j : ℕ) (work : List ℕ) (w k : ℕ) : Type 0 where
+  pub children : Kids factor (part w k work) kids j
+  pub rise : w ≤ k
+  pub room : k + (k - w) ≤ length work
 
 -- keys of the kids are stored from k on, and what lies before is as it was
 pub record Keyed (k : ℕ) (key : ℕ → ℕ) (kids before after : List ℕ) : Type 0 where

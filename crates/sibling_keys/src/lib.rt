@@ -1,11 +1,10 @@
 // A column and its children: computes the keys by which siblings are sorted, and the W of the column from its children's W.
 ghost use mathlib.Core.Path.{_≡_};
-ghost use Prim.Native.Nat.{_+_, _-_, _≤_};
-ghost use lib.ListN.{length};
+ghost use Prim.Native.Nat.{_≤_};
 ghost use Rattle.papers.specs.Bounds.{maxColumns};
 ghost use Rattle.papers.specs.Order.{siblingKey};
 ghost use Rattle.tree.specs.Laid.{part};
-ghost use Rattle.sibling_keys.specs.Kids.{keyAt, needAt, Kids, Keyed};
+ghost use Rattle.sibling_keys.specs.Kids.{keyAt, needAt, Kids, Keyable, Keyed};
 
 // The key of a child with these rows and this W, under a parent with `above` rows. Siblings go by descending key.
 fn sibling_key(mark: u64, above: u64, rows: u64, w: u64) -> u64
@@ -36,8 +35,7 @@ pub fn store_keys(
     w: usize,
     k: usize,
 )
-    requires kids { ⌜ Kids (now factor) (part w k (now work)) (now kids) j ⌝ }
-    requires room { ⌜ (w ≤ k) × (k + (k - w) ≤ length (now work)) ⌝ }
+    requires { ⌜ Keyable (now factor) (now kids) j (now work) w k ⌝ }
     ensures { λ _. ⌜
         Keyed k (keyAt mark (now (factor .entry)) (part w k (now (work .entry))) j) (now (kids .entry)) (now (work .entry))
         (now (work .exit))

@@ -1,6 +1,7 @@
--- The tree that a list of parents names.
+-- The tree that a list of parents names, and what the passes over the parents ask.
 -- Assumes nothing.
-use Prim.Native.Nat.{ℕ, zero, suc}
+use Prim.Native.Nat.{ℕ, zero, suc, _+_, _*_, _^_, _<_, _≤_}
+use mathlib.Core.Path.{_≡_}
 use mathlib.Core.List.{List}
 use lib.ListN.{length, getD}
 use Rattle.papers.specs.Tree.{children}
@@ -18,3 +19,34 @@ TreeIn parents = Tree (parentIn parents) (length parents)
 -- the children of j, ascending; of 0, the roots
 abbrev pub kidsIn : List ℕ → ℕ → List ℕ
 kidsIn parents j = children (parentIn parents) (length parents) j
+
+-- ---- what the passes over the parents ask, of a tree and the slices lent
+
+-- a place of the list
+pub record PlaceIn (parents : List ℕ) (i : ℕ) : Type 0 where
+  pub tree : TreeIn parents
+  pub known : i < length parents
+
+-- numbers for the counts: so many more than there are columns
+pub record Countable (parents counts : List ℕ) (more : ℕ) : Type 0 where
+  pub tree : TreeIn parents
+  pub long : length counts ≡ length parents + more
+
+-- numbers for where each list of children begins and the last one ends, and places for the children, in 32 bits
+pub record Listable (parents starts list : List ℕ) : Type 0 where
+  pub tree : TreeIn parents
+  pub long : length starts ≡ length parents + 2
+  pub wide : length parents ≤ length list
+  pub few : length parents < 2 ^ 32
+
+-- the same where the children fill the list, and work is for where the lists begin and for the counts of descendants
+pub record Layable (parents list work : List ℕ) : Type 0 where
+  pub tree : TreeIn parents
+  pub full : length list ≡ length parents
+  pub few : length parents < 2 ^ 32
+  pub room : 2 * length parents + 3 ≤ length work
+
+-- r is the number at place i, and no greater than the list is long
+pub record NumberAt (list : List ℕ) (i r : ℕ) : Type 0 where
+  pub same : r ≡ getD list i 0
+  pub low : r ≤ length list

@@ -29,13 +29,11 @@ returns-2 : tie.Need-returns-2
 returns-2 c = over _ _ (after-reading2 (search) .reading2 .given .1) (c .before .if1 .taken) (c .answered2 .ensures)
 
 judge-requires : tie.Need-judge-requires
-judge-requires c κs = (
-  entry (search) .pre .0,
-  (
-    entry (search) .pre .1 .0 _ _ (after-reading2 (search) .reading2 .given .1) (else1 (search) .if1 .left),
-    entry (search) .pre .1 .1,
-  ),
-)
+judge-requires c κs = record {
+  valid = entry (search) .pre .0;
+  plan = entry (search) .pre .1 .0 _ _ (after-reading2 (search) .reading2 .given .1) (else1 (search) .if1 .left);
+  long = entry (search) .pre .1 .1;
+}
 
 same-length : tie.Need-same-length
 same-length c = omega (arith, after-judge (search) .judge .kept)
@@ -45,8 +43,8 @@ same-length-2 c = omega (arith, after-judge (search) .judge .kept)
 
 returns-3 : tie.Need-returns-3
 returns-3 c =
-    judged _ _ (after-reading2 (search) .reading2 .given .1) (else1 (search) .if1 .left) (after-judge (search) .judge .ensures .0)
-    (after-judge (search) .judge .ensures .1)
+    judged _ _ (after-reading2 (search) .reading2 .given .1) (else1 (search) .if1 .left) (after-judge (search) .judge .ensures .answers)
+    (after-judge (search) .judge .ensures .stores)
 
 pub judge-reading-spec : {M : Type 1} → statement M
 judge-reading-spec =

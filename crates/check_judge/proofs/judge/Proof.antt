@@ -1,14 +1,19 @@
 -- 16 and 17 decide, or leave a plan whose order has each column once and whose lists are R, with the job's parents, to the tests of the tree.
 -- Assumes nothing.
-use mathlib.Core.Path.{refl}
+use mathlib.Core.Path.{_≡_, refl}
 use native.Mathlib.Omega.{arith}
 use denote.Ref.{now}
 use borrow.Author.Needs.{needs}
+use Rattle.papers.specs.Job.{Job, jobOf}
+use Rattle.papers.specs.Plan.{Plan}
+use Rattle.papers.specs.Refusals.{passed}
+use Rattle.papers.specs.Check.{repeatTest, listTest}
 use Rattle.lent.proofs.Alike.{part-long}
 use Rattle.column_laws.proofs.Testing.{tested}
+use Rattle.check_judge.specs.Judged.{InFront}
 use Rattle.check_judge.proofs.Rulings.{number-of}
 use Rattle.check_judge.proofs.Helds.{order-length, within, refuses-16, passes-16}
-use Rattle.check_judge.proofs.Lists.{lists-held, refuses-17, passes-17, left-to-tree, on-tree, some-on-tree, parents-count, parents-in-front}
+use Rattle.check_judge.proofs.Lists.{lists-held, refuses-17, passes-17, tree-given, left-to-tree}
 use Rattle.check_judge.proofs.judge.Statement.{statement}
 use Rattle.check_judge.proofs.judge.Tie as tie
 
@@ -16,17 +21,14 @@ use Rattle.check_judge.proofs.judge.Tie as tie
 abbrev entry : tie.Start → tie.Start
 entry c = c
 
-abbrev after-first-repeat : tie.After-first-repeat → tie.After-first-repeat
-after-first-repeat c = c
+abbrev tested-16 : tie.After-first-repeat → tie.After-first-repeat
+tested-16 c = c
 
-abbrev else1 : tie.Else1 → tie.Else1
-else1 c = c
+abbrev tested-17 : tie.After-first-wrong-list → tie.After-first-wrong-list
+tested-17 c = c
 
-abbrev after-first-wrong-list : tie.After-first-wrong-list → tie.After-first-wrong-list
-after-first-wrong-list c = c
-
-abbrev else2 : tie.Else2 → tie.Else2
-else2 c = c
+abbrev past-17 : tie.Else2 → tie.Else2
+past-17 c = c
 
 abbrev judged : tie.After-judge-tree → tie.After-judge-tree
 judged c = c
@@ -34,78 +36,88 @@ judged c = c
 abbrev entry₁ : tie.After-first-repeat → tie.Start
 entry₁ c = search
 
+-- ---- what the tests so far have passed, of any plan that stands in the slices
+
+abbrev begun : tie.Else1 → tie.Start
+begun c = search
+
+abbrev begun₁ : tie.Else2 → tie.Start
+begun₁ c = search
+
+abbrev jobOn : tie.Start → Job
+jobOn s = let a = s .args in jobOf (a .head) (now (a .starts)) (now (a .rows))
+
+abbrev Stands : tie.Start → Plan → Type 0
+Stands s plan =
+    let a = s .args in InFront (a .head .n) plan (a .peak) (now (a .order)) (now (a .pops)) (now (a .fstarts)) (now (a .frows))
+
+unrepeated : (c : tie.Else1) (plan : Plan) → Stands (begun c) plan → repeatTest (jobOn (begun c)) plan ≡ passed
+unrepeated c plan front = passes-16 _ plan (front .held) (tested-16 (search) .first-repeat .ensures) (c .if1 .left)
+
+right : (c : tie.Else2) (plan : Plan) → Stands (begun₁ c) plan → listTest (jobOn (begun₁ c)) plan ≡ passed
+right c plan front =
+    passes-17 _ (begun₁ c .pre .valid) plan front (unrepeated (search) plan front) (tested-17 (search) .first-wrong-list .ensures .0) (c .if2 .left)
+
 slice-aggregate-steps : tie.Need-slice-aggregate-steps
-slice-aggregate-steps c = part-long _ (now (entry (search) .args .order)) (entry (search) .pre .1 .1 .order)
+slice-aggregate-steps c = part-long _ (now (entry (search) .args .order)) (entry (search) .pre .long .order)
 
 first-repeat-requires : tie.Need-first-repeat-requires
 first-repeat-requires c κs =
-    let held = entry (search) .pre .1 .0 .front .held in
+    let pre = entry (search) .pre in
+    let held = pre .plan .front .held in
     let count = order-length held in
-    (within held, (omega (arith, tested _ (entry (search) .pre .0) .few), omega (arith, entry (search) .pre .1 .1 .work)))
+    record { columns = within held; few = omega (arith, tested _ (pre .valid) .few); room = omega (arith, pre .long .work) }
 
 returns : tie.Need-returns
-returns c = (
-  λ plan front. refuses-16 _ plan (front .held) (after-first-repeat (search) .first-repeat .ensures) (c .before .if1 .taken)
-      (c .answered .ensures),
-  λ z. absurd (omega (arith, number-of (c .answered .ensures), z)),
-)
+returns c = record {
+  answers = λ plan front. refuses-16 _ plan (front .held) (tested-16 (search) .first-repeat .ensures) (c .before .if1 .taken) (c .answered .ensures);
+  stores = λ z. absurd (omega (arith, number-of (c .answered .ensures), z));
+}
 
 first-wrong-list-requires : tie.Need-first-wrong-list-requires
-first-wrong-list-requires c κs = (
-  tested _ (entry (search) .pre .0),
-  (
-    lists-held _ (entry (search) .pre .0) _ (entry (search) .pre .1 .0 .front),
-    (entry (search) .pre .1 .1 .parents, omega (arith, entry (search) .pre .1 .1 .work, after-first-repeat (search) .first-repeat .kept)),
-  ),
-)
-
-returns-2 : tie.Need-returns-2
-returns-2 c = (
-  λ plan front. refuses-17 _ (entry (search) .pre .0) plan front (passes-16 _ plan (front .held) (after-first-repeat (search) .first-repeat .ensures)
-      (else1 (search) .if1 .left)) (after-first-wrong-list (search) .first-wrong-list .ensures .0) (c .before .if2 .taken) (c .answered2 .ensures),
-  λ z. absurd (omega (arith, number-of (c .answered2 .ensures), z)),
-)
-
-slice-aggregate-judge-tree : tie.Need-slice-aggregate-judge-tree
-slice-aggregate-judge-tree c =
-    part-long _ _ (omega (arith, entry (search) .pre .1 .1 .parents, after-first-wrong-list (search) .first-wrong-list .kept))
-
-slice-aggregate-judge-tree-2 : tie.Need-slice-aggregate-judge-tree-2
-slice-aggregate-judge-tree-2 c = part-long _ (now (entry (search) .args .pops)) (entry (search) .pre .1 .1 .pops)
-
-slice-aggregate-judge-tree-3 : tie.Need-slice-aggregate-judge-tree-3
-slice-aggregate-judge-tree-3 c = part-long _ (now (entry (search) .args .fstarts)) (entry (search) .pre .1 .1 .starts)
-
-judge-tree-requires : tie.Need-judge-tree-requires
-judge-tree-requires c κs =
-    let front = entry (search) .pre .1 .0 .front in
-    let unrepeated = passes-16 _ _ (front .held) (after-first-repeat (search) .first-repeat .ensures) (else1 (search) .if1 .left) in
-    let right = passes-17 _ (entry (search) .pre .0) _ front unrepeated (after-first-wrong-list (search) .first-wrong-list .ensures .0)
-    (else2 (search) .if2 .left) in
-    let parents = parents-in-front _ _ (now (entry (search) .args .parents)) (entry (search) .pre .1 .1 .parents)
-    (after-first-wrong-list (search) .first-wrong-list .ensures .1 (else2 (search) .if2 .left)) in (
-      some-on-tree _ (entry (search) .pre .0) _ front unrepeated right refl parents,
-      omega (
-        arith,
-        entry (search) .pre .1 .1 .work,
-        after-first-repeat (search) .first-repeat .kept,
-        after-first-wrong-list (search) .first-wrong-list .kept,
-        parents-count _ _ parents,
+first-wrong-list-requires c κs =
+    let pre = entry (search) .pre in (
+      tested _ (pre .valid),
+      (
+        lists-held _ (pre .valid) _ (pre .plan .front),
+        (pre .long .parents, omega (arith, pre .long .work, tested-16 (search) .first-repeat .kept)),
       ),
     )
 
+returns-2 : tie.Need-returns-2
+returns-2 c = record {
+  answers = λ plan front. refuses-17 _ (entry (search) .pre .valid) plan front (unrepeated (search) plan front)
+      (tested-17 (search) .first-wrong-list .ensures .0) (c .before .if2 .taken) (c .answered2 .ensures);
+  stores = λ z. absurd (omega (arith, number-of (c .answered2 .ensures), z));
+}
+
+slice-aggregate-judge-tree : tie.Need-slice-aggregate-judge-tree
+slice-aggregate-judge-tree c =
+    part-long _ _ (omega (arith, entry (search) .pre .long .parents, tested-17 (search) .first-wrong-list .kept))
+
+slice-aggregate-judge-tree-2 : tie.Need-slice-aggregate-judge-tree-2
+slice-aggregate-judge-tree-2 c = part-long _ (now (entry (search) .args .pops)) (entry (search) .pre .long .pops)
+
+slice-aggregate-judge-tree-3 : tie.Need-slice-aggregate-judge-tree-3
+slice-aggregate-judge-tree-3 c = part-long _ (now (entry (search) .args .fstarts)) (entry (search) .pre .long .starts)
+
+judge-tree-requires : tie.Need-judge-tree-requires
+judge-tree-requires c κs =
+    let pre = entry (search) .pre in
+    let front = pre .plan .front in
+    tree-given _ (pre .valid) _ front (unrepeated (search) _ front) (right (search) _ front) (now (entry (search) .args .parents)) refl
+    (pre .long .parents) (tested-17 (search) .first-wrong-list .ensures .1 (past-17 (search) .if2 .left))
+    (omega (arith, pre .long .work, tested-16 (search) .first-repeat .kept, tested-17 (search) .first-wrong-list .kept))
+
 returns-3 : tie.Need-returns-3
-returns-3 c = (
-  λ plan front.
-      let unrepeated = passes-16 _ plan (front .held) (after-first-repeat (search) .first-repeat .ensures) (else1 (search) .if1 .left) in
-      let right = passes-17 _ (entry₁ (search) .pre .0) plan front unrepeated (after-first-wrong-list (search) .first-wrong-list .ensures .0)
-      (else2 (search) .if2 .left) in
-      let parents = parents-in-front _ _ (now (entry₁ (search) .args .parents)) (entry₁ (search) .pre .1 .1 .parents)
-      (after-first-wrong-list (search) .first-wrong-list .ensures .1 (else2 (search) .if2 .left)) in
-      left-to-tree _ (entry₁ (search) .pre .0) plan front unrepeated right (judged (search) .judge-tree .ensures _ plan
-      (on-tree _ (entry₁ (search) .pre .0) plan front unrepeated right refl parents)),
-  λ z. after-first-wrong-list (search) .first-wrong-list .ensures .1 (else2 (search) .if2 .left),
-)
+returns-3 c =
+    let pre = entry₁ (search) .pre in
+    let stored = tested-17 (search) .first-wrong-list .ensures .1 (past-17 (search) .if2 .left) in
+    record {
+      answers = λ plan front. left-to-tree _ (pre .valid) plan front (unrepeated (search) plan front) (right (search) plan front)
+          (now (entry₁ (search) .args .parents)) refl (pre .long .parents) stored (judged (search) .judge-tree .ensures);
+      stores = λ z. stored;
+    }
 
 pub judge-spec : {M : Type 1} → statement M
 judge-spec =

@@ -10,7 +10,7 @@ cast-result : tie.Need-cast-result
 cast-result c = omega (arith, c .shared-slice-known .given (c .before .args .i))
 
 returns : tie.Need-returns
-returns c = (refl, c .before .pre .0 (c .before .args .i) (c .before .pre .1) .1)
+returns c = record { same = refl; low = omega (arith, c .before .pre .columns (c .before .args .i) (c .before .pre .known)) }
 
 pub column-at-spec : {M : Type 1} → statement M
 column-at-spec = tie.close (tie.spec (λ c. search needs) (λ c. search needs) cast-result returns)

@@ -29,27 +29,27 @@ at-loop c = c
 abbrev in-loop : tie.In-loop Inv-loop μ-loop → tie.In-loop Inv-loop μ-loop
 in-loop c = c
 
-abbrev after-column-at : tie.After-column-at Inv-loop μ-loop → tie.After-column-at Inv-loop μ-loop
-after-column-at c = c
+abbrev looked-up : tie.After-column-at Inv-loop μ-loop → tie.After-column-at Inv-loop μ-loop
+looked-up c = c
 
 slice-aggregate-clear64 : tie.Need-slice-aggregate-clear64 Inv-loop μ-loop
 slice-aggregate-clear64 c = sym (length-take-le _ (now (entry (search) .args .work)) (omega arith))
 
 loop-holds : tie.Need-loop-holds Inv-loop μ-loop
-loop-holds c = marks-start _ (now (entry (search) .args .work)) _ (entry (search) .pre .1 .1) (cleared (search) .clear64 .ensures)
+loop-holds c = marks-start _ (now (entry (search) .args .work)) _ (entry (search) .pre .room) (cleared (search) .clear64 .ensures)
 
 returns : tie.Need-returns Inv-loop μ-loop
 returns c =
-    marks-found _ (entry (search) .pre .0) _ _ _ (at-loop (search) .loop .inv) (in-loop (search) .loop-test .taken) _
-    (after-column-at (search) .column-at .ensures .0) (c .if1 .taken)
+    marks-found _ (entry (search) .pre .columns) _ _ _ (at-loop (search) .loop .inv) (in-loop (search) .loop-test .taken) _
+    (looked-up (search) .column-at .ensures .same) (c .if1 .taken)
 
 loop-again : tie.Need-loop-again Inv-loop μ-loop
 loop-again c =
-    marks-turn _ (entry (search) .pre .0) _ _ _ (at-loop (search) .loop .inv) (in-loop (search) .loop-test .taken) _
-    (after-column-at (search) .column-at .ensures .0) (c .if1 .left)
+    marks-turn _ (entry (search) .pre .columns) _ _ _ (at-loop (search) .loop .inv) (in-loop (search) .loop-test .taken) _
+    (looked-up (search) .column-at .ensures .same) (c .if1 .left)
 
 returns-2 : tie.Need-returns-2 Inv-loop μ-loop
-returns-2 c = marks-stop _ (entry (search) .pre .0) _ _ _ (c .before .loop .inv) (c .loop-test .left)
+returns-2 c = marks-stop _ (entry (search) .pre .columns) _ _ _ (c .before .loop .inv) (c .loop-test .left)
 
 pub first-repeat-spec : {M : Type 1} → statement M
 first-repeat-spec =

@@ -26,18 +26,19 @@ counted c = c
 abbrev at-loop : tie.At-loop Inv-loop μ-loop → tie.At-loop Inv-loop μ-loop
 at-loop c = c
 
-abbrev after-column-at : tie.After-column-at Inv-loop μ-loop → tie.After-column-at Inv-loop μ-loop
-after-column-at c = c
+abbrev looked-up : tie.After-column-at Inv-loop μ-loop → tie.After-column-at Inv-loop μ-loop
+looked-up c = c
 
 slice-aggregate-count-children : tie.Need-slice-aggregate-count-children Inv-loop μ-loop
 slice-aggregate-count-children c = sym (length-take-le _ (now (entry (search) .args .work)) (omega arith))
 
 count-children-requires : tie.Need-count-children-requires Inv-loop μ-loop
-count-children-requires c κs = (entry (search) .pre .0, length-take-le _ (now (entry (search) .args .work)) (omega arith))
+count-children-requires c κs =
+    record { tree = entry (search) .pre .tree; long = length-take-le _ (now (entry (search) .args .work)) (omega arith) }
 
 loop-holds : tie.Need-loop-holds Inv-loop μ-loop
 loop-holds c =
-    popped-start _ _ _ (now (entry (search) .args .work)) _ (entry (search) .pre .1 .1 .1 .1) (omega (arith, counted (search) .count-children .kept))
+    popped-start _ _ _ (now (entry (search) .args .work)) _ (entry (search) .pre .room) (omega (arith, counted (search) .count-children .kept))
     (counted (search) .count-children .ensures)
 
 cast-if1 : tie.Need-cast-if1 Inv-loop μ-loop
@@ -46,17 +47,17 @@ cast-if1 c = omega (arith, c .shared-slice-known4 .given (at-loop (search) .loop
 returns : tie.Need-returns Inv-loop μ-loop
 returns c =
     let pre = entry (search) .pre in
-    popped-found _ _ _ (pre .1 .0) (pre .1 .1 .0 .0) _ _ (at-loop (search) .loop .inv) (omega arith) _
-    (after-column-at (search) .column-at .ensures .0) (c .if1 .taken)
+    popped-found _ _ _ (pre .columns) (pre .order-length) _ _ (at-loop (search) .loop .inv) (omega arith) _
+    (looked-up (search) .column-at .ensures .same) (c .if1 .taken)
 
 loop-again : tie.Need-loop-again Inv-loop μ-loop
 loop-again c =
     let pre = entry (search) .pre in
-    popped-turn _ _ _ (pre .1 .0) (pre .1 .1 .0 .0) _ _ (at-loop (search) .loop .inv) (omega arith) _
-    (after-column-at (search) .column-at .ensures .0) (c .if1 .left)
+    popped-turn _ _ _ (pre .columns) (pre .order-length) _ _ (at-loop (search) .loop .inv) (omega arith) _
+    (looked-up (search) .column-at .ensures .same) (c .if1 .left)
 
 returns-2 : tie.Need-returns-2 Inv-loop μ-loop
-returns-2 c = popped-stop _ _ _ (entry (search) .pre .1 .0) (entry (search) .pre .1 .1 .0 .0) _ _ (c .before .loop .inv) (omega arith)
+returns-2 c = popped-stop _ _ _ (entry (search) .pre .columns) (entry (search) .pre .order-length) _ _ (c .before .loop .inv) (omega arith)
 
 pub first-wrong-pops-spec : {M : Type 1} → statement M
 first-wrong-pops-spec =

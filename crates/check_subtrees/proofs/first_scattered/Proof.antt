@@ -2,10 +2,8 @@
 -- Assumes nothing.
 use mathlib.Core.Path.{sym}
 use native.Mathlib.Omega.{arith}
-use lib.Seq.{length-take-le}
-use denote.Ref.{now}
 use borrow.Author.Needs.{needs}
-use Rattle.check_subtrees.proofs.Whole.{steps-asked, stray-asked, front-room, stray-found}
+use Rattle.check_subtrees.proofs.Whole.{front-long, steps-asked, stray-asked, front-room, stray-found}
 use Rattle.check_subtrees.proofs.first_scattered.Statement.{statement}
 use Rattle.check_subtrees.proofs.first_scattered.Tie as tie
 
@@ -20,38 +18,31 @@ abbrev counted : tie.After-count-descendants → tie.After-count-descendants
 counted c = c
 
 slice-aggregate-write-steps : tie.Need-slice-aggregate-write-steps
-slice-aggregate-write-steps c = sym (length-take-le _ (now (entry (search) .args .work)) (omega (arith, entry (search) .pre .1 .1)))
+slice-aggregate-write-steps c = sym (front-long (entry (search) .pre))
 
 write-steps-requires : tie.Need-write-steps-requires
-write-steps-requires c κs =
-    steps-asked (now (entry (search) .args .work)) (entry (search) .pre .1 .0 .0) (entry (search) .pre .1 .0 .1) (entry (search) .pre .1 .1)
+write-steps-requires c κs = steps-asked (entry (search) .pre)
 
 slice-aggregate-first-stray : tie.Need-slice-aggregate-first-stray
 slice-aggregate-first-stray c =
-    let pre = entry (search) .pre in
     let write-steps = written (search) .write-steps in
     let count-descendants = counted (search) .count-descendants in
-    front-room _ _ (pre .0 .0) (pre .0 .1) (pre .1 .0 .0) (pre .1 .0 .1) (now (entry (search) .args .work)) (write-steps .last .1 .0)
-    (count-descendants .last .1 .0) (pre .1 .1) (omega (arith, write-steps .kept)) (omega (arith, count-descendants .kept)) (write-steps .ensures)
-    (count-descendants .ensures)
+    front-room (entry (search) .pre) (write-steps .ensures) (count-descendants .ensures) (omega (arith, write-steps .kept))
+    (omega (arith, count-descendants .kept))
 
 first-stray-requires : tie.Need-first-stray-requires
 first-stray-requires c κs =
-    let pre = entry (search) .pre in
     let write-steps = written (search) .write-steps in
     let count-descendants = counted (search) .count-descendants in
-    stray-asked _ _ (pre .0 .0) (pre .0 .1) (pre .1 .0 .0) (pre .1 .0 .1) (now (entry (search) .args .work)) (write-steps .last .1 .0)
-    (count-descendants .last .1 .0) (pre .1 .1) (omega (arith, write-steps .kept)) (omega (arith, count-descendants .kept)) (write-steps .ensures)
-    (count-descendants .ensures)
+    stray-asked (entry (search) .pre) (write-steps .ensures) (count-descendants .ensures) (omega (arith, write-steps .kept))
+    (omega (arith, count-descendants .kept))
 
 returns : tie.Need-returns
 returns c =
-    let pre = entry (search) .pre in
     let write-steps = written (search) .write-steps in
     let count-descendants = counted (search) .count-descendants in
-    stray-found _ _ (pre .0 .0) (pre .0 .1) (pre .1 .0 .0) (pre .1 .0 .1) (now (entry (search) .args .work)) (write-steps .last .1 .0)
-    (count-descendants .last .1 .0) (pre .1 .1) (omega (arith, write-steps .kept)) (omega (arith, count-descendants .kept)) (write-steps .ensures)
-    (count-descendants .ensures) (c .first-stray .ensures)
+    stray-found (entry (search) .pre) (write-steps .ensures) (count-descendants .ensures) (omega (arith, write-steps .kept))
+    (omega (arith, count-descendants .kept)) (c .first-stray .ensures)
 
 pub first-scattered-spec : {M : Type 1} → statement M
 first-scattered-spec =

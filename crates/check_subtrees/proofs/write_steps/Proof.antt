@@ -1,4 +1,5 @@
--- The loop's invariant: the first k steps are written. The measure is how many are left.
+-- No column has two steps, so a step once written stays. The loop's invariant: the first k steps are written; the measure is how many are
+-- left.
 -- Assumes nothing.
 use Prim.Native.Nat.{_-_}
 use native.Mathlib.Omega.{arith}
@@ -22,19 +23,19 @@ abbrev at-loop : tie.At-loop Inv-loop μ-loop → tie.At-loop Inv-loop μ-loop
 at-loop c = c
 
 loop-holds : tie.Need-loop-holds Inv-loop μ-loop
-loop-holds c = writing-start _ _ (c .pre .1)
+loop-holds c = writing-start _ _ (c .pre .long)
 
 cast-steps : tie.Need-cast-steps Inv-loop μ-loop
-cast-steps c = omega (arith, column-fits (entry (search) .pre .0) (at-loop (search) .loop .k) (search needs))
+cast-steps c = omega (arith, column-fits (entry (search) .pre .each) (at-loop (search) .loop .k) (search needs))
 
 mul-steps-2 : tie.Need-mul-steps-2 Inv-loop μ-loop
-mul-steps-2 c = let h = column-fits (entry (search) .pre .0) (at-loop (search) .loop .k) (search needs) in search needs
+mul-steps-2 c = let h = column-fits (entry (search) .pre .each) (at-loop (search) .loop .k) (search needs) in search needs
 
 slice-write-steps : tie.Need-slice-write-steps Inv-loop μ-loop
-slice-write-steps c = let h = column-fits (entry (search) .pre .0) (at-loop (search) .loop .k) (search needs) in search needs
+slice-write-steps c = let h = column-fits (entry (search) .pre .each) (at-loop (search) .loop .k) (search needs) in search needs
 
 loop-again : tie.Need-loop-again Inv-loop μ-loop
-loop-again c = writing-turn (entry (search) .pre .0) (at-loop (search) .loop .inv) (search needs)
+loop-again c = writing-turn (entry (search) .pre .each) (at-loop (search) .loop .inv) (search needs)
 
 returns : tie.Need-returns Inv-loop μ-loop
 returns c = writing-stop (c .before .loop .inv) (search needs)

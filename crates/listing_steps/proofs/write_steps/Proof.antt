@@ -76,7 +76,7 @@ loop-again : tie.Need-loop-again Inv-loop μ-loop
 loop-again c =
     printing-turn _ _ _ _ (at-loop (search) .loop .inv) (entry (search) .pre .0) (in-loop (search) .loop-test .taken)
     (after-rows-of (search) .rows-of .ensures) (after-in-use (search) .in-use .ensures) (written (search) .write-column .ensures)
-    (held (search) .hold .ensures .0) (held (search) .hold .ensures .1)
+    (held (search) .hold .ensures)
 
 same-length : tie.Need-same-length Inv-loop μ-loop
 same-length c = c .before .loop .inv .stacked .long ∙ length-set (entry (search) .args .below .now) 0 0

@@ -2,10 +2,9 @@
 -- Assumes nothing.
 use mathlib.Core.Path.{sym}
 use native.Mathlib.Omega.{arith}
-use lib.Seq.{length-take-le}
 use borrow.Author.Needs.{needs}
-use Rattle.order.proofs.Walked.{walk-asked, walk-wrote}
-use Rattle.order.proofs.Lying.{arrange-asked, lists-lie, starts-lie}
+use Rattle.order.proofs.Walked.{walk-asked}
+use Rattle.order.proofs.Lying.{arrange-asked, lists-lie, starts-long, steps-written}
 use Rattle.order.proofs.write_steps.Statement.{statement}
 use Rattle.order.proofs.write_steps.Tie as tie
 
@@ -19,8 +18,8 @@ laid c = c
 abbrev arranged : tie.After-arrange → tie.After-arrange
 arranged c = c
 
-abbrev after-steps : tie.After-steps → tie.After-steps
-after-steps c = c
+abbrev walked : tie.After-steps → tie.After-steps
+walked c = c
 
 abbrev entry₁ : tie.After-lay-out → tie.Start
 entry₁ c = search
@@ -41,14 +40,13 @@ add-k-2 : tie.Need-add-k-2
 add-k-2 c = omega (arith, entry (search) .pre .columns)
 
 lay-out-requires : tie.Need-lay-out-requires
-lay-out-requires c κs = (
-  entry (search) .pre .rowed .tree,
-  (
-    entry (search) .pre .pops-length,
-    omega (arith, entry (search) .pre .columns),
-    omega (arith, entry (search) .pre .work-length),
-  ),
-)
+lay-out-requires c κs =
+    let pre = entry (search) .pre in record {
+      tree = pre .rowed .tree;
+      full = pre .pops-length;
+      few = omega (arith, pre .columns);
+      room = omega (arith, pre .work-length);
+    }
 
 arrange-requires : tie.Need-arrange-requires
 arrange-requires c κs =
@@ -57,13 +55,10 @@ arrange-requires c κs =
 
 slice-aggregate-steps : tie.Need-slice-aggregate-steps
 slice-aggregate-steps c =
+    let lay-out = laid (search) .lay-out in
     let arrange = arranged (search) .arrange in
-    sym (length-take-le _ (arrange .last .1 .1 .1 .1 .0) (omega (
-      arith,
-      arrange .kept,
-      laid (search) .lay-out .kept,
-      entry (search) .pre .work-length,
-    )))
+    sym (starts-long (entry (search) .pre) (lay-out .ensures) (omega (arith, lay-out .kept)) (omega (arith, lay-out .kept)) (arrange .ensures)
+    (omega (arith, arrange .kept)))
 
 mul-steps : tie.Need-mul-steps
 mul-steps c = omega (arith, entry (search) .pre .columns)
@@ -78,7 +73,7 @@ steps-requires c κs =
     (omega (arith, arrange .kept, pre .order-length))
 
 same-length : tie.Need-same-length
-same-length c = omega (arith, after-steps (search) .steps .kept, arranged (search) .arrange .kept)
+same-length c = omega (arith, walked (search) .steps .kept, arranged (search) .arrange .kept)
 
 same-length-2 : tie.Need-same-length-2
 same-length-2 c = omega (arith, arranged (search) .arrange .kept, laid (search) .lay-out .kept)
@@ -90,13 +85,9 @@ returns : tie.Need-returns
 returns c =
     let pre = entry₁ (search) .pre in
     let lay-out = laid (search) .lay-out in
-    let arrange = arranged (search) .arrange in (
-      walk-wrote (lists-lie pre (lay-out .ensures) (omega (arith, lay-out .kept)) (omega (arith, lay-out .kept)) (arrange .ensures)
-          (omega (arith, arrange .kept)))
-          (arrange .last .1 .1 .1 .0) (omega (arith, arrange .kept, pre .order-length)) (after-steps (search) .steps .ensures),
-      starts-lie pre (lay-out .ensures) (omega (arith, lay-out .kept)) (omega (arith, lay-out .kept)) (arrange .ensures)
-          (omega (arith, arrange .kept)),
-    )
+    let arrange = arranged (search) .arrange in
+    steps-written pre (lay-out .ensures) (omega (arith, lay-out .kept)) (omega (arith, lay-out .kept)) (arrange .ensures)
+    (omega (arith, arrange .kept)) _ (walked (search) .steps .ensures) (omega (arith, arrange .kept, pre .order-length))
 
 pub write-steps-spec : {M : Type 1} → statement M
 write-steps-spec =

@@ -1,4 +1,5 @@
--- The loop's invariant: the pops of the first k steps are written. The measure is how many are left.
+-- A list of children is as long as from its start to the next one. The loop's invariant: the pops of the first k steps are written; the
+-- measure is how many are left.
 -- Assumes nothing.
 use Prim.Native.Nat.{ℕ, _+_, _-_, _<_, _≤_}
 use mathlib.Core.Path.{_≡_, refl, _∙_}
@@ -61,18 +62,21 @@ abbrev in-loop : tie.In-loop Inv-loop μ-loop → tie.In-loop Inv-loop μ-loop
 in-loop c = c
 
 loop-holds : tie.Need-loop-holds Inv-loop μ-loop
-loop-holds c = writing-start _ _ _ (entry (search) .pre .1)
+loop-holds c = writing-start _ _ _ (entry (search) .pre .room)
 
 cast-count-at : tie.Need-cast-count-at Inv-loop μ-loop
 cast-count-at c = omega (arith, c .shared-slice-known3 .given (at-loop (search) .loop .k))
 
 count-at-requires : tie.Need-count-at-requires Inv-loop μ-loop
-count-at-requires c κs = let h = entry (search) .pre .0 (at-loop (search) .loop .k) (omega (arith, c .before .loop-test .taken)) in (h .0, h .1)
+count-at-requires c κs = entry (search) .pre .list (at-loop (search) .loop .k) (omega (arith, c .before .loop-test .taken))
 
 cast-pops : tie.Need-cast-pops Inv-loop μ-loop
 cast-pops c =
-    let h = entry (search) .pre .0 (at-loop (search) .loop .k) (omega (arith, in-loop (search) .loop-test .taken)) in
-    omega (arith, c .count-at .ensures)
+    omega (
+      arith,
+      c .count-at .ensures,
+      entry (search) .pre .small (at-loop (search) .loop .k) (omega (arith, in-loop (search) .loop-test .taken)),
+    )
 
 loop-again : tie.Need-loop-again Inv-loop μ-loop
 loop-again c = writing-turn (at-loop (search) .loop .inv) (omega (arith, in-loop (search) .loop-test .taken)) (c .count-at .ensures)

@@ -1,4 +1,5 @@
--- The sums are small enough for an update more.
+-- What lies below the updates taken off stays, and the update's entries on top of it make the next sum; the sums are small enough for
+-- an update more.
 -- Assumes nothing.
 use Prim.Native.Nat.{ℕ, _+_, _-_}
 use mathlib.Core.Path.{ap}
@@ -24,11 +25,10 @@ add-below c =
 
 returns : tie.Need-returns
 returns c = let e = entry (search) .args in
-    let left = e .depth - e .pops in (
-      omega (arith, c .at-most-one .ensures),
-      ap (λ (v : ℕ). set (e .below .now) (left + 1) (getD (e .below .now) left 0 + v))
-          (c .before .entries .ensures),
-    )
+    let left = e .depth - e .pops in record {
+      counted = omega (arith, c .at-most-one .ensures);
+      summed = ap (λ (v : ℕ). set (e .below .now) (left + 1) (getD (e .below .now) left 0 + v)) (c .before .entries .ensures);
+    }
 
 pub hold-spec : {M : Type 1} → statement M
 hold-spec =

@@ -1,4 +1,4 @@
--- The sums are small enough for a front more.
+-- A front over the top update begins below it, and any other above all; the sums are small enough for a front more.
 -- Assumes nothing.
 use Prim.Native.Nat.{ℕ, _+_, _-_, min}
 use mathlib.Core.Path.{_≡_}
@@ -19,14 +19,14 @@ room-is below depth pops rows e f = rw (e, f)
 abbrev entry : tie.Start → tie.Start
 entry c = c
 
-abbrev after-at-most-one : tie.After-at-most-one → tie.After-at-most-one
-after-at-most-one c = c
+abbrev top-counted : tie.After-at-most-one → tie.After-at-most-one
+top-counted c = c
 
 add-result : tie.Need-add-result
 add-result c =
     omega (
       arith,
-      entry (search) .pre .light (entry (search) .args .depth - after-at-most-one (search) .at-most-one .result) (omega arith),
+      entry (search) .pre .light (entry (search) .args .depth - top-counted (search) .at-most-one .result) (omega arith),
       c .entries .ensures,
       entries-fit (entry (search) .args .rows + 1) (omega (arith, entry (search) .pre .few)),
     )
@@ -34,7 +34,7 @@ add-result c =
 returns : tie.Need-returns
 returns c =
     let e = entry (search) .args in
-    room-is (e .below .now) (e .depth) (e .pops) (e .rows) (after-at-most-one (search) .at-most-one .ensures) (c .entries .ensures)
+    room-is (e .below .now) (e .depth) (e .pops) (e .rows) (top-counted (search) .at-most-one .ensures) (c .entries .ensures)
 
 pub in-use-spec : {M : Type 1} → statement M
 in-use-spec =

@@ -4,8 +4,10 @@
 use Prim.Native.Nat.{_-_}
 use mathlib.Core.Path.{_∙_}
 use native.Mathlib.Omega.{arith}
-use lib.ListN.{length-set, length}
+use lib.ListN.{length-set, length, getD}
+use denote.Ref.{now}
 use borrow.Author.Needs.{needs}
+use Rattle.room.specs.Steps.{Over}
 use Rattle.room.proofs.Stacks.{Peaked, stacked-over, peaked-start, peaked-stop, peaked-turn}
 use Rattle.room.proofs.peak.Statement.{statement}
 use Rattle.room.proofs.peak.Tie as tie
@@ -26,20 +28,32 @@ at-loop c = c
 abbrev in-loop : tie.In-loop Inv-loop μ-loop → tie.In-loop Inv-loop μ-loop
 in-loop c = c
 
-abbrev after-rows-of : tie.After-rows-of Inv-loop μ-loop → tie.After-rows-of Inv-loop μ-loop
-after-rows-of c = c
+abbrev read-rows : tie.After-rows-of Inv-loop μ-loop → tie.After-rows-of Inv-loop μ-loop
+read-rows c = c
 
-abbrev after-in-use : tie.After-in-use Inv-loop μ-loop → tie.After-in-use Inv-loop μ-loop
-after-in-use c = c
+abbrev used : tie.After-in-use Inv-loop μ-loop → tie.After-in-use Inv-loop μ-loop
+used c = c
 
-abbrev after-greater : tie.After-greater Inv-loop μ-loop → tie.After-greater Inv-loop μ-loop
-after-greater c = c
+abbrev compared : tie.After-greater Inv-loop μ-loop → tie.After-greater Inv-loop μ-loop
+compared c = c
 
 abbrev held : tie.After-hold Inv-loop μ-loop → tie.After-hold Inv-loop μ-loop
 held c = c
 
+abbrev turn : tie.After-rows-of Inv-loop μ-loop → tie.At-loop Inv-loop μ-loop
+turn c = search
+
+abbrev begun : tie.After-rows-of Inv-loop μ-loop → tie.Start Inv-loop μ-loop
+begun c = search
+
+-- the step lies over the updates held
+over : (c : tie.After-rows-of Inv-loop μ-loop)
+    → Over (turn c .loop .below) (turn c .loop .depth) (getD (now (begun c .args .pops)) (turn c .loop .k) 0) (c .rows-of .result)
+over c =
+    stacked-over _ _ _ (turn c .loop .inv .stacked) (begun c .pre .stepped) (in-loop (search) .loop-test .taken) (c .rows-of .ensures)
+
 loop-holds : tie.Need-loop-holds Inv-loop μ-loop
-loop-holds c = peaked-start _ _ _ (entry (search) .args .below .now) (entry (search) .pre .1)
+loop-holds c = peaked-start _ _ _ (entry (search) .args .below .now) (entry (search) .pre .room)
 
 cast-p : tie.Need-cast-p Inv-loop μ-loop
 cast-p c = omega (arith, c .shared-slice-known4 .given (at-loop (search) .loop .k))
@@ -48,23 +62,18 @@ cast-rows-of : tie.Need-cast-rows-of Inv-loop μ-loop
 cast-rows-of c = omega (arith, c .shared-slice-known5 .given (at-loop (search) .loop .k))
 
 rows-of-requires : tie.Need-rows-of-requires Inv-loop μ-loop
-rows-of-requires c κs = entry (search) .pre .0 .column (at-loop (search) .loop .k) (in-loop (search) .loop-test .taken)
+rows-of-requires c κs = entry (search) .pre .stepped .column (at-loop (search) .loop .k) (in-loop (search) .loop-test .taken)
 
 in-use-requires : tie.Need-in-use-requires Inv-loop μ-loop
-in-use-requires c κs =
-    stacked-over _ _ _ (at-loop (search) .loop .inv .stacked) (entry (search) .pre .0) (in-loop (search) .loop-test .taken)
-    (c .before .rows-of .ensures)
+in-use-requires c κs = over (search)
 
 hold-requires : tie.Need-hold-requires Inv-loop μ-loop
-hold-requires c κs =
-    stacked-over _ _ _ (at-loop (search) .loop .inv .stacked) (entry (search) .pre .0) (in-loop (search) .loop-test .taken)
-    (after-rows-of (search) .rows-of .ensures)
+hold-requires c κs = over (search)
 
 loop-again : tie.Need-loop-again Inv-loop μ-loop
 loop-again c =
-    peaked-turn _ _ _ (at-loop (search) .loop .inv) (entry (search) .pre .0) (in-loop (search) .loop-test .taken)
-    (after-rows-of (search) .rows-of .ensures) (after-in-use (search) .in-use .ensures) (after-greater (search) .greater .ensures)
-    (held (search) .hold .ensures .0) (held (search) .hold .ensures .1)
+    peaked-turn _ _ _ (at-loop (search) .loop .inv) (entry (search) .pre .stepped) (in-loop (search) .loop-test .taken)
+    (read-rows (search) .rows-of .ensures) (used (search) .in-use .ensures) (compared (search) .greater .ensures) (held (search) .hold .ensures)
 
 same-length : tie.Need-same-length Inv-loop μ-loop
 same-length c = c .before .loop .inv .stacked .long ∙ length-set (entry (search) .args .below .now) 0 0

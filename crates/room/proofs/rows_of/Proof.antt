@@ -13,7 +13,7 @@ entry c = c
 
 returns : tie.Need-returns
 unfolding rowsIn
-returns c = (refl, omega (arith, entry (search) .pre .few))
+returns c = record { same = refl; few = omega (arith, entry (search) .pre .few) }
 
 pub rows-of-spec : {M : Type 1} → statement M
 rows-of-spec =

@@ -1,8 +1,9 @@
 -- The loop's invariant: the room, the updates and those but the last of the first i children. The measure is how many are left.
 -- Assumes nothing.
-use Prim.Native.Nat.{_+_, _-_}
+use Prim.Native.Nat.{_+_, _-_, _<_}
 use native.Mathlib.Omega.{arith}
-use lib.ListN.{length}
+use lib.ListN.{length, getD}
+use denote.Ref.{now}
 use borrow.Author.Needs.{needs}
 use Rattle.room.proofs.Entries.{entries-fit}
 use Rattle.sibling_keys.proofs.Turns.{Turned, turned-start, turned-stop, turned-column, turned-known, turned-light, turned-turn}
@@ -22,17 +23,24 @@ entry c = c
 abbrev at-loop : tie.At-loop Inv-loop μ-loop → tie.At-loop Inv-loop μ-loop
 at-loop c = c
 
-abbrev after-loop : tie.After-loop Inv-loop μ-loop → tie.After-loop Inv-loop μ-loop
-after-loop c = c
+abbrev all-turned : tie.After-loop Inv-loop μ-loop → tie.After-loop Inv-loop μ-loop
+all-turned c = c
 
 abbrev in-loop : tie.In-loop Inv-loop μ-loop → tie.In-loop Inv-loop μ-loop
 in-loop c = c
 
-abbrev after-rows-of2 : tie.After-rows-of2 Inv-loop μ-loop → tie.After-rows-of2 Inv-loop μ-loop
-after-rows-of2 c = c
+abbrev parent-read : tie.After-rows-of2 Inv-loop μ-loop → tie.After-rows-of2 Inv-loop μ-loop
+parent-read c = c
 
-abbrev after-greater : tie.After-greater Inv-loop μ-loop → tie.After-greater Inv-loop μ-loop
-after-greater c = c
+abbrev compared : tie.After-greater Inv-loop μ-loop → tie.After-greater Inv-loop μ-loop
+compared c = c
+
+abbrev begun : tie.In-loop Inv-loop μ-loop → tie.Start Inv-loop μ-loop
+begun c = search
+
+-- the W of the child is there
+known : (c : tie.In-loop Inv-loop μ-loop) → getD (now (begun c .args .kids)) (c .before .loop .i) 0 < length (now (begun c .args .rooms))
+known c = turned-known _ _ _ (begun c .args .j) (c .before .loop .inv) (begun c .pre) (c .loop-test .taken)
 
 loop-holds : tie.Need-loop-holds Inv-loop μ-loop
 loop-holds c = turned-start _ _ _ (entry (search) .args .j)
@@ -41,13 +49,10 @@ cast-c : tie.Need-cast-c Inv-loop μ-loop
 cast-c c = omega (arith, c .shared-slice-known4 .given (at-loop (search) .loop .i))
 
 mul-greater : tie.Need-mul-greater Inv-loop μ-loop
-mul-greater c =
-    let h = turned-known _ _ _ (entry (search) .args .j) (at-loop (search) .loop .inv) (entry (search) .pre) (c .before .loop-test .taken) in
-    search needs
+mul-greater c = let h = known (search) in search needs
 
 shared-slice-read-greater : tie.Need-shared-slice-read-greater Inv-loop μ-loop
-shared-slice-read-greater c =
-    turned-known _ _ _ (entry (search) .args .j) (at-loop (search) .loop .inv) (entry (search) .pre) (in-loop (search) .loop-test .taken)
+shared-slice-read-greater c = known (search)
 
 add-greater : tie.Need-add-greater Inv-loop μ-loop
 add-greater c =
@@ -59,20 +64,21 @@ rows-of-requires c κs =
     turned-column _ _ _ (entry (search) .args .j) (at-loop (search) .loop .inv) (entry (search) .pre) (in-loop (search) .loop-test .taken)
 
 add-held : tie.Need-add-held Inv-loop μ-loop
-add-held c = omega (arith, c .entries .ensures, entries-fit (c .before .rows-of .result) (omega (arith, c .before .rows-of .ensures .1)))
+add-held c = omega (arith, c .entries .ensures, entries-fit (c .before .rows-of .result) (omega (arith, c .before .rows-of .ensures .few)))
 
 loop-again : tie.Need-loop-again Inv-loop μ-loop
 loop-again c =
     turned-turn _ _ _ (entry (search) .args .j) (at-loop (search) .loop .inv) (entry (search) .pre) (in-loop (search) .loop-test .taken)
-    (after-greater (search) .greater .ensures) (c .before .rows-of .ensures) (c .entries .ensures)
+    (compared (search) .greater .ensures) (c .before .rows-of .ensures) (c .entries .ensures)
 
 add-greater-2 : tie.Need-add-greater-2 Inv-loop μ-loop
-add-greater-2 c = omega (arith, c .entries2 .ensures, entries-fit (c .before .rows-of2 .result + 1) (omega (arith, c .before .rows-of2 .ensures .1)))
+add-greater-2 c =
+    omega (arith, c .entries2 .ensures, entries-fit (c .before .rows-of2 .result + 1) (omega (arith, c .before .rows-of2 .ensures .few)))
 
 returns : tie.Need-returns Inv-loop μ-loop
 returns c =
-    turned-stop _ _ _ (entry (search) .args .j) (at-loop (search) .loop .inv) (after-loop (search) .loop-test .left)
-    (rw (← (after-rows-of2 (search) .rows-of2 .ensures .0)) (c .before .entries2 .ensures)) (c .greater2 .ensures)
+    turned-stop _ _ _ (entry (search) .args .j) (at-loop (search) .loop .inv) (all-turned (search) .loop-test .left)
+    (rw (← (parent-read (search) .rows-of2 .ensures .same)) (c .before .entries2 .ensures)) (c .greater2 .ensures)
 
 pub room-alone-spec : {M : Type 1} → statement M
 room-alone-spec =

@@ -1,11 +1,12 @@
--- The loop's invariant: the keys of the first i children are stored, and what lies before the keys is as it was. The measure is how many are
--- left.
+-- The keys lie behind the W, so no W that is still to be read is lost. The loop's invariant: the keys of the first i children are stored,
+-- and what lies before the keys is as it was; the measure is how many are left.
 -- Assumes nothing.
 use Prim.Native.Nat.{_-_}
 use native.Mathlib.Omega.{arith}
-use lib.ListN.{length}
+use lib.ListN.{length, getD}
+use denote.Ref.{now}
 use borrow.Author.Needs.{needs}
-use Rattle.sibling_keys.proofs.Keys.{same-key, keying-places, Keying, keying-start, keying-stop, keying-reads, keying-turn}
+use Rattle.sibling_keys.proofs.Keys.{same-key, Places, keying-places, Keying, keying-start, keying-stop, keying-reads, keying-turn}
 use Rattle.tree.specs.Laid.{part}
 use Rattle.sibling_keys.specs.Kids.{keyAt}
 use Rattle.sibling_keys.proofs.store_keys.Statement.{statement}
@@ -22,8 +23,8 @@ abbrev μ-loop : tie.MeasureT-loop
 abbrev entry : tie.Start Inv-loop μ-loop → tie.Start Inv-loop μ-loop
 entry c = c
 
-abbrev after-rows-of : tie.After-rows-of Inv-loop μ-loop → tie.After-rows-of Inv-loop μ-loop
-after-rows-of c = c
+abbrev parent-read : tie.After-rows-of Inv-loop μ-loop → tie.After-rows-of Inv-loop μ-loop
+parent-read c = c
 
 abbrev at-loop : tie.At-loop Inv-loop μ-loop → tie.At-loop Inv-loop μ-loop
 at-loop c = c
@@ -31,8 +32,16 @@ at-loop c = c
 abbrev in-loop : tie.In-loop Inv-loop μ-loop → tie.In-loop Inv-loop μ-loop
 in-loop c = c
 
-abbrev after-rows-of2 : tie.After-rows-of2 Inv-loop μ-loop → tie.After-rows-of2 Inv-loop μ-loop
-after-rows-of2 c = c
+abbrev child-read : tie.After-rows-of2 Inv-loop μ-loop → tie.After-rows-of2 Inv-loop μ-loop
+child-read c = c
+
+abbrev begun : tie.In-loop Inv-loop μ-loop → tie.Start Inv-loop μ-loop
+begun c = search
+
+-- the W of the child and its key have their places
+places : (c : tie.In-loop Inv-loop μ-loop)
+    → Places (begun c .args .w) (begun c .args .k) (getD (now (begun c .args .kids)) (c .before .loop .i) 0) (c .before .loop .work)
+places c = keying-places (c .before .loop .inv) (begun c .pre) (c .loop-test .taken)
 
 loop-holds : tie.Need-loop-holds Inv-loop μ-loop
 loop-holds c = keying-start
@@ -41,45 +50,33 @@ cast-c : tie.Need-cast-c Inv-loop μ-loop
 cast-c c = omega (arith, c .shared-slice-known3 .given (at-loop (search) .loop .i))
 
 rows-of-requires-2 : tie.Need-rows-of-requires-2 Inv-loop μ-loop
-rows-of-requires-2 c κs = entry (search) .pre .0 .column _ (at-place _ _ (c .before .loop-test .taken))
+rows-of-requires-2 c κs = entry (search) .pre .children .column _ (at-place _ _ (c .before .loop-test .taken))
 
 add-sibling-key : tie.Need-add-sibling-key Inv-loop μ-loop
-add-sibling-key c =
-    let pre = entry (search) .pre in
-    let p = keying-places (at-loop (search) .loop .inv) (pre .0) (pre .1 .0) (pre .1 .1) (in-loop (search) .loop-test .taken) in search needs
+add-sibling-key c = let p = places (search) in search needs
 
 mul-sibling-key : tie.Need-mul-sibling-key Inv-loop μ-loop
-mul-sibling-key c =
-    let pre = entry (search) .pre in
-    let p = keying-places (at-loop (search) .loop .inv) (pre .0) (pre .1 .0) (pre .1 .1) (in-loop (search) .loop-test .taken) in search needs
+mul-sibling-key c = let p = places (search) in search needs
 
 slice-read-sibling-key : tie.Need-slice-read-sibling-key Inv-loop μ-loop
-slice-read-sibling-key c =
-    let pre = entry (search) .pre in
-    let p = keying-places (at-loop (search) .loop .inv) (pre .0) (pre .1 .0) (pre .1 .1) (in-loop (search) .loop-test .taken) in search needs
+slice-read-sibling-key c = let p = places (search) in search needs
 
 add-work : tie.Need-add-work Inv-loop μ-loop
-add-work c =
-    let pre = entry (search) .pre in
-    let p = keying-places (at-loop (search) .loop .inv) (pre .0) (pre .1 .0) (pre .1 .1) (in-loop (search) .loop-test .taken) in search needs
+add-work c = let p = places (search) in search needs
 
 mul-work : tie.Need-mul-work Inv-loop μ-loop
-mul-work c =
-    let pre = entry (search) .pre in
-    let p = keying-places (at-loop (search) .loop .inv) (pre .0) (pre .1 .0) (pre .1 .1) (in-loop (search) .loop-test .taken) in search needs
+mul-work c = let p = places (search) in search needs
 
 slice-write-work : tie.Need-slice-write-work Inv-loop μ-loop
-slice-write-work c =
-    let pre = entry (search) .pre in
-    let p = keying-places (at-loop (search) .loop .inv) (pre .0) (pre .1 .0) (pre .1 .1) (in-loop (search) .loop-test .taken) in p .1
+slice-write-work c = places (search) .key
 
 loop-again : tie.Need-loop-again Inv-loop μ-loop
 loop-again c =
-    let p = keying-places (at-loop (search) .loop .inv) (entry (search) .pre .0) (entry (search) .pre .1 .0) (entry (search) .pre .1 .1)
-    (in-loop (search) .loop-test .taken) in
-    keying-turn (at-loop (search) .loop .inv) (in-loop (search) .loop-test .taken)
-    (same-key _ (c .sibling-key .ensures) (after-rows-of (search) .rows-of .ensures .0) (after-rows-of2 (search) .rows-of2 .ensures .0)
-    (keying-reads (at-loop (search) .loop .inv) (entry (search) .args .w) _ (entry (search) .pre .1 .0) (p .0))) (p .1)
+    let inv = at-loop (search) .loop .inv in
+    keying-turn inv (in-loop (search) .loop-test .taken)
+    (same-key _ (c .sibling-key .ensures) (parent-read (search) .rows-of .ensures .same) (child-read (search) .rows-of2 .ensures .same)
+    (keying-reads inv (entry (search) .args .w) _ (entry (search) .pre .rise) (places (search) .own)))
+    (places (search) .key)
 
 returns : tie.Need-returns Inv-loop μ-loop
 returns c = keying-stop (c .before .loop .inv) (c .loop-test .left)

@@ -17,24 +17,22 @@ abbrev sorted : tie.After-sort-columns → tie.After-sort-columns
 sorted c = c
 
 store-keys-requires : tie.Need-store-keys-requires
-store-keys-requires c κs = let p = entry (search) .pre in (p .children, (omega (arith, p .own), p .room))
+store-keys-requires c κs = let p = entry (search) .pre in record { children = p .children; rise = omega (arith, p .own); room = p .room }
 
 mul-sort-columns : tie.Need-mul-sort-columns
-mul-sort-columns c = omega (arith, entry (search) .pre .room, entry (search) .good)
+mul-sort-columns c = omega (arith, entry (search) .pre, entry (search) .good)
 
 sub-sort-columns : tie.Need-sub-sort-columns
-sub-sort-columns c = omega (arith, entry (search) .pre .room, stored (search) .store-keys .kept)
+sub-sort-columns c = omega (arith, entry (search) .pre, stored (search) .store-keys .kept)
 
 sort-columns-requires : tie.Need-sort-columns-requires
 sort-columns-requires c κs = entry (search) .pre .enough
 
 mul-room-alone : tie.Need-mul-room-alone
-mul-room-alone c =
-    let pre = entry (search) .pre in
-    omega (arith, pre .own, pre .room, entry (search) .good)
+mul-room-alone c = omega (arith, entry (search) .pre, entry (search) .good)
 
 sub-room-alone : tie.Need-sub-room-alone
-sub-room-alone c = omega (arith, entry (search) .pre .own)
+sub-room-alone c = omega (arith, entry (search) .pre)
 
 room-alone-requires : tie.Need-room-alone-requires
 room-alone-requires c κs =
@@ -42,19 +40,13 @@ room-alone-requires c κs =
     (sorted (search) .sort-columns .ensures)
 
 add-work : tie.Need-add-work
-add-work c =
-    let pre = entry (search) .pre in
-    omega (arith, pre .own, pre .room, entry (search) .good)
+add-work c = omega (arith, entry (search) .pre, entry (search) .good)
 
 mul-work : tie.Need-mul-work
-mul-work c =
-    let pre = entry (search) .pre in
-    omega (arith, pre .own, pre .room, entry (search) .good)
+mul-work c = omega (arith, entry (search) .pre, entry (search) .good)
 
 slice-write-work : tie.Need-slice-write-work
-slice-write-work c =
-    let pre = entry (search) .pre in
-    omega (arith, pre .own, pre .room, stored (search) .store-keys .kept)
+slice-write-work c = omega (arith, entry (search) .pre, stored (search) .store-keys .kept)
 
 same-length : tie.Need-same-length
 same-length c = omega (arith, sorted (search) .sort-columns .kept)
