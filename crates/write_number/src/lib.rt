@@ -1,11 +1,10 @@
 // A number written into a lent slice, as far as the slice has places. So whoever writes numbers one behind the other learns at the end
 // how many bytes all of them take, and needs no count before.
 ghost use mathlib.Core.Path.{_≡_};
-ghost use Prim.Native.Nat.{_+_, _<_, _^_};
-ghost use lib.ListN.{length, set};
-ghost use lib.Seq.{sets};
+ghost use lib.ListN.{set};
 ghost use Rattle.papers.specs.Numbers.{bytesOf};
-ghost use Rattle.groups.specs.Fits.{Fits};
+ghost use Rattle.list_laws.specs.Wrote.{Wrote};
+ghost use Rattle.write_number.specs.NumberAt.{NumberAt};
 
 // Stores a byte if the slice has the place.
 fn put_byte(dst: &mut [u8], at: usize, b: u8)
@@ -20,8 +19,8 @@ fn put_byte(dst: &mut [u8], at: usize, b: u8)
 // leading zeros of x. One byte or two, which most numbers have, are stored at once; of more the first i of the little array are
 // written.
 pub fn put(dst: &mut [u8], at: usize, x: u64) -> usize
-    requires { ⌜ Fits x × (at < 2 ^ 63) ⌝ }
-    ensures { λ r. ⌜ (r ≡ at + length (bytesOf x)) × (now (dst .exit) ≡ sets (now (dst .entry)) at (bytesOf x)) ⌝ }
+    requires { ⌜ NumberAt at x ⌝ }
+    ensures { λ r. ⌜ Wrote (bytesOf x) (now (dst .entry)) (now (dst .exit)) at r ⌝ }
 {
     let next = at + groups::length(x);
     if x < 128 {
