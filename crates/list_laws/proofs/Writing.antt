@@ -33,6 +33,13 @@ wrote-both {x} {y} {d₀} {at = at} v w =
 pub wrote-as : {x y d e : List ℕ} {at k : ℕ} → x ≡ y → Wrote y d e at k → Wrote x d e at k
 wrote-as e w = rw e w
 
+-- there is room for a first part, and behind it for the other
+pub first-fits : (x y : List ℕ) {n : ℕ} → length (x ++ y) ≤ n → length x ≤ n
+first-fits x y h = omega (arith, length-append x y)
+
+pub second-fits : (x y : List ℕ) {d₀ d : List ℕ} {at k : ℕ} → Wrote x d₀ d at k → at + length (x ++ y) ≤ length d₀ → k + length y ≤ length d
+second-fits x y w h = omega (arith, w .place, wrote-long w, length-append x y)
+
 -- ---- part by part
 
 -- of the bytes `whole`, which go into d₀ from `at` on, `rest` is left, and goes into d from k on

@@ -77,8 +77,8 @@ module _ {j : ℕ} {rows : List ℕ} {from to : ℕ} {d₀ : List ℕ} {first : 
   -- the next place is not far behind the first
   pub place-near : ListAt j rows from to → next ≤ first + maxGroups * maxColumns
   place-near l =
-      let few = l .few in
-      omega (arith, writes-near (gapsOf j (slice from to rows)) (w .written), length-gaps j (slice from to rows), length-slice from to rows (l .inside))
+      let gaps = gapsOf j (slice from to rows) in
+      omega (arith, l .few, writes-near gaps (w .written), length-gaps j (slice from to rows), length-slice from to rows (l .inside))
 
   pub write-turn : i < to → {row : ℕ} → row ≡ getD rows i 0 → {m : ℕ} {d′ : List ℕ} → Wrote (bytesOf (row - before)) d d′ next m
       → WritesRows j rows from to d₀ first d′ m row (i + 1)

@@ -95,7 +95,9 @@ pub record WritesColumns (n : ℕ) (starts rows d₀ : List ℕ) (first : ℕ) (
 module _ {n : ℕ} {starts rows d₀ : List ℕ} {first : ℕ} {d : List ℕ} {next done : ℕ} (w : WritesColumns n starts rows d₀ first d next done) where
   -- the place of the next list is near too
   pub list-near : next < 2 ^ 61
-  list-near = let near = w .near in omega (arith, writes-near (listsNumbers 1 (listsOf n (columnOf starts rows))) (w .written), lists-few (w .few) (w .lists))
+  list-near =
+      let all = listsNumbers 1 (listsOf n (columnOf starts rows)) in
+      omega (arith, w .near, writes-near all (w .written), lists-few (w .few) (w .lists))
 
   module _ (h : done < n) where
     pub lists-turn : {m : ℕ} {d′ : List ℕ}

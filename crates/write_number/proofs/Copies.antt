@@ -1,4 +1,4 @@
--- The bytes of a number stored one by one: two at once, or as many as the little array has, whose bytes are the number's.
+-- The bytes of a number stored one by one: two of them, or those of the little array, which are the number's.
 -- Assumes nothing.
 use Prim.Native.Nat.{ℕ, _+_, _<_, _≤_}
 use mathlib.Core.Path.{_≡_, refl, ap, _∙_}

@@ -46,7 +46,8 @@ module _ (t : ℕ) where
   asked c = c .pre .1
 
   -- the last digit has a place behind the others
-  last-place : (c : lts.Else1 calls here write-decimal.Post) → let e = entry₁ c .args in e .at + length (decimalOf (e .x / 10)) < length (now (e .bytes))
+  last-place : (c : lts.Else1 calls here write-decimal.Post)
+      → entry₁ c .args .at + length (decimalOf (entry₁ c .args .x / 10)) < length (now (entry₁ c .args .bytes))
   last-place c = let e = entry₁ c .args in last-fits (e .x) (e .at) (now (e .bytes)) (c .if1 .left) (asked (entry₁ c))
 
   slice-write-bytes : lts.Need-slice-write-bytes calls here write-decimal.Post

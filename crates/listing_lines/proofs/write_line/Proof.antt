@@ -8,7 +8,8 @@ use borrow.Author.Needs.{needs}
 use denote.Ref.{now}
 use Rattle.papers.specs.Text.{printed}
 use Rattle.list_laws.proofs.Writing.{Reached}
-use Rattle.listing_lines.proofs.Lines.{tail, word-fits, behind-word, number-fits, behind-number, behind-one, behind-two, end-fits, line-done, line-long}
+use Rattle.listing_lines.proofs.Lines.{tail, word-fits, behind-word, number-fits, behind-number, behind-one, behind-two}
+use Rattle.listing_lines.proofs.Lines.{end-fits, line-done, line-long}
 use Rattle.listing_lines.proofs.write_line.Statement.{statement}
 use Rattle.listing_lines.proofs.write_line.Tie as tie
 

@@ -1,4 +1,4 @@
--- The loop's invariant: the first k steps are done, the sums of the updates then held stand in below, and their lines are line-written. The measure is how
+-- The loop's invariant: the first k steps are done, the sums of the updates then held stand in below, and their lines are written. The measure is how
 -- many steps are left.
 -- Assumes nothing.
 use Prim.Native.Nat.{_-_}
