@@ -33,7 +33,7 @@ wrote-both {x} {y} {d₀} {at = at} v w =
 pub wrote-as : {x y d e : List ℕ} {at k : ℕ} → x ≡ y → Wrote y d e at k → Wrote x d e at k
 wrote-as e w = rw e w
 
--- there is room for a first part, and behind it for the other
+-- two parts fit: the first, and behind it the other
 pub first-fits : (x y : List ℕ) {n : ℕ} → length (x ++ y) ≤ n → length x ≤ n
 first-fits x y h = omega (arith, length-append x y)
 
@@ -63,9 +63,9 @@ module _ {whole d₀ : List ℕ} {at : ℕ} where
           long = wrote-long p ∙ w .long;
         }
 
-    -- there is room for it
-    pub room-part : (part more : List ℕ) → rest ≡ part ++ more → at + length whole ≤ length d₀ → k + length part ≤ length d
-    room-part part more f h = omega (arith, w .place, w .long, ap length f, length-append part more)
+    -- it fits
+    pub part-fits : (part more : List ℕ) → rest ≡ part ++ more → at + length whole ≤ length d₀ → k + length part ≤ length d
+    part-fits part more f h = omega (arith, w .place, w .long, ap length f, length-append part more)
 
     -- the last part
     pub writes-last : {e : List ℕ} {m : ℕ} → Wrote rest d e k m → Wrote whole d₀ e at m

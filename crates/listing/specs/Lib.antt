@@ -1,1 +1,1 @@
-pub mod JobRoom
+pub mod JobFits

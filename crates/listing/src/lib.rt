@@ -7,14 +7,14 @@ ghost use Rattle.papers.specs.Refusals.{EndsAs};
 ghost use Rattle.papers.specs.Text.{buffers, programPrints, listed};
 ghost use Rattle.list_laws.specs.Wrote.{Wrote};
 ghost use Rattle.listing_plan.specs.PlanLines.{printedFrom};
-ghost use Rattle.listing.specs.JobRoom.{JobRoom};
+ghost use Rattle.listing.specs.JobFits.{JobFits};
 use papers::Answer;
 use papers::JobHead;
 use text_reader::JobRead;
 
 // Writes what is printed of a job to the front of bytes, and answers its length.
 fn print_job(head: JobHead, starts: &[u64], rows: &[u32], bytes: &mut [u8]) -> usize
-    requires { ⌜ JobRoom (jobOf head (now starts) (now rows)) (now bytes) ⌝ }
+    requires { ⌜ JobFits (jobOf head (now starts) (now rows)) (now bytes) ⌝ }
     ensures { λ r. ⌜
         Wrote (printedFrom (jobOf head (now (starts .entry)) (now (rows .entry))) buffers) (now (bytes .entry)) (now (bytes .exit)) 0 r
         ⌝ }

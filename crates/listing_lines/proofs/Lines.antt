@@ -9,7 +9,7 @@ use lib.ListN.{length, getD, set, drop, drop-of-length-le, length-set}
 use lib.Seq.{drop-cons}
 use Rattle.papers.specs.Text.{newline, space, decimalOf, printed}
 use Rattle.list_laws.specs.Wrote.{Wrote}
-use Rattle.list_laws.proofs.Writing.{wrote-byte, wrote-both, Writes, writes-all, writes-part, room-part, writes-last, writes-none}
+use Rattle.list_laws.proofs.Writing.{wrote-byte, wrote-both, Writes, writes-all, writes-part, part-fits, writes-last, writes-none}
 use Rattle.listing_lines.specs.Numbered.{numbered}
 
 -- ---- the numbers of a slice
@@ -17,7 +17,7 @@ use Rattle.listing_lines.specs.Numbered.{numbered}
 -- the first i numbers are written
 pub record Listed (rows d₀ : List ℕ) (at : ℕ) (d : List ℕ) (next i : ℕ) : Type 0 where
   pub written : Writes (numbered rows) d₀ at (numbered (drop i rows)) d next
-  pub room : at + length (numbered rows) ≤ length d₀
+  pub fits : at + length (numbered rows) ≤ length d₀
 
 module _ {rows d₀ : List ℕ} {at : ℕ} {d : List ℕ} {next i : ℕ} (l : Listed rows d₀ at d next i) where
   module _ {x : ℕ} (h : i < length rows) (e : x ≡ getD rows i 0) where
@@ -25,11 +25,11 @@ module _ {rows d₀ : List ℕ} {at : ℕ} {d : List ℕ} {next i : ℕ} (l : Li
     unfolding numbered
     number-next = rw (drop-cons rows i 0 h, e, add-one)
 
-    pub listed-room : next + length (space ∷ decimalOf x) ≤ length d
-    listed-room = room-part (l .written) (space ∷ decimalOf x) (numbered (drop (i + 1) rows)) number-next (l .room)
+    pub listed-fits : next + length (space ∷ decimalOf x) ≤ length d
+    listed-fits = part-fits (l .written) (space ∷ decimalOf x) (numbered (drop (i + 1) rows)) number-next (l .fits)
 
     pub listed-turn : {m : ℕ} {d′ : List ℕ} → Wrote (space ∷ decimalOf x) d d′ next m → Listed rows d₀ at d′ m (i + 1)
-    listed-turn p = record { written = writes-part (l .written) p number-next; room = l .room }
+    listed-turn p = record { written = writes-part (l .written) p number-next; fits = l .fits }
 
   pub listed-stop : length rows ≤ i → Wrote (numbered rows) d₀ d at next
   unfolding numbered
@@ -58,7 +58,7 @@ tail-next x xs = append-assoc (space ∷ decimalOf x) (numbered xs) (newline ∷
 
 module _ (word xs d₀ : List ℕ) (at : ℕ) where
   pub word-fits : at + length (printed word xs) ≤ length d₀ → at + length word ≤ length d₀
-  word-fits h = room-part (writes-all {d₀ = d₀}) word (tail xs) (printed-parts word xs) h
+  word-fits h = part-fits (writes-all {d₀ = d₀}) word (tail xs) (printed-parts word xs) h
 
   pub behind-word : {d : List ℕ} {k : ℕ} → Wrote word d₀ d at k → Writes (printed word xs) d₀ at (tail xs) d k
   behind-word p = writes-part writes-all p (printed-parts word xs)
@@ -67,7 +67,7 @@ module _ {whole d₀ : List ℕ} {at : ℕ} {d : List ℕ} {k : ℕ} where
   -- a number more
   module _ (x : ℕ) (xs : List ℕ) (w : Writes whole d₀ at (tail (x ∷ xs)) d k) where
     pub number-fits : at + length whole ≤ length d₀ → k + length (space ∷ decimalOf x) ≤ length d
-    number-fits h = room-part w (space ∷ decimalOf x) (tail xs) (tail-next x xs) h
+    number-fits h = part-fits w (space ∷ decimalOf x) (tail xs) (tail-next x xs) h
 
     pub behind-number : {e : List ℕ} {m : ℕ} → Wrote (space ∷ decimalOf x) d e k m → Writes whole d₀ at (tail xs) e m
     behind-number p = writes-part w p (tail-next x xs)
@@ -75,7 +75,7 @@ module _ {whole d₀ : List ℕ} {at : ℕ} {d : List ℕ} {k : ℕ} where
   -- all numbers that are left
   module _ (xs : List ℕ) (w : Writes whole d₀ at (tail xs) d k) where
     pub numbers-fit : at + length whole ≤ length d₀ → k + length (numbered xs) ≤ length d
-    numbers-fit h = room-part w (numbered xs) (newline ∷ []) refl h
+    numbers-fit h = part-fits w (numbered xs) (newline ∷ []) refl h
 
     pub behind-numbers : {e : List ℕ} {m : ℕ} → Wrote (numbered xs) d e k m → Writes whole d₀ at (tail []) e m
     unfolding numbered

@@ -2,7 +2,7 @@
 ghost use Rattle.papers.specs.Job.{jobOf};
 ghost use Rattle.list_laws.specs.Wrote.{Wrote};
 ghost use Rattle.lent.specs.Six.{six};
-ghost use Rattle.listing_plan.specs.PlanLines.{planLines, printedFrom, PlanRoom, PrintRoom};
+ghost use Rattle.listing_plan.specs.PlanLines.{planLines, printedFrom, PlanFits, PrintFits};
 use papers::JobHead;
 
 // Writes the listing of a plan that lies in slices to the front of another, and answers its length.
@@ -16,7 +16,7 @@ fn print_plan(
     below: &mut [u64],
     bytes: &mut [u8],
 ) -> usize
-    requires { ⌜ PlanRoom (head .n) (head .mark) peak (now order) (now pops) (now fstarts) (now frows) (now below) (now bytes) ⌝ }
+    requires { ⌜ PlanFits (head .n) (head .mark) peak (now order) (now pops) (now fstarts) (now frows) (now below) (now bytes) ⌝ }
     ensures { λ r. ⌜
         Wrote (planLines (head .n) (head .mark) peak (now (order .entry)) (now (pops .entry)) (now (fstarts .entry)) (now (frows .entry)))
         (now (bytes .entry)) (now (bytes .exit)) 0 r
@@ -41,7 +41,7 @@ pub fn print_analysis(
     bytes: &mut [u8],
 ) -> usize
     requires { ⌜
-        PrintRoom (jobOf head (now starts) (now rows))
+        PrintFits (jobOf head (now starts) (now rows))
         (six (now parents) (now order) (now pops) (now fstarts) (now frows) (now work)) (now bytes)
         ⌝ }
     ensures { λ r. ⌜

@@ -5,7 +5,7 @@ ghost use lib.ListN.{length};
 ghost use Rattle.papers.specs.Job.{columnOf};
 ghost use Rattle.papers.specs.Text.{decimalOf, printed};
 ghost use Rattle.list_laws.specs.Wrote.{Wrote};
-ghost use Rattle.listing_steps.specs.Steps.{linesTo, LineRoom, StepsRoom};
+ghost use Rattle.listing_steps.specs.Steps.{linesTo, LineFits, StepsFit};
 
 // Writes the line of a step: its column, its pops, its room in use and the column's rows.
 pub fn write_step(
@@ -39,7 +39,7 @@ fn write_column(
     bytes: &mut [u8],
     at: usize,
 ) -> usize
-    requires { ⌜ LineRoom j pops room (now fstarts) (now frows) (now bytes) at ⌝ }
+    requires { ⌜ LineFits j pops room (now fstarts) (now frows) (now bytes) at ⌝ }
     ensures { λ r. ⌜
         Wrote (printed (decimalOf j) (pops ∷ room ∷ columnOf (now (fstarts .entry)) (now (frows .entry)) j))
         (now (bytes .entry)) (now (bytes .exit)) at r
@@ -61,7 +61,7 @@ pub fn write_steps(
     bytes: &mut [u8],
     at: usize,
 ) -> usize
-    requires { ⌜ StepsRoom (now order) (now pops) (now fstarts) (now frows) (now below) (now bytes) at ⌝ }
+    requires { ⌜ StepsFit (now order) (now pops) (now fstarts) (now frows) (now below) (now bytes) at ⌝ }
     ensures { λ r. ⌜
         Wrote (linesTo (now (order .entry)) (now (pops .entry)) (now (fstarts .entry)) (now (frows .entry)) (length (now (order .entry))))
         (now (bytes .entry)) (now (bytes .exit)) at r

@@ -16,7 +16,7 @@ use Rattle.list_laws.proofs.Writing.{wrote-byte, Writes, writes-all, writes-par
 use Rattle.bytes_laws.proofs.Gaps.{length-gaps}
 use Rattle.bytes_laws.proofs.Numbers.{bytes-length}
 use Rattle.groups.proofs.Written.{bytes-small}
-use Rattle.write_gaps.specs.ListAt.{ListAt, ListRoom}
+use Rattle.write_gaps.specs.ListAt.{ListAt, ListFits}
 use Rattle.write_gaps.specs.LowBytes.{lowBytes, LowsStored}
 use Rattle.write_gaps.proofs.Rows.{RowsLeft, rows-all, rows-next, gaps-next, gaps-none}
 
@@ -46,10 +46,10 @@ pub record Lows (b : ℕ) (rows : List ℕ) (from to : ℕ) (d₀ : List ℕ) (a
   pub rows-left : RowsLeft rows to before i
   pub written : Writes (lowBytes (gapsOf b (slice from to rows))) d₀ at (lowBytes (gapsOf before (slice i to rows))) d next
   pub wide : max widest (greatest (gapsOf before (slice i to rows))) ≡ greatest (gapsOf b (slice from to rows))
-  pub room : next + (to - i) ≤ length d
+  pub fits : next + (to - i) ≤ length d
 
-pub lows-start : {b : ℕ} {rows : List ℕ} {from to : ℕ} {d : List ℕ} {at : ℕ} → ListRoom rows from to b d at → Lows b rows from to d at d 0 b at from
-lows-start p = record { rows-left = rows-all (p .list); written = writes-all; wide = omega arith; room = p .room }
+pub lows-start : {b : ℕ} {rows : List ℕ} {from to : ℕ} {d : List ℕ} {at : ℕ} → ListFits rows from to b d at → Lows b rows from to d at d 0 b at from
+lows-start p = record { rows-left = rows-all (p .list); written = writes-all; wide = omega arith; fits = p .fits }
 
 module _ {b : ℕ} {rows : List ℕ} {from to : ℕ} {d₀ : List ℕ} {at : ℕ} {d : List ℕ} {widest before next i : ℕ}
     (s : Lows b rows from to d₀ at d widest before next i) where
@@ -58,14 +58,14 @@ module _ {b : ℕ} {rows : List ℕ} {from to : ℕ} {d₀ : List ℕ} {at : ℕ
   unfolding lowBytes greatest
   lows-turn h {row} e f =
       let g = gaps-next (s .rows-left) h e in
-      let room = s .room in
+      let fits = s .fits in
       let wide : max widest (max (row - before) (greatest (gapsOf row (slice (i + 1) to rows)))) ≡ greatest (gapsOf b (slice from to rows)) = rw g at
       (s .wide) in
       record {
         rows-left = rows-next (s .rows-left) h e;
         written = writes-part (s .written) wrote-byte (ap lowBytes g);
         wide = omega arith;
-        room = omega (arith, length-set d next ((row - before) % 256));
+        fits = omega (arith, length-set d next ((row - before) % 256));
       }
 
   pub lows-stop : to ≤ i → LowsStored (gapsOf b (slice from to rows)) d₀ d at widest

@@ -22,6 +22,6 @@ pub record ListNear (rows : List ℕ) (from to j at bound : ℕ) : Type 0 where
   pub near : at < bound
 
 -- such a list, and from `at` on a place for each of its gaps
-pub record ListRoom (rows : List ℕ) (from to j : ℕ) (bytes : List ℕ) (at : ℕ) : Type 0 where
+pub record ListFits (rows : List ℕ) (from to j : ℕ) (bytes : List ℕ) (at : ℕ) : Type 0 where
   pub list : ListAt j rows from to
-  pub room : at + (to - from) ≤ length bytes
+  pub fits : at + (to - from) ≤ length bytes

@@ -5,14 +5,14 @@ ghost use lib.Seq.{slice};
 ghost use Rattle.papers.specs.Numbers.{encode};
 ghost use Rattle.papers.specs.Key.{gapsOf};
 ghost use Rattle.list_laws.specs.Wrote.{Wrote};
-ghost use Rattle.write_gaps.specs.ListAt.{ListNear, ListRoom};
+ghost use Rattle.write_gaps.specs.ListAt.{ListNear, ListFits};
 ghost use Rattle.write_gaps.specs.LowBytes.{LowsStored};
 
 // Stores the low byte of each gap of the rows from `from` up to `to` behind the row b, and answers the greatest gap: where that is
 // below 128, these are the bytes of the gaps. The rows before i are stored, `before` is the last of them, or b. Without a jump in the
 // loop.
 fn low_bytes(rows: &[u32], from: usize, to: usize, b: u32, bytes: &mut [u8], at: usize) -> u32
-    requires { ⌜ ListRoom (now rows) from to b (now bytes) at ⌝ }
+    requires { ⌜ ListFits (now rows) from to b (now bytes) at ⌝ }
     ensures { λ r. ⌜ LowsStored (gapsOf b (slice from to (now (rows .entry)))) (now (bytes .entry)) (now (bytes .exit)) at r ⌝ }
 {
     let mut widest: u32 = 0;

@@ -1,4 +1,5 @@
--- Behind each number so much of the key is left; behind the lists nothing is. The places stay near, since each number has few bytes.
+-- Behind each number so much of the key is left; behind the lists nothing is. The places stay near, since the key has not too many numbers, and each
+-- has few bytes.
 -- Assumes nothing.
 use native.Mathlib.Omega.{arith}
 use borrow.Author.Needs.{needs}

@@ -16,8 +16,8 @@ entry c = c
 abbrev judged : tie.After-first-fault → tie.After-first-fault
 judged c = c
 
-abbrev passed-on : tie.Else1 → tie.Else1
-passed-on c = c
+abbrev passes : tie.Else1 → tie.Else1
+passes c = c
 
 abbrev key-put : tie.After-put-key → tie.After-put-key
 key-put c = c
@@ -34,7 +34,7 @@ put-key-requires c κs = job-answered _ (judged (search) .first-fault .ensures) 
 returns-2 : tie.Need-returns-2
 returns-2 c =
     let job = jobOf (entry (search) .args .head) (entry (search) .args .starts .now) (entry (search) .args .rows .now) in
-    let passed = job-answered job (judged (search) .first-fault .ensures) (passed-on (search) .if1 .left) in
+    let passed = job-answered job (judged (search) .first-fault .ensures) (passes (search) .if1 .left) in
     finished (search) .finish .ensures (keyOf job) (entry (search) .args .bytes .now) (key-put (search) .put-key .ensures) ∙ sym
     (key-stored job (entry (search) .args .bytes .now) passed)
 

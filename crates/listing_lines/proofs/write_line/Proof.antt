@@ -32,7 +32,7 @@ third-written c = c
 abbrev entry₁ : tie.After-write-number3 → tie.Start
 entry₁ c = search
 
--- the line has room
+-- the line fits
 fits : (c : tie.Start) → 0 + length (printed (now (c .args .word)) (c .args .a ∷ c .args .b ∷ c .args .c ∷ [])) ≤ length (now (c .args .bytes))
 fits c = omega (arith, c .pre)
 

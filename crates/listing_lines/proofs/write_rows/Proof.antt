@@ -4,7 +4,7 @@ use Prim.Native.Nat.{_-_}
 use lib.ListN.{length}
 use borrow.Author.Needs.{needs}
 use Rattle.list_laws.proofs.Writing.{writes-all}
-use Rattle.listing_lines.proofs.Lines.{Listed, listed-room, listed-turn, listed-stop}
+use Rattle.listing_lines.proofs.Lines.{Listed, listed-fits, listed-turn, listed-stop}
 use Rattle.listing_lines.proofs.write_rows.Statement.{statement}
 use Rattle.listing_lines.proofs.write_rows.Tie as tie
 
@@ -31,10 +31,10 @@ abbrev written : tie.After-write-number Inv-loop μ-loop → tie.After-write-num
 written c = c
 
 loop-holds : tie.Need-loop-holds Inv-loop μ-loop
-loop-holds c = record { written = writes-all; room = entry (search) .pre }
+loop-holds c = record { written = writes-all; fits = entry (search) .pre }
 
 write-number-requires : tie.Need-write-number-requires Inv-loop μ-loop
-write-number-requires c κs = listed-room (at-loop (search) .loop .inv) (in-loop (search) .loop-test .taken) (c .before .wide32 .ensures .0)
+write-number-requires c κs = listed-fits (at-loop (search) .loop .inv) (in-loop (search) .loop-test .taken) (c .before .wide32 .ensures .0)
 
 loop-again : tie.Need-loop-again Inv-loop μ-loop
 loop-again c =

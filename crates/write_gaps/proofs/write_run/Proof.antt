@@ -13,8 +13,8 @@ entry c = c
 abbrev lows-stored : tie.After-low-bytes → tie.After-low-bytes
 lows-stored c = c
 
-abbrev no-room : tie.After-write-gaps → tie.After-write-gaps
-no-room c = c
+abbrev written-singly : tie.After-write-gaps → tie.After-write-gaps
+written-singly c = c
 
 abbrev gaps-written : tie.After-write-gaps2 → tie.After-write-gaps2
 gaps-written c = c
@@ -23,10 +23,10 @@ write-gaps-requires : tie.Need-write-gaps-requires
 write-gaps-requires c κs = entry (search) .pre
 
 returns : tie.Need-returns
-returns c = no-room (search) .write-gaps .ensures
+returns c = written-singly (search) .write-gaps .ensures
 
 low-bytes-requires : tie.Need-low-bytes-requires
-low-bytes-requires c κs = record { list = entry (search) .pre .list; room = omega (arith, c .before .if1 .left) }
+low-bytes-requires c κs = record { list = entry (search) .pre .list; fits = omega (arith, c .before .if1 .left) }
 
 returns-2 : tie.Need-returns-2
 returns-2 c = run-short (entry (search) .pre .list) (lows-stored (search) .low-bytes .ensures) (c .if2 .taken)

@@ -30,11 +30,11 @@ measured c = c
 abbrev longer : tie.Else1 Inv-loop μ-loop → tie.Else1 Inv-loop μ-loop
 longer c = c
 
-abbrev short : tie.Then1 Inv-loop μ-loop → tie.Then1 Inv-loop μ-loop
-short c = c
+abbrev one-byte : tie.Then1 Inv-loop μ-loop → tie.Then1 Inv-loop μ-loop
+one-byte c = c
 
-abbrev middling : tie.Then2 Inv-loop μ-loop → tie.Then2 Inv-loop μ-loop
-middling c = c
+abbrev two-bytes : tie.Then2 Inv-loop μ-loop → tie.Then2 Inv-loop μ-loop
+two-bytes c = c
 
 abbrev grouped : tie.After-number Inv-loop μ-loop → tie.After-number Inv-loop μ-loop
 grouped c = c
@@ -67,12 +67,12 @@ returns : tie.Need-returns Inv-loop μ-loop
 returns c =
     record {
       place = omega (arith, measured (search) .length .ensures);
-      writes = rw (bytes-small (entry (search) .args .x) (short (search) .if1 .taken)) (stored (search) .put-byte .ensures);
+      writes = rw (bytes-small (entry (search) .args .x) (one-byte (search) .if1 .taken)) (stored (search) .put-byte .ensures);
     }
 
 returns-2 : tie.Need-returns-2 Inv-loop μ-loop
 returns-2 c =
-    let two = bytes-two (entry (search) .args .x) (longer (search) .if1 .left) (middling (search) .if2 .taken) in
+    let two = bytes-two (entry (search) .args .x) (longer (search) .if1 .left) (two-bytes (search) .if2 .taken) in
     let low = low-stored (search) .put-byte2 .ensures in
     let high = high-stored (search) .put-byte3 .ensures in
     record {
