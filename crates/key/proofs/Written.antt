@@ -6,20 +6,22 @@ use mathlib.Core.Logic.{_≢_, ⊎-elim}
 use mathlib.Core.List.{List, _∷_}
 use native.Mathlib.Omega.{arith}
 use lib.ListN.{length}
-use lib.Seq.{sets}
 use Rattle.papers.specs.declared.Answer.{Answer}
-use Rattle.papers.specs.Bounds.{edition, maxGroups}
+use Rattle.papers.specs.Bounds.{edition, maxColumns, maxGroups}
 use Rattle.papers.specs.Lists.{zeros}
 use Rattle.papers.specs.Numbers.{bytesOf, encode}
 use Rattle.papers.specs.Job.{Job, pattern}
 use Rattle.papers.specs.Key.{listsNumbers, listsOf, keyNumbers, keyOf}
 use Rattle.papers.specs.Refusals.{zeroed, passed, answerOf, first, Outcome, jobTests, bytesTest}
 use Rattle.papers.specs.Analysis.{KeyCall, keyTests, keyDone, keyWritten}
+use Rattle.list_laws.specs.Wrote.{Wrote}
 use Rattle.list_laws.proofs.Tests.{below-or}
-use Rattle.bytes_laws.proofs.Writing.{Writes, writes-all, writes-number}
+use Rattle.list_laws.proofs.Writing.{Writes, writes-all, writes-last}
+use Rattle.bytes_laws.proofs.Writing.{writes-number, writes-near}
 use Rattle.job_laws.proofs.Firsts.{first-last, over-refuses, over-passes-iff}
 use Rattle.job_laws.proofs.Passed.{Passed}
 use Rattle.job_laws.proofs.Outcomes.{outcome-untouched, outcome-zeroed, outcome-done, job-refuses, job-passes}
+use Rattle.write_lists.proofs.Columns.{lists-few}
 use Rattle.write_stored.specs.Stored.{stored}
 use Rattle.write_stored.proofs.Stores.{short-is, whole-is}
 
@@ -37,37 +39,47 @@ numbers-fit job p =
     let limited = p .limited in
     (omega arith, omega arith, omega arith)
 
+-- they are few
+pub numbers-few : (job : Job) → Passed job → length (keyNumbers job) ≤ (maxColumns + 1) * maxColumns + 4
+unfolding keyNumbers
+numbers-few job p = omega (arith, lists-few (p .few) (p .lists))
+
 -- ---- put one after the other
 
--- x is put into d at k, and d′ and k′ are what comes of it
-abbrev pub Put : ℕ → List ℕ → ℕ → List ℕ → ℕ → Type 0
-Put x d k d′ k′ = (k′ ≡ k + length (bytesOf x)) × (d′ ≡ sets d k (bytesOf x))
-
 module _ (job : Job) (d₀ : List ℕ) where
+  -- of the key these numbers are left, from place k of d on
+  abbrev pub Left : List ℕ → List ℕ → ℕ → Type 0
+  Left xs d k = Writes (encode (keyNumbers job)) d₀ 0 (encode xs) d k
+
+  -- every place among them is near
+  pub key-near : Passed job → {xs d : List ℕ} {k : ℕ} → Writes (encode (keyNumbers job)) d₀ 0 xs d k → k < 2 ^ 60
+  key-near p w = omega (arith, writes-near (keyNumbers job) w, numbers-few job p)
+
   -- what is left of the key at each place
-  pub at-front : Writes (keyNumbers job) d₀ 0 (edition ∷ job .n ∷ job .mark ∷ job .limit ∷ keyLists job) d₀ 0
+  at-front : Left (edition ∷ job .n ∷ job .mark ∷ job .limit ∷ keyLists job) d₀ 0
   unfolding keyNumbers
   at-front = writes-all
 
-  module _ {d₁ : List ℕ} {k₁ : ℕ} (p₁ : Put edition d₀ 0 d₁ k₁) where
-    pub behind-edition : Writes (keyNumbers job) d₀ 0 (job .n ∷ job .mark ∷ job .limit ∷ keyLists job) d₁ k₁
-    behind-edition = writes-number at-front refl (p₁ .0) (p₁ .1)
+  module _ {d₁ : List ℕ} {k₁ : ℕ} (p₁ : Wrote (bytesOf edition) d₀ d₁ 0 k₁) where
+    pub behind-edition : Left (job .n ∷ job .mark ∷ job .limit ∷ keyLists job) d₁ k₁
+    behind-edition = writes-number at-front refl p₁
 
-    module _ {d₂ : List ℕ} {k₂ : ℕ} (p₂ : Put (job .n) d₁ k₁ d₂ k₂) where
-      pub behind-n : Writes (keyNumbers job) d₀ 0 (job .mark ∷ job .limit ∷ keyLists job) d₂ k₂
-      behind-n = writes-number behind-edition refl (p₂ .0) (p₂ .1)
+    module _ {d₂ : List ℕ} {k₂ : ℕ} (p₂ : Wrote (bytesOf (job .n)) d₁ d₂ k₁ k₂) where
+      pub behind-n : Left (job .mark ∷ job .limit ∷ keyLists job) d₂ k₂
+      behind-n = writes-number behind-edition refl p₂
 
-      module _ {d₃ : List ℕ} {k₃ : ℕ} (p₃ : Put (job .mark) d₂ k₂ d₃ k₃) where
-        pub behind-mark : Writes (keyNumbers job) d₀ 0 (job .limit ∷ keyLists job) d₃ k₃
-        behind-mark = writes-number behind-n refl (p₃ .0) (p₃ .1)
+      module _ {d₃ : List ℕ} {k₃ : ℕ} (p₃ : Wrote (bytesOf (job .mark)) d₂ d₃ k₂ k₃) where
+        pub behind-mark : Left (job .limit ∷ keyLists job) d₃ k₃
+        behind-mark = writes-number behind-n refl p₃
 
-        pub behind-limit : {d₄ : List ℕ} {k₄ : ℕ} → Put (job .limit) d₃ k₃ d₄ k₄ → Writes (keyNumbers job) d₀ 0 (keyLists job) d₄ k₄
-        behind-limit p₄ = writes-number behind-mark refl (p₄ .0) (p₄ .1)
+        module _ {d₄ : List ℕ} {k₄ : ℕ} (p₄ : Wrote (bytesOf (job .limit)) d₃ d₄ k₃ k₄) where
+          pub behind-limit : Left (keyLists job) d₄ k₄
+          behind-limit = writes-number behind-mark refl p₄
 
-  pub put-done : {d : List ℕ} {k : ℕ} → (k ≡ 0 + length (encode (keyNumbers job))) × (d ≡ sets d₀ 0 (encode (keyNumbers job)))
-      → (k ≡ length (keyOf job)) × (d ≡ sets d₀ 0 (keyOf job))
-  unfolding keyOf
-  put-done h = (omega arith, h .1)
+          -- behind the lists nothing is left
+          pub key-put : {d₅ : List ℕ} {k₅ : ℕ} → Wrote (encode (keyLists job)) d₄ d₅ k₄ k₅ → Wrote (keyOf job) d₀ d₅ 0 k₅
+          unfolding keyOf
+          key-put p₅ = writes-last behind-limit p₅
 
 -- ---- the outcome
 

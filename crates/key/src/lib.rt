@@ -1,20 +1,18 @@
 // Writes the key of a job into a lent slice.
 ghost use mathlib.Core.Path.{_≡_};
-ghost use lib.ListN.{length};
-ghost use lib.Seq.{sets};
 ghost use Rattle.papers.specs.Job.{jobOf};
 ghost use Rattle.papers.specs.Key.{keyOf};
 ghost use Rattle.papers.specs.Refusals.{passed, first, jobTests, EndsAs};
 ghost use Rattle.papers.specs.Analysis.{keyWritten};
+ghost use Rattle.list_laws.specs.Wrote.{Wrote};
 use papers::Answer;
 use papers::JobHead;
 
 // Writes the key of a job to the front of a slice, as far as the slice goes, and answers the place behind it: the bytes needed.
 pub fn put_key(head: JobHead, starts: &[u64], rows: &[u32], bytes: &mut [u8]) -> usize
     requires { ⌜ first jobTests (jobOf head (now starts) (now rows)) ≡ passed ⌝ }
-    ensures place { λ r. ⌜ r ≡ length (keyOf (jobOf head (now (starts .entry)) (now (rows .entry)))) ⌝ }
-    ensures writes { λ r. ⌜
-        now (bytes .exit) ≡ sets (now (bytes .entry)) 0 (keyOf (jobOf head (now (starts .entry)) (now (rows .entry))))
+    ensures { λ r. ⌜
+        Wrote (keyOf (jobOf head (now (starts .entry)) (now (rows .entry)))) (now (bytes .entry)) (now (bytes .exit)) 0 r
         ⌝ }
 {
     let edition = write_number::put(bytes, 0, papers::EDITION);

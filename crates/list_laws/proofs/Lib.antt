@@ -6,6 +6,7 @@ pub mod Keeps
 pub mod Counts
 pub mod UpTo
 pub mod Stores
+pub mod Writing
 pub mod Sorts
 pub mod SortOrder
 pub mod Leasts

@@ -11,8 +11,8 @@ use Rattle.papers.specs.declared.JobHead.{JobHead}
 use Rattle.papers.specs.Bounds.{programColumns, programRows}
 use Rattle.papers.specs.Job.{Job, jobOf}
 use Rattle.papers.specs.Refusals.{answer, passed, first}
-use Rattle.papers.specs.Analysis.{analysed}
-use Rattle.papers.specs.Text.{Input, textJob, textTests, refusalLine, buffers, jobPrinted, programPrints}
+use Rattle.papers.specs.Text.{Input, textJob, textTests, refusalLine, buffers, programPrints}
+use Rattle.list_laws.specs.Wrote.{Wrote}
 use Rattle.lent.specs.Six.{zeroes}
 use Rattle.column_laws.proofs.Parts.{front-stored}
 use Rattle.text_lines.specs.Narrowed.{narrowed}
@@ -21,6 +21,7 @@ use Rattle.text_reader.specs.declared.JobRead.the-variants as read
 use Rattle.text_reader.specs.Reading.{JobTold, job-read, text-refused, keptJob}
 use Rattle.text_reader.proofs.KeptJobs.{kept-printed}
 use Rattle.text_reader.proofs.Sizes.{Sizes, passed-sizes}
+use Rattle.listing_plan.specs.PlanLines.{printedFrom}
 
 -- the front of a slice, where so many numbers were stored
 front : (xs l : List ℕ) (k : ℕ) {m : List ℕ} → m ≡ sets l 0 xs → length xs ≡ k → k ≤ length l → take k m ≡ xs
@@ -73,7 +74,14 @@ told-job {input} {head = head} {count = count} (job-read p e s k) g =
     }
 told-job (text-refused c q p e) g = absurd (let z : _≡_ {A = ℕ} 0 1 = cc in omega arith)
 
--- in the program's zeroed buffers
+-- a job that was read into the program's zeroed buffers
+pub record Found (input : Input) : Type 0 where
+  pub starts : List ℕ
+  pub rows : List ℕ
+  pub head : JobHead
+  pub count : ℕ
+  pub job : JobFound input (replicate (programColumns + 1) 0) (replicate programRows 0) starts rows head count
+
 module _ {input : Input} {starts rows : List ℕ} {head : JobHead} {count : ℕ} (f : JobFound input (replicate (programColumns + 1) 0)
     (replicate programRows 0) starts rows head count) where
   sizes : Sizes (input .text)
@@ -110,23 +118,19 @@ module _ {input : Input} {starts rows : List ℕ} {head : JobHead} {count : ℕ}
       (f .marked) (f .limited)
 
   -- what is printed of it is what is printed of the text
-  pub found-printed : programPrints input ≡ jobPrinted (jobOf head (take (head .n + 1) starts) (take count rows))
-      (analysed (jobOf head (take (head .n + 1) starts) (take count rows)) buffers .answer)
+  pub found-printed : programPrints input ≡ printedFrom (jobOf head (take (head .n + 1) starts) (take count rows)) buffers
   unfolding programPrints
   found-printed =
-      rw (f .passes, programPrints) (sym (kept-printed (textJob (input .text)) buffers) ∙ ap (λ (j : Job). jobPrinted j (analysed j buffers .answer))
-      (sym job-is))
+      rw (f .passes, programPrints) (sym (kept-printed (textJob (input .text)) buffers) ∙ ap (λ (j : Job). printedFrom j buffers) (sym job-is))
 
 -- ---- zeroed slices of the program's sizes are its buffers
 
-module _ (job : Job) (bytes₀ : List ℕ) where
-  pub fits-in : length (jobPrinted job (analysed job buffers .answer)) ≤ length bytes₀
-      → length (jobPrinted job (analysed job zeroes .answer)) ≤ length bytes₀
+module _ (job : Job) where
+  pub fits-in : {n : ℕ} → length (printedFrom job buffers) ≤ n → length (printedFrom job zeroes) ≤ n
   unfolding buffers
   fits-in h = h
 
-  pub printed-in : {r : ℕ} {bytes : List ℕ}
-      → (r ≡ length (jobPrinted job (analysed job zeroes .answer))) × (bytes ≡ sets bytes₀ 0 (jobPrinted job (analysed job zeroes .answer)))
-      → (r ≡ length (jobPrinted job (analysed job buffers .answer))) × (bytes ≡ sets bytes₀ 0 (jobPrinted job (analysed job buffers .answer)))
+  pub printed-in : {bytes₀ bytes : List ℕ} {r : ℕ} → Wrote (printedFrom job zeroes) bytes₀ bytes 0 r
+      → Wrote (printedFrom job buffers) bytes₀ bytes 0 r
   unfolding buffers
   printed-in w = w

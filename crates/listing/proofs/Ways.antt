@@ -5,11 +5,11 @@ use mathlib.Core.Path.{_≡_, sym, ap, _∙_}
 use mathlib.Core.List.{List}
 use native.Mathlib.Omega.{arith}
 use lib.ListN.{length, length-replicate}
-use lib.Seq.{sets}
 use Rattle.papers.specs.Bounds.{listingBytes}
 use Rattle.papers.specs.Lists.{zeros}
 use Rattle.papers.specs.Refusals.{answer, untouched, Outcome}
 use Rattle.papers.specs.Text.{Input, programPrints, ListingCall, listingTests, listingDone, listed}
+use Rattle.list_laws.specs.Wrote.{Wrote}
 use Rattle.list_laws.proofs.Stores.{sets-zeros}
 use Rattle.job_laws.proofs.Firsts.{first-last, over-refuses, over-passes-iff}
 use Rattle.job_laws.proofs.Outcomes.{outcome-untouched, outcome-done}
@@ -32,11 +32,12 @@ module _ (input : Input) (bytes : List ℕ) where
     prints-fit = omega (arith, program-fits input, ap length z, length-replicate {A = ℕ} (length bytes) 0)
 
     -- done
-    pub way-printed : {r : ℕ} {after : List ℕ} → (r ≡ length (programPrints input)) × (after ≡ sets cleared 0 (programPrints input))
+    pub way-printed : {r : ℕ} {after : List ℕ} → Wrote (programPrints input) cleared after 0 r
         → _≡_ {A = Outcome (List ℕ)} (record { answer = answer 0 0 r; lent = after }) (listed input bytes)
     unfolding listed listingTests listingDone
-    way-printed w =
+    way-printed {r} w =
         let fits = program-fits input in
-        rw (w .0, w .1, z, sets-zeros (programPrints input) bytes (omega arith))
+        let counted : r ≡ length (programPrints input) = omega (arith, w .place) in
+        rw (counted, w .writes, z, sets-zeros (programPrints input) bytes (omega arith))
         (sym (outcome-done listingTests listingDone zeros call bytes (first-last _ call ∙ over-passes-iff (length bytes) listingBytes (answer 7 0 0)
         untouched .1 h)))

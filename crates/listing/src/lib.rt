@@ -1,33 +1,22 @@
 // The entry point of the listing: prints a job text's listing into a lent slice, in fixed zeroed buffers of the program's sizes. It prints
 // the line of the text's refusal, or what is printed of its job.
-ghost use mathlib.Core.Path.{_≡_};
 ghost use Prim.Native.Nat.{_≤_};
 ghost use lib.ListN.{length};
-ghost use lib.Seq.{sets};
-ghost use Rattle.papers.specs.Bounds.{programColumns};
 ghost use Rattle.papers.specs.Job.{jobOf};
 ghost use Rattle.papers.specs.Refusals.{EndsAs};
-ghost use Rattle.papers.specs.Analysis.{analysed};
-ghost use Rattle.papers.specs.Text.{buffers, jobPrinted, programPrints, listed};
+ghost use Rattle.papers.specs.Text.{buffers, programPrints, listed};
+ghost use Rattle.list_laws.specs.Wrote.{Wrote};
+ghost use Rattle.listing_plan.specs.PlanLines.{printedFrom};
+ghost use Rattle.listing.specs.JobFits.{JobFits};
 use papers::Answer;
 use papers::JobHead;
 use text_reader::JobRead;
 
 // Writes what is printed of a job to the front of bytes, and answers its length.
 fn print_job(head: JobHead, starts: &[u64], rows: &[u32], bytes: &mut [u8]) -> usize
-    requires columns { ⌜ head .n ≤ programColumns ⌝ }
-    requires fits { ⌜
-        length (jobPrinted (jobOf head (now starts) (now rows)) (analysed (jobOf head (now starts) (now rows)) buffers .answer)) ≤
-        length (now bytes)
-        ⌝ }
-    ensures place { λ r. ⌜
-        r ≡ length (jobPrinted (jobOf head (now (starts .entry)) (now (rows .entry)))
-        (analysed (jobOf head (now (starts .entry)) (now (rows .entry))) buffers .answer))
-        ⌝ }
-    ensures writes { λ r. ⌜
-        now (bytes .exit)
-        ≡ sets (now (bytes .entry)) 0 (jobPrinted (jobOf head (now (starts .entry)) (now (rows .entry)))
-        (analysed (jobOf head (now (starts .entry)) (now (rows .entry))) buffers .answer))
+    requires { ⌜ JobFits (jobOf head (now starts) (now rows)) (now bytes) ⌝ }
+    ensures { λ r. ⌜
+        Wrote (printedFrom (jobOf head (now (starts .entry)) (now (rows .entry))) buffers) (now (bytes .entry)) (now (bytes .exit)) 0 r
         ⌝ }
 {
     let mut parents = [0u32; program_sizes::COLUMNS];
@@ -54,9 +43,8 @@ fn print_job(head: JobHead, starts: &[u64], rows: &[u32], bytes: &mut [u8]) -> u
 // lent.
 fn print_text(text: &[u8], more: bool, bytes: &mut [u8]) -> usize
     requires { ⌜ length (programPrints (record { text = now text; more = more })) ≤ length (now bytes) ⌝ }
-    ensures place { λ r. ⌜ r ≡ length (programPrints (record { text = now (text .entry); more = more })) ⌝ }
-    ensures writes { λ r. ⌜
-        now (bytes .exit) ≡ sets (now (bytes .entry)) 0 (programPrints (record { text = now (text .entry); more = more }))
+    ensures { λ r. ⌜
+        Wrote (programPrints (record { text = now (text .entry); more = more })) (now (bytes .entry)) (now (bytes .exit)) 0 r
         ⌝ }
 {
     let mut starts = [0u64; program_sizes::STARTS];

@@ -1,13 +1,13 @@
 -- A number in decimal, written digit by digit: below ten it is one digit, else its last digit stands behind the digits of its tenth.
 -- Assumes nothing.
 use Prim.Native.Nat.{ℕ, _+_, _/_, _%_, _<_, _≤_}
-use mathlib.Core.Path.{_≡_, refl}
+use mathlib.Core.Path.{_≡_}
 use mathlib.Core.List.{List, [], _∷_}
 use native.Mathlib.Omega.{arith}
 use lib.ListN.{length, set, length-append}
-use lib.Seq.{sets}
 use Rattle.papers.specs.Text.{digit, decimalOf}
-use Rattle.list_laws.proofs.Stores.{sets-more}
+use Rattle.list_laws.specs.Wrote.{Wrote}
+use Rattle.list_laws.proofs.Writing.{wrote-byte, wrote-both, wrote-as}
 use Rattle.text_laws.proofs.Decimals.{decimal-small, decimal-more}
 
 module _ (x at : ℕ) (bytes : List ℕ) where
@@ -15,8 +15,8 @@ module _ (x at : ℕ) (bytes : List ℕ) where
     pub one-fits : at + length (decimalOf x) ≤ length bytes → at < length bytes
     one-fits f = let g : at + 1 ≤ length bytes = rw (decimal-small x h) at f in omega arith
 
-    pub one-written : (at + 1 ≡ at + length (decimalOf x)) × (set bytes at (48 + x) ≡ sets bytes at (decimalOf x))
-    one-written = rw (decimal-small x h) (refl, refl)
+    pub one-written : Wrote (decimalOf x) bytes (set bytes at (48 + x)) at (at + 1)
+    one-written = wrote-as (decimal-small x h) wrote-byte
 
   module _ (h : 10 ≤ x) where
     length-more : length (decimalOf x) ≡ length (decimalOf (x / 10)) + 1
@@ -26,7 +26,6 @@ module _ (x at : ℕ) (bytes : List ℕ) where
     pub last-fits : at + length (decimalOf x) ≤ length bytes → at + length (decimalOf (x / 10)) < length bytes
     last-fits f = omega (arith, length-more)
 
-    pub last-written : {last : ℕ} {tenth : List ℕ} → last ≡ at + length (decimalOf (x / 10)) → tenth ≡ sets bytes at (decimalOf (x / 10))
-        → (last + 1 ≡ at + length (decimalOf x)) × (set tenth last (48 + x % 10) ≡ sets bytes at (decimalOf x))
-    last-written {last} {tenth} e f =
-        (omega (arith, length-more), rw (decimal-more x h) (sets-more (decimalOf (x / 10)) bytes at (digit (x % 10)) last f refl e))
+    pub last-written : {last : ℕ} {tenth : List ℕ} → Wrote (decimalOf (x / 10)) bytes tenth at last
+        → Wrote (decimalOf x) bytes (set tenth last (48 + x % 10)) at (last + 1)
+    last-written p = wrote-as (decimal-more x h) (wrote-both p wrote-byte)

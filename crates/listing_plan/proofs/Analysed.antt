@@ -1,12 +1,13 @@
 -- What is printed of an analysis that is done lies in the parts of its slices that hold the steps and the lists of the job's plan.
 -- Assumes nothing.
-use Prim.Native.Nat.{ℕ, zero, suc, _+_}
+use Prim.Native.Nat.{ℕ, zero, suc, _+_, _≤_}
 use mathlib.Core.Path.{_≡_, refl, sym, ap, _∙_}
 use mathlib.Core.Logic.{_≢_}
 use mathlib.Core.List.{List, [], _∷_, map}
 use lib.ListN.{length, getD, take}
 use lib.Seq.{length-take-le}
 use Rattle.papers.specs.declared.Answer.{Answer}
+use Rattle.papers.specs.Bounds.{maxColumns}
 use Rattle.papers.specs.Lists.{flat}
 use Rattle.papers.specs.Job.{Job, Below, pattern}
 use Rattle.papers.specs.Fill.{R}
@@ -18,10 +19,10 @@ use Rattle.papers.specs.Analysis.{analysed}
 use Rattle.papers.specs.Text.{refusalLine, listingOf, jobPrinted}
 use Rattle.job_laws.specs.Parts.{Parts}
 use Rattle.job_laws.proofs.Passed.{Passed, passes-iff, passed-below}
-use Rattle.plan_laws.proofs.Analysed.{done-valid, done-parts}
+use Rattle.plan_laws.proofs.Analysed.{done-valid, done-few, done-parts}
 use Rattle.order.proofs.Ties.{startsOf}
 use Rattle.listing_steps.specs.Steps.{Printable}
-use Rattle.listing_plan.specs.PlanLines.{planLines}
+use Rattle.listing_plan.specs.PlanLines.{planLines, printedFrom}
 use Rattle.listing_plan.proofs.Steps.{lines-same, steps-printable}
 
 -- ---- the steps of a plan: their columns, and the pops of each
@@ -77,7 +78,7 @@ module _ (job : Job) (lent : Lent) {r : Answer} {after : Lent} (e : _≡_ {A = O
     answer-is = sym (ap (λ (o : Outcome Lent). o .answer) e)
 
     -- its refusal's line
-    pub refused-printed : r .number ≢ 0 → jobPrinted job (analysed job lent .answer) ≡ refusalLine r
+    pub refused-printed : r .number ≢ 0 → printedFrom job lent ≡ refusalLine r
     unfolding jobPrinted
     refused-printed z = ap (jobPrinted job) answer-is ∙ go (r .number) refl
       where
@@ -89,19 +90,36 @@ module _ (job : Job) (lent : Lent) {r : Answer} {after : Lent} (e : _≡_ {A = O
     unfolding jobPrinted
     listing-printed z = rw (z, jobPrinted)
 
-    module _ (z : r .number ≡ 0) where
-      -- it has a step for each column
-      pub done-steps : length (take (job .n) (after .order)) ≡ job .n
-      done-steps = length-take-le (job .n) (after .order) (done-parts job lent e z .order-long)
+-- ---- an analysis that is done
 
-      -- its steps can be printed
-      pub done-printable : Printable (take (job .n) (after .order)) (take (job .n) (after .pops)) (take (job .n + 1) (after .factorStarts))
-          (take (getD (after .factorStarts) (job .n) 0) (after .factorRows))
-      done-printable = parts-printable job (done-parts job lent e z) (done-valid job lent e z)
+-- its answer and its slices
+pub record Done (job : Job) (lent : Lent) : Type 0 where
+  pub answered : Answer
+  pub after : Lent
+  pub ends : _≡_ {A = Outcome Lent} (record { answer = answered; lent = after }) (analysed job lent)
+  pub zero : answered .number ≡ 0
 
-      -- and are what is printed
-      pub done-printed : jobPrinted job (analysed job lent .answer)
-          ≡ planLines (job .n) (job .mark) (r .count) (take (job .n) (after .order)) (take (job .n) (after .pops))
-          (take (job .n + 1) (after .factorStarts)) (take (getD (after .factorStarts) (job .n) 0) (after .factorRows))
-      done-printed =
-          ap (jobPrinted job) answer-is ∙ listing-printed z ∙ parts-printed job (done-parts job lent e z) (done-valid job lent e z) (r .count)
+module _ {job : Job} {lent : Lent} (d : Done job lent) where
+  -- the plan lies in front of its slices
+  pub done-lies : Parts (job .n) (planOf job) (d .after .order) (d .after .pops) (d .after .factorStarts) (d .after .factorRows)
+  done-lies = done-parts job lent (d .ends) (d .zero)
+
+  -- it has few columns, and a step for each
+  pub done-columns : job .n ≤ maxColumns
+  done-columns = done-few job lent (d .ends) (d .zero)
+
+  pub done-steps : length (take (job .n) (d .after .order)) ≡ job .n
+  done-steps = length-take-le (job .n) (d .after .order) (done-lies .order-long)
+
+  -- its steps can be printed
+  pub done-printable : Printable (take (job .n) (d .after .order)) (take (job .n) (d .after .pops)) (take (job .n + 1) (d .after .factorStarts))
+      (take (getD (d .after .factorStarts) (job .n) 0) (d .after .factorRows))
+  done-printable = parts-printable job done-lies (done-valid job lent (d .ends) (d .zero))
+
+  -- and are what is printed
+  pub done-printed : printedFrom job lent
+      ≡ planLines (job .n) (job .mark) (d .answered .count) (take (job .n) (d .after .order)) (take (job .n) (d .after .pops))
+      (take (job .n + 1) (d .after .factorStarts)) (take (getD (d .after .factorStarts) (job .n) 0) (d .after .factorRows))
+  done-printed =
+      ap (jobPrinted job) (answer-is job lent (d .ends)) ∙ listing-printed job lent (d .ends) (d .zero)
+      ∙ parts-printed job done-lies (done-valid job lent (d .ends) (d .zero)) (d .answered .count)

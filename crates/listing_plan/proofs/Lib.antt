@@ -1,3 +1,2 @@
 pub mod Analysed
-pub mod Parts
 pub mod Steps

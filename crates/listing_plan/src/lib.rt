@@ -1,14 +1,8 @@
 // Prints what is printed of a job: analyses it in lent slices, then writes its listing from them, or the line of its refusal.
-ghost use mathlib.Core.Path.{_≡_};
-ghost use Prim.Native.Nat.{_<_, _≤_};
-ghost use lib.ListN.{length};
-ghost use lib.Seq.{sets};
 ghost use Rattle.papers.specs.Job.{jobOf};
-ghost use Rattle.papers.specs.Analysis.{analysed};
-ghost use Rattle.papers.specs.Text.{jobPrinted};
+ghost use Rattle.list_laws.specs.Wrote.{Wrote};
 ghost use Rattle.lent.specs.Six.{six};
-ghost use Rattle.listing_steps.specs.Steps.{Printable};
-ghost use Rattle.listing_plan.specs.PlanLines.{planLines};
+ghost use Rattle.listing_plan.specs.PlanLines.{planLines, printedFrom, PlanFits, PrintFits};
 use papers::JobHead;
 
 // Writes the listing of a plan, which the slices hold, to the front of bytes, and answers its length.
@@ -22,19 +16,10 @@ fn print_plan(
     below: &mut [u64],
     bytes: &mut [u8],
 ) -> usize
-    requires steps { ⌜ Printable (now order) (now pops) (now fstarts) (now frows) ⌝ }
-    requires room { ⌜ length (now order) < length (now below) ⌝ }
-    requires fits { ⌜
-        length (planLines (head .n) (head .mark) peak (now order) (now pops) (now fstarts) (now frows)) ≤ length (now bytes)
-        ⌝ }
-    ensures place { λ r. ⌜
-        r ≡ length (planLines (head .n) (head .mark) peak (now (order .entry)) (now (pops .entry)) (now (fstarts .entry))
-        (now (frows .entry)))
-        ⌝ }
-    ensures writes { λ r. ⌜
-        now (bytes .exit)
-        ≡ sets (now (bytes .entry)) 0 (planLines (head .n) (head .mark) peak (now (order .entry)) (now (pops .entry))
-        (now (fstarts .entry)) (now (frows .entry)))
+    requires { ⌜ PlanFits (head .n) (head .mark) peak (now order) (now pops) (now fstarts) (now frows) (now below) (now bytes) ⌝ }
+    ensures { λ r. ⌜
+        Wrote (planLines (head .n) (head .mark) peak (now (order .entry)) (now (pops .entry)) (now (fstarts .entry)) (now (frows .entry)))
+        (now (bytes .entry)) (now (bytes .exit)) 0 r
         ⌝ }
 {
     let first = listing_lines::write_header(head.n, head.mark, peak, bytes);
@@ -54,24 +39,15 @@ pub fn print_analysis(
     work: &mut [u64],
     bytes: &mut [u8],
 ) -> usize
-    requires room { ⌜ head .n < length (now work) ⌝ }
-    requires fits { ⌜
-        length (jobPrinted (jobOf head (now starts) (now rows))
-        (analysed (jobOf head (now starts) (now rows)) (six (now parents) (now order) (now pops) (now fstarts) (now frows)
-        (now work)) .answer)) ≤ length (now bytes)
+    requires { ⌜
+        PrintFits (jobOf head (now starts) (now rows))
+        (six (now parents) (now order) (now pops) (now fstarts) (now frows) (now work)) (now bytes)
         ⌝ }
-    ensures place { λ r. ⌜
-        r ≡ length (jobPrinted (jobOf head (now (starts .entry)) (now (rows .entry)))
-        (analysed (jobOf head (now (starts .entry)) (now (rows .entry)))
+    ensures { λ r. ⌜
+        Wrote (printedFrom (jobOf head (now (starts .entry)) (now (rows .entry)))
         (six (now (parents .entry)) (now (order .entry)) (now (pops .entry)) (now (fstarts .entry)) (now (frows .entry))
-        (now (work .entry))) .answer))
-        ⌝ }
-    ensures writes { λ r. ⌜
-        now (bytes .exit)
-        ≡ sets (now (bytes .entry)) 0 (jobPrinted (jobOf head (now (starts .entry)) (now (rows .entry)))
-        (analysed (jobOf head (now (starts .entry)) (now (rows .entry)))
-        (six (now (parents .entry)) (now (order .entry)) (now (pops .entry)) (now (fstarts .entry)) (now (frows .entry))
-        (now (work .entry))) .answer))
+        (now (work .entry))))
+        (now (bytes .entry)) (now (bytes .exit)) 0 r
         ⌝ }
 {
     let answer = analysis::analyse(

@@ -2,18 +2,18 @@
 -- updates held before it leave.
 -- Assumes nothing.
 use Prim.Native.Nat.{ℕ, zero, suc, _+_, _-_, _<_, _≤_, min}
-use mathlib.Core.Path.{_≡_, refl, ap, _∙_}
+use mathlib.Core.Path.{_≡_, refl, sym, ap, _∙_}
 use mathlib.Core.Logic.{_⊎_, inl, inr}
 use mathlib.Core.List.{List, _∷_, _++_}
 use native.Mathlib.Omega.{arith}
 use native.Mathlib.Nat.{le-suc-iff}
 use native.Mathlib.Numerals.{add-one}
 use lib.ListN.{length, getD, set, length-append}
-use lib.Seq.{sets, length-sets}
 use Rattle.papers.specs.Job.{columnOf}
 use Rattle.papers.specs.Tree.{t}
 use Rattle.papers.specs.Text.{decimalOf, printed}
-use Rattle.list_laws.proofs.Stores.{sets-append}
+use Rattle.list_laws.specs.Wrote.{Wrote}
+use Rattle.list_laws.proofs.Writing.{wrote-long, wrote-both, wrote-as}
 use Rattle.room.specs.Rows.{RowsOf}
 use Rattle.room.specs.Steps.{Held}
 use Rattle.room.proofs.Stacks.{Stacked, stacked-start, stacked-room, stacked-turn}
@@ -40,24 +40,22 @@ module _ (order pops starts rows : List ℕ) where
 -- the first k steps are done, and their lines written
 pub record Printing (order pops starts rows below₀ bytes₀ : List ℕ) (at : ℕ) (below bytes : List ℕ) (depth next k : ℕ) : Type 0 where
   pub stacked : Stacked starts order pops below₀ below depth k
-  pub place : next ≡ at + length (linesTo order pops starts rows k)
-  pub written : bytes ≡ sets bytes₀ at (linesTo order pops starts rows k)
+  pub written : Wrote (linesTo order pops starts rows k) bytes₀ bytes at next
 
 module _ (order pops starts rows : List ℕ) where
   pub printing-start : (entry bytes : List ℕ) (at : ℕ) → length order < length entry
       → Printing order pops starts rows (set entry 0 0) bytes at (set entry 0 0) bytes 0 at 0
   unfolding linesTo
-  printing-start entry bytes at wide = record { stacked = stacked-start starts order pops entry wide; place = omega arith; written = refl }
+  printing-start entry bytes at wide =
+      record { stacked = stacked-start starts order pops entry wide; written = record { place = omega arith; writes = refl } }
 
   module _ {below₀ bytes₀ : List ℕ} {at : ℕ} {below bytes : List ℕ} {depth next k : ℕ} (inv : Printing order pops starts rows below₀ bytes₀ at below
       bytes depth next k) where
     pub printing-long : length bytes ≡ length bytes₀
-    printing-long = ap length (inv .written) ∙ length-sets bytes₀ at (linesTo order pops starts rows k)
+    printing-long = wrote-long (inv .written)
 
-    pub printing-stop : length order ≤ k
-        → (next ≡ at + length (linesTo order pops starts rows (length order))) ×
-        (bytes ≡ sets bytes₀ at (linesTo order pops starts rows (length order)))
-    printing-stop h = let e : k ≡ length order = omega (arith, inv .stacked .seen) in rw (← e) (inv .place, inv .written)
+    pub printing-stop : length order ≤ k → Wrote (linesTo order pops starts rows (length order)) bytes₀ bytes at next
+    printing-stop h = let e : k ≡ length order = omega (arith, inv .stacked .seen) in rw (← e) (inv .written)
 
     module _ (pre : Printable order pops starts rows) (more : k < length order) {r u : ℕ} (er : RowsOf starts (getD order k 0) r)
         (eu : u ≡ getD below (depth - min (getD pops k 0) 1) 0 + t (r + 1))
@@ -73,30 +71,20 @@ module _ (order pops starts rows : List ℕ) where
         pub printing-fits : at + length (linesTo order pops starts rows (length order)) ≤ length bytes₀
             → next + length (printed (decimalOf (getD order k 0)) (getD pops k 0 ∷ u ∷ columnOf starts rows (getD order k 0))) ≤ length bytes
         printing-fits h =
-            let p = inv .place in
             rw line-is (omega (
               arith,
+              inv .written .place,
               printing-long,
               length-next order pops starts rows k,
               lines-grow order pops starts rows (suc k) (length order) (omega arith),
             ))
 
         pub printing-turn : {d m : ℕ} {b bytes′ : List ℕ}
-            → (m ≡ next + length (printed (decimalOf (getD order k 0)) (getD pops k 0 ∷ u ∷ columnOf starts rows (getD order k 0))))
-            × (bytes′ ≡ sets bytes next (printed (decimalOf (getD order k 0)) (getD pops k 0 ∷ u ∷ columnOf starts rows (getD order k 0))))
+            → Wrote (printed (decimalOf (getD order k 0)) (getD pops k 0 ∷ u ∷ columnOf starts rows (getD order k 0))) bytes bytes′ next m
             → Held below depth (getD pops k 0) r b d
             → Printing order pops starts rows below₀ bytes₀ at b bytes′ d m (k + 1)
-        printing-turn {m = m} {bytes′ = bytes′} p one =
-            let (e, f) : (m ≡ next + length (lineBehind order pops starts rows k)) ×
-            (bytes′ ≡ sets bytes next (lineBehind order pops starts rows k)) = rw line-is at p in
+        printing-turn p one =
             record {
               stacked = stacked-turn starts order pops (inv .stacked) (pre .stepped) more er one;
-              place = rw add-one (omega (arith, e, inv .place, length-next order pops starts rows k));
-              written = rw (
-                add-one,
-                lines-next order pops starts rows k,
-                sets-append (linesTo order pops starts rows k) bytes₀ at (lineBehind order pops starts rows k),
-                ← inv .written,
-                ← inv .place,
-              ) f;
+              written = rw add-one (wrote-as (lines-next order pops starts rows k) (wrote-both (inv .written) (wrote-as (sym line-is) p)));
             }

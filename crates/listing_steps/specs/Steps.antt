@@ -1,11 +1,12 @@
 -- The lines of the steps of an order, as the slices of an analysis hold it.
 -- Assumes nothing.
-use Prim.Native.Nat.{ℕ, zero, suc, _<_, _≤_}
+use Prim.Native.Nat.{ℕ, zero, suc, _+_, _<_, _≤_}
 use mathlib.Core.List.{List, [], _∷_, _++_}
 use lib.ListN.{length, getD}
 use Rattle.papers.specs.Job.{columnOf}
 use Rattle.papers.specs.Room.{roomAt}
 use Rattle.papers.specs.Text.{decimalOf, printed}
+use Rattle.room.specs.Rows.{Column}
 use Rattle.room.specs.Steps.{rowsAt, popsAt, heldAt, Stepped}
 
 module _ (order pops starts rows : List ℕ) where
@@ -26,3 +27,15 @@ module _ (order pops starts rows : List ℕ) where
 pub record Printable (order pops starts rows : List ℕ) : Type 0 where
   pub stepped : Stepped starts order pops
   pub inside : (k : ℕ) → k < length order → getD starts (getD order k 0) 0 ≤ length rows
+
+-- the line of a step of column j can be written from `at` on: the column's rows are there, and the line fits
+pub record LineFits (j pops room : ℕ) (starts rows bytes : List ℕ) (at : ℕ) : Type 0 where
+  pub column : Column starts j
+  pub inside : getD starts j 0 ≤ length rows
+  pub fits : at + length (printed (decimalOf j) (pops ∷ room ∷ columnOf starts rows j)) ≤ length bytes
+
+-- the lines of all steps can be written from `at` on: there are places for the sums of the updates, and the lines fit
+pub record StepsFit (order pops starts rows below bytes : List ℕ) (at : ℕ) : Type 0 where
+  pub printable : Printable order pops starts rows
+  pub wide : length order < length below
+  pub fits : at + length (linesTo order pops starts rows (length order)) ≤ length bytes

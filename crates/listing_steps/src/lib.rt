@@ -1,13 +1,11 @@
 // Writes the lines of a listing behind its header, one for each step of an order, from the slices that hold an analysis.
-ghost use mathlib.Core.Path.{_≡_};
 ghost use mathlib.Core.List.{_∷_};
-ghost use Prim.Native.Nat.{_+_, _<_, _≤_};
-ghost use lib.ListN.{length, getD};
-ghost use lib.Seq.{sets};
+ghost use Prim.Native.Nat.{_+_, _≤_};
+ghost use lib.ListN.{length};
 ghost use Rattle.papers.specs.Job.{columnOf};
 ghost use Rattle.papers.specs.Text.{decimalOf, printed};
-ghost use Rattle.room.specs.Rows.{Column};
-ghost use Rattle.listing_steps.specs.Steps.{linesTo, Printable};
+ghost use Rattle.list_laws.specs.Wrote.{Wrote};
+ghost use Rattle.listing_steps.specs.Steps.{linesTo, LineFits, StepsFit};
 
 // Writes the line of a step: its column, its pops, its room in use and the column's rows.
 pub fn write_step(
@@ -19,9 +17,8 @@ pub fn write_step(
     at: usize,
 ) -> usize
     requires { ⌜ at + length (printed (decimalOf column) (pops ∷ room ∷ now rows)) ≤ length (now bytes) ⌝ }
-    ensures place { λ r. ⌜ r ≡ at + length (printed (decimalOf column) (pops ∷ room ∷ now (rows .entry))) ⌝ }
-    ensures writes { λ r. ⌜
-        now (bytes .exit) ≡ sets (now (bytes .entry)) at (printed (decimalOf column) (pops ∷ room ∷ now (rows .entry)))
+    ensures { λ r. ⌜
+        Wrote (printed (decimalOf column) (pops ∷ room ∷ now (rows .entry))) (now (bytes .entry)) (now (bytes .exit)) at r
         ⌝ }
 {
     let first = listing_lines::write_decimal(column, bytes, at);
@@ -42,15 +39,10 @@ fn write_column(
     bytes: &mut [u8],
     at: usize,
 ) -> usize
-    requires column { ⌜ Column (now fstarts) j × (getD (now fstarts) j 0 ≤ length (now frows)) ⌝ }
-    requires fits { ⌜ at + length (printed (decimalOf j) (pops ∷ room ∷ columnOf (now fstarts) (now frows) j)) ≤ length (now bytes) ⌝ }
-    ensures place { λ r. ⌜
-        r ≡ at + length (printed (decimalOf j) (pops ∷ room ∷ columnOf (now (fstarts .entry)) (now (frows .entry)) j))
-        ⌝ }
-    ensures writes { λ r. ⌜
-        now (bytes .exit)
-        ≡ sets (now (bytes .entry)) at
-        (printed (decimalOf j) (pops ∷ room ∷ columnOf (now (fstarts .entry)) (now (frows .entry)) j))
+    requires { ⌜ LineFits j pops room (now fstarts) (now frows) (now bytes) at ⌝ }
+    ensures { λ r. ⌜
+        Wrote (printed (decimalOf j) (pops ∷ room ∷ columnOf (now (fstarts .entry)) (now (frows .entry)) j))
+        (now (bytes .entry)) (now (bytes .exit)) at r
         ⌝ }
 {
     let from = fstarts[j - 1] as usize;
@@ -69,17 +61,10 @@ pub fn write_steps(
     bytes: &mut [u8],
     at: usize,
 ) -> usize
-    requires steps { ⌜ Printable (now order) (now pops) (now fstarts) (now frows) ⌝ }
-    requires room { ⌜ length (now order) < length (now below) ⌝ }
-    requires fits { ⌜ at + length (linesTo (now order) (now pops) (now fstarts) (now frows) (length (now order))) ≤ length (now bytes) ⌝ }
-    ensures place { λ r. ⌜
-        r ≡ at + length (linesTo (now (order .entry)) (now (pops .entry)) (now (fstarts .entry)) (now (frows .entry))
-        (length (now (order .entry))))
-        ⌝ }
-    ensures writes { λ r. ⌜
-        now (bytes .exit)
-        ≡ sets (now (bytes .entry)) at (linesTo (now (order .entry)) (now (pops .entry)) (now (fstarts .entry)) (now (frows .entry))
-        (length (now (order .entry))))
+    requires { ⌜ StepsFit (now order) (now pops) (now fstarts) (now frows) (now below) (now bytes) at ⌝ }
+    ensures { λ r. ⌜
+        Wrote (linesTo (now (order .entry)) (now (pops .entry)) (now (fstarts .entry)) (now (frows .entry)) (length (now (order .entry))))
+        (now (bytes .entry)) (now (bytes .exit)) at r
         ⌝ }
 {
     below[0] = 0;

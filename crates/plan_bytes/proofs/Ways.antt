@@ -19,6 +19,7 @@ use Rattle.job_laws.proofs.Outcomes.{outcome-untouched, outcome-zeroed, outcome
 use Rattle.refusal_laws.proofs.Exactly.{Leaving}
 use Rattle.refusal_laws.proofs.Analysis.{analysis-leaving}
 use Rattle.plan_laws.proofs.Analysed.{same-answers, same-numbers, same-lent}
+use Rattle.write_stored.specs.Stored.{ClearedLate}
 use Rattle.plan_bytes.specs.Beside.{storedBeside}
 use Rattle.plan_bytes.proofs.Besides.{beside-short, beside-whole}
 
@@ -42,10 +43,10 @@ module _ (job : Job) (slices : PlanLent) where
   -- 1 to 7 leave the bytes as they were, 8 and 9 leave zeros
   pub way-refused : {r : Answer} {after : Lent} {bytes : List ℕ}
       → _≡_ {A = Outcome Lent} (record { answer = r; lent = after }) (analysed job (slices .analysis)) → r .number ≢ 0
-      → (r .number ≤ 7 → bytes ≡ slices .bytes) → (7 < r .number → bytes ≡ zeros (slices .bytes))
+      → ClearedLate (r .number) (slices .bytes) bytes
       → _≡_ {A = Outcome PlanLent} (record { answer = r; lent = record { analysis = after; bytes = bytes } }) (planWritten job slices)
   unfolding analysed analysisDone planWritten planZero
-  way-refused {r} {after} {bytes} e z early late = go (first analysisTests (analysisOf call)) refl
+  way-refused {r} {after} {bytes} e z cleared = go (first analysisTests (analysisOf call)) refl
     where
       go : (v : Verdict) → first analysisTests (analysisOf call) ≡ v
           → _≡_ {A = Outcome PlanLent} (record { answer = r; lent = record { analysis = after; bytes = bytes } }) (planWritten job slices)
@@ -53,12 +54,13 @@ module _ (job : Job) (slices : PlanLent) where
       go (refused a untouched) q =
           let f = e ∙ outcome-untouched analysisTests analysisDone allZero (analysisOf call) (slices .analysis) q in
           let h : Leaving (refused a untouched) = rw q at (analysis-leaving (analysisOf call)) in
-          rw (same-answers f, same-lent f, early (rw (same-answers f) (h .1)))
+          rw (same-answers f, same-lent f, cleared .early (rw (same-answers f) (h .1)))
           (sym (outcome-untouched planTests planDone planZero call slices (refused-on q)))
       go (refused a zeroed) q =
           let f = e ∙ outcome-zeroed analysisTests analysisDone allZero (analysisOf call) (slices .analysis) q in
           let h : Leaving (refused a zeroed) = rw q at (analysis-leaving (analysisOf call)) in
-          rw (same-answers f, same-lent f, late (rw (same-answers f) h)) (sym (outcome-zeroed planTests planDone planZero call slices (refused-on q)))
+          rw (same-answers f, same-lent f, cleared .late (rw (same-answers f) h))
+          (sym (outcome-zeroed planTests planDone planZero call slices (refused-on q)))
 
   -- ---- the analysis is done
 

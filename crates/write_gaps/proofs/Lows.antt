@@ -5,18 +5,19 @@ use Prim.Native.Nat.{ℕ, suc, _+_, _-_, _%_, _<_, _≤_, max}
 use mathlib.Core.Path.{_≡_, refl, ap, _∙_}
 use mathlib.Core.List.{List, [], _∷_}
 use native.Mathlib.Omega.{arith}
-use native.Mathlib.Numerals.{add-one}
 use lib.ListN.{length, getD, set, length-append, length-set}
-use lib.Seq.{slice, length-slice, sets}
+use lib.Seq.{slice, length-slice}
 use Rattle.papers.specs.Lists.{greatest}
 use Rattle.papers.specs.Numbers.{bytesOf, encode}
 use Rattle.papers.specs.Key.{gapsOf}
+use Rattle.list_laws.specs.Wrote.{Wrote}
 use Rattle.list_laws.proofs.Stores.{sets-over}
+use Rattle.list_laws.proofs.Writing.{wrote-byte, Writes, writes-all, writes-part, writes-none}
 use Rattle.bytes_laws.proofs.Gaps.{length-gaps}
 use Rattle.bytes_laws.proofs.Numbers.{bytes-length}
 use Rattle.groups.proofs.Written.{bytes-small}
-use Rattle.write_gaps.specs.ListAt.{ListAt}
-use Rattle.write_gaps.specs.LowBytes.{lowBytes}
+use Rattle.write_gaps.specs.ListAt.{ListAt, ListFits}
+use Rattle.write_gaps.specs.LowBytes.{lowBytes, LowsStored}
 use Rattle.write_gaps.proofs.Rows.{RowsLeft, rows-all, rows-next, gaps-next, gaps-none}
 
 length-lows : (xs : List ℕ) → length (lowBytes xs) ≡ length xs
@@ -43,14 +44,12 @@ lows-small (x ∷ xs) h =
 -- the low bytes of the gaps of the rows before i are stored, and the greatest of these gaps is widest
 pub record Lows (b : ℕ) (rows : List ℕ) (from to : ℕ) (d₀ : List ℕ) (at : ℕ) (d : List ℕ) (widest before next i : ℕ) : Type 0 where
   pub rows-left : RowsLeft rows to before i
-  pub stored : sets d next (lowBytes (gapsOf before (slice i to rows))) ≡ sets d₀ at (lowBytes (gapsOf b (slice from to rows)))
+  pub written : Writes (lowBytes (gapsOf b (slice from to rows))) d₀ at (lowBytes (gapsOf before (slice i to rows))) d next
   pub wide : max widest (greatest (gapsOf before (slice i to rows))) ≡ greatest (gapsOf b (slice from to rows))
-  pub room : next + (to - i) ≤ length d
-  pub long : length d ≡ length d₀
+  pub fits : next + (to - i) ≤ length d
 
-pub lows-start : {b : ℕ} {rows : List ℕ} {from to : ℕ} {d : List ℕ} {at : ℕ} → ListAt b rows from to → at + (to - from) ≤ length d
-    → Lows b rows from to d at d 0 b at from
-lows-start l h = record { rows-left = rows-all l; stored = refl; wide = omega arith; room = h; long = refl }
+pub lows-start : {b : ℕ} {rows : List ℕ} {from to : ℕ} {d : List ℕ} {at : ℕ} → ListFits rows from to b d at → Lows b rows from to d at d 0 b at from
+lows-start p = record { rows-left = rows-all (p .list); written = writes-all; wide = omega arith; fits = p .fits }
 
 module _ {b : ℕ} {rows : List ℕ} {from to : ℕ} {d₀ : List ℕ} {at : ℕ} {d : List ℕ} {widest before next i : ℕ}
     (s : Lows b rows from to d₀ at d widest before next i) where
@@ -59,26 +58,22 @@ module _ {b : ℕ} {rows : List ℕ} {from to : ℕ} {d₀ : List ℕ} {at : ℕ
   unfolding lowBytes greatest
   lows-turn h {row} e f =
       let g = gaps-next (s .rows-left) h e in
-      let room = s .room in
-      let stored : sets (set d next ((row - before) % 256)) (suc next) (lowBytes (gapsOf row (slice (i + 1) to rows))) ≡ sets d₀ at
-      (lowBytes (gapsOf b (slice from to rows))) =
-      rw g at (s .stored) in
+      let fits = s .fits in
       let wide : max widest (max (row - before) (greatest (gapsOf row (slice (i + 1) to rows)))) ≡ greatest (gapsOf b (slice from to rows)) = rw g at
       (s .wide) in
       record {
         rows-left = rows-next (s .rows-left) h e;
-        stored = rw add-one stored;
+        written = writes-part (s .written) wrote-byte (ap lowBytes g);
         wide = omega arith;
-        room = omega (arith, length-set d next ((row - before) % 256));
-        long = length-set d next ((row - before) % 256) ∙ s .long;
+        fits = omega (arith, length-set d next ((row - before) % 256));
       }
 
-  pub lows-stop : to ≤ i → (widest ≡ greatest (gapsOf b (slice from to rows))) × (d ≡ sets d₀ at (lowBytes (gapsOf b (slice from to rows))))
+  pub lows-stop : to ≤ i → LowsStored (gapsOf b (slice from to rows)) d₀ d at widest
   unfolding lowBytes greatest
   lows-stop h =
       let g = gaps-none (s .rows-left) h in
       let wide : max widest 0 ≡ greatest (gapsOf b (slice from to rows)) = rw g at (s .wide) in
-      (omega arith, rw g at (s .stored))
+      record { widest = omega arith; stores = writes-none (s .written) (ap lowBytes g) .writes }
 
 -- ---- a run of rows
 
@@ -86,19 +81,20 @@ module _ {b : ℕ} {rows : List ℕ} {from to : ℕ} (l : ListAt b rows from to)
   run-length : length (gapsOf b (slice from to rows)) ≡ to - from
   run-length = length-gaps b (slice from to rows) ∙ length-slice from to rows (l .inside)
 
-  module _ (d₀ : List ℕ) (at : ℕ) {d : List ℕ} {widest : ℕ}
-      (low : (widest ≡ greatest (gapsOf b (slice from to rows))) × (d ≡ sets d₀ at (lowBytes (gapsOf b (slice from to rows))))) where
+  module _ {d₀ : List ℕ} {at : ℕ} {d : List ℕ} {widest : ℕ} (low : LowsStored (gapsOf b (slice from to rows)) d₀ d at widest) where
     -- each gap has one byte
-    pub run-short : widest < 128
-        → (at + (to - from) ≡ at + length (encode (gapsOf b (slice from to rows)))) × (d ≡ sets d₀ at (encode (gapsOf b (slice from to rows))))
+    pub run-short : widest < 128 → Wrote (encode (gapsOf b (slice from to rows))) d₀ d at (at + (to - from))
     run-short h =
-        let widest-is = low .0 in
-        let same = lows-small (gapsOf b (slice from to rows)) (omega arith) in
-        (omega (arith, run-length, ap length same, length-lows (gapsOf b (slice from to rows))), rw same at (low .1))
+        let same = lows-small (gapsOf b (slice from to rows)) (omega (arith, low .widest)) in
+        record {
+          place = omega (arith, run-length, ap length same, length-lows (gapsOf b (slice from to rows)));
+          writes = rw same at (low .stores);
+        }
 
     -- the gaps are written over their low bytes
-    pub run-over : {d′ : List ℕ} → d′ ≡ sets d at (encode (gapsOf b (slice from to rows))) → d′ ≡ sets d₀ at (encode (gapsOf b (slice from to rows)))
-    run-over e =
+    pub run-over : {d′ : List ℕ} {r : ℕ} → Wrote (encode (gapsOf b (slice from to rows))) d d′ at r
+        → Wrote (encode (gapsOf b (slice from to rows))) d₀ d′ at r
+    run-over p =
         let gaps = gapsOf b (slice from to rows) in
         let shorter : length (lowBytes gaps) ≤ length (encode gaps) = omega (arith, length-lows gaps, encode-long gaps) in
-        e ∙ rw (low .1) (sets-over (lowBytes gaps) (encode gaps) d₀ at shorter)
+        record { place = p .place; writes = p .writes ∙ rw (low .stores) (sets-over (lowBytes gaps) (encode gaps) d₀ at shorter) }

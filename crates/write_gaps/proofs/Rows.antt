@@ -6,13 +6,15 @@ use mathlib.Core.List.{List, [], _∷_, List·Memᴰ·head, List·Memᴰ·tail}
 use native.Mathlib.Omega.{arith}
 use native.Mathlib.Numerals.{add-one}
 use lib.ListN.{length, getD, take, length-take, drop-of-length-le}
-use lib.Seq.{slice, slice-cons, length-slice, sets}
+use lib.Seq.{slice, slice-cons, length-slice}
 use Rattle.papers.specs.Bounds.{maxColumns, maxGroups}
 use Rattle.papers.specs.Lists.{_∈_, Asc}
 use Rattle.papers.specs.Numbers.{bytesOf, encode}
 use Rattle.papers.specs.Key.{gapsOf}
+use Rattle.list_laws.specs.Wrote.{Wrote}
+use Rattle.list_laws.proofs.Writing.{Writes, writes-all, writes-none}
 use Rattle.bytes_laws.proofs.Gaps.{length-gaps}
-use Rattle.bytes_laws.proofs.Writing.{writes-near, Writes, writes-all, writes-number, writes-none}
+use Rattle.bytes_laws.proofs.Writing.{encode-none, writes-number, writes-near}
 use Rattle.write_gaps.specs.ListAt.{ListAt}
 
 -- the rows from i up to `to` are left, behind the row `before`
@@ -62,9 +64,10 @@ gaps-none {rows} {to} {i = i} l h =
 
 -- ---- written
 
+-- the gaps of the rows before i are written
 pub record WritesRows (j : ℕ) (rows : List ℕ) (from to : ℕ) (d₀ : List ℕ) (first : ℕ) (d : List ℕ) (next before i : ℕ) : Type 0 where
   pub rows-left : RowsLeft rows to before i
-  pub written : Writes (gapsOf j (slice from to rows)) d₀ first (gapsOf before (slice i to rows)) d next
+  pub written : Writes (encode (gapsOf j (slice from to rows))) d₀ first (encode (gapsOf before (slice i to rows))) d next
 
 pub gaps-start : {b : ℕ} {rows : List ℕ} {from to : ℕ} {d : List ℕ} {at : ℕ} → ListAt b rows from to → WritesRows b rows from to d at d at b from
 gaps-start l = record { rows-left = rows-all l; written = writes-all }
@@ -74,14 +77,12 @@ module _ {j : ℕ} {rows : List ℕ} {from to : ℕ} {d₀ : List ℕ} {first : 
   -- the next place is not far behind the first
   pub place-near : ListAt j rows from to → next ≤ first + maxGroups * maxColumns
   place-near l =
-      let few = l .few in
-      omega (arith, writes-near (w .written), length-gaps j (slice from to rows), length-slice from to rows (l .inside))
+      let gaps = gapsOf j (slice from to rows) in
+      omega (arith, l .few, writes-near gaps (w .written), length-gaps j (slice from to rows), length-slice from to rows (l .inside))
 
-  pub write-turn : i < to → {row : ℕ} → row ≡ getD rows i 0 → {m : ℕ} {d′ : List ℕ} → m ≡ next + length (bytesOf (row - before))
-      → d′ ≡ sets d next (bytesOf (row - before))
+  pub write-turn : i < to → {row : ℕ} → row ≡ getD rows i 0 → {m : ℕ} {d′ : List ℕ} → Wrote (bytesOf (row - before)) d d′ next m
       → WritesRows j rows from to d₀ first d′ m row (i + 1)
-  write-turn h e f g = record { rows-left = rows-next (w .rows-left) h e; written = writes-number (w .written) (gaps-next (w .rows-left) h e) f g }
+  write-turn h e p = record { rows-left = rows-next (w .rows-left) h e; written = writes-number (w .written) (gaps-next (w .rows-left) h e) p }
 
-  pub gaps-stop : to ≤ i
-      → (next ≡ first + length (encode (gapsOf j (slice from to rows)))) × (d ≡ sets d₀ first (encode (gapsOf j (slice from to rows))))
-  gaps-stop h = writes-none (w .written) (gaps-none (w .rows-left) h)
+  pub gaps-stop : to ≤ i → Wrote (encode (gapsOf j (slice from to rows))) d₀ d first next
+  gaps-stop h = writes-none (w .written) (encode-none (gaps-none (w .rows-left) h))

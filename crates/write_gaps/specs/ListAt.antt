@@ -1,6 +1,6 @@
--- What the writer of a list's gaps asks of its rows.
+-- What the writers of a list's gaps ask of its rows and of the place.
 -- Assumes nothing.
-use Prim.Native.Nat.{ℕ, _-_, _≤_}
+use Prim.Native.Nat.{ℕ, _+_, _-_, _<_, _≤_}
 use mathlib.Core.List.{List}
 use lib.ListN.{length}
 use lib.Seq.{slice}
@@ -15,3 +15,13 @@ pub record ListAt (j : ℕ) (rows : List ℕ) (from to : ℕ) : Type 0 where
   pub ascending : Asc j (slice from to rows)
   pub few : to - from ≤ maxColumns
   pub within : (row : ℕ) → row ∈ slice from to rows → row ≤ maxColumns
+
+-- such a list, to be written from a place below the bound
+pub record ListNear (rows : List ℕ) (from to j at bound : ℕ) : Type 0 where
+  pub list : ListAt j rows from to
+  pub near : at < bound
+
+-- such a list, and from `at` on a place for each of its gaps
+pub record ListFits (rows : List ℕ) (from to j : ℕ) (bytes : List ℕ) (at : ℕ) : Type 0 where
+  pub list : ListAt j rows from to
+  pub fits : at + (to - from) ≤ length bytes

@@ -1,8 +1,16 @@
 -- The low byte of each of some numbers.
 -- Assumes nothing.
 use Prim.Native.Nat.{ℕ, _%_}
+use mathlib.Core.Path.{_≡_}
 use mathlib.Core.List.{List, [], _∷_}
+use lib.Seq.{sets}
+use Rattle.papers.specs.Lists.{greatest}
 
 unfoldable pub lowBytes : List ℕ → List ℕ
 lowBytes [] = []
 lowBytes (x ∷ xs) = (x % 256) ∷ lowBytes xs
+
+-- the low bytes of gaps were stored from `at` on over what stood there before, and r is the greatest gap
+pub record LowsStored (gaps before after : List ℕ) (at r : ℕ) : Type 0 where
+  pub widest : r ≡ greatest gaps
+  pub stores : after ≡ sets before at (lowBytes gaps)

@@ -7,14 +7,16 @@ use mathlib.Core.List.{List, [], _∷_, _++_}
 use native.Mathlib.Omega.{arith}
 use native.Mathlib.Numerals.{add-one}
 use lib.ListN.{length, getD, drop, length-append, drop-of-length-le}
-use lib.Seq.{slice, drop-cons, sets}
+use lib.Seq.{slice, drop-cons}
 use Rattle.papers.specs.Bounds.{maxColumns}
 use Rattle.papers.specs.Numbers.{encode}
 use Rattle.papers.specs.Job.{columnOf}
 use Rattle.papers.specs.Key.{listNumbers, listsNumbers, listsOf}
+use Rattle.list_laws.specs.Wrote.{Wrote}
 use Rattle.list_laws.proofs.Ascending.{asc-length}
+use Rattle.list_laws.proofs.Writing.{Writes, writes-none}
 use Rattle.bytes_laws.proofs.Gaps.{ListsFit, length-gaps}
-use Rattle.bytes_laws.proofs.Writing.{writes-near, Writes, writes-numbers, writes-none}
+use Rattle.bytes_laws.proofs.Writing.{encode-none, writes-numbers, writes-near}
 use Rattle.job_laws.proofs.Starts.{start-at, start-within, column-at}
 use Rattle.job_laws.proofs.Passed.{PassedLists, lists-below}
 use Rattle.job_laws.proofs.Laid.{length-lists, lists-at, column-length}
@@ -87,30 +89,29 @@ pub record WritesColumns (n : ℕ) (starts rows d₀ : List ℕ) (first : ℕ) (
   pub few : n ≤ maxColumns
   pub lists : PassedLists n starts rows
   pub high : done ≤ n
-  pub written : Writes (listsNumbers 1 (listsOf n (columnOf starts rows))) d₀ first (numbersFrom n starts rows done) d next
+  pub written : Writes (encode (listsNumbers 1 (listsOf n (columnOf starts rows)))) d₀ first (encode (numbersFrom n starts rows done)) d next
   pub near : first < 2 ^ 60
 
 module _ {n : ℕ} {starts rows d₀ : List ℕ} {first : ℕ} {d : List ℕ} {next done : ℕ} (w : WritesColumns n starts rows d₀ first d next done) where
   -- the place of the next list is near too
   pub list-near : next < 2 ^ 61
-  list-near = let near = w .near in omega (arith, writes-near (w .written), lists-few (w .few) (w .lists))
+  list-near =
+      let all = listsNumbers 1 (listsOf n (columnOf starts rows)) in
+      omega (arith, w .near, writes-near all (w .written), lists-few (w .few) (w .lists))
 
   module _ (h : done < n) where
     pub lists-turn : {m : ℕ} {d′ : List ℕ}
-        → m ≡ next + length (encode (listNumbers (done + 1) (slice (getD starts done 0) (getD starts (done + 1) 0) rows)))
-        → d′ ≡ sets d next (encode (listNumbers (done + 1) (slice (getD starts done 0) (getD starts (done + 1) 0) rows)))
+        → Wrote (encode (listNumbers (done + 1) (slice (getD starts done 0) (getD starts (done + 1) 0) rows))) d d′ next m
         → WritesColumns n starts rows d₀ first d′ m (done + 1)
-    lists-turn e f =
+    lists-turn p =
         record {
           few = w .few;
           lists = w .lists;
           high = omega arith;
-          written = writes-numbers (listNumbers (done + 1) (slice (getD starts done 0) (getD starts (done + 1) 0) rows)) (w .written)
-              (numbers-next (w .few) (w .lists) h) e f;
+          written = writes-numbers (listNumbers (done + 1) (slice (getD starts done 0) (getD starts (done + 1) 0) rows)) _ (w .written)
+              (numbers-next (w .few) (w .lists) h) p;
           near = w .near;
         }
 
-  pub lists-stop : n ≤ done
-      → (next ≡ first + length (encode (listsNumbers 1 (listsOf n (columnOf starts rows))))) ×
-      (d ≡ sets d₀ first (encode (listsNumbers 1 (listsOf n (columnOf starts rows)))))
-  lists-stop h = writes-none (w .written) (numbers-none (w .few) (w .lists) h)
+  pub lists-stop : n ≤ done → Wrote (encode (listsNumbers 1 (listsOf n (columnOf starts rows)))) d₀ d first next
+  lists-stop h = writes-none (w .written) (encode-none (numbers-none (w .few) (w .lists) h))

@@ -1,18 +1,20 @@
 -- A list cut in two behind some of its rows: the gaps of the first rows come first, those of the rest follow behind the last of the first. So a list
 -- is written run by run.
 -- Assumes nothing.
-use Prim.Native.Nat.{ℕ, suc, _+_, _-_, _<_, _≤_}
+use Prim.Native.Nat.{ℕ, suc, _+_, _-_, _≤_}
 use mathlib.Core.Path.{_≡_, refl, sym, ap, _∙_}
 use mathlib.Core.List.{List, [], _∷_, _++_, Memᴰ·append-left, Memᴰ·append-right}
 use native.Mathlib.Omega.{arith}
 use lib.ListN.{length, getD, take, drop}
-use lib.Seq.{slice, length-slice, length-take-le, take-add, drop-append-le, drop-at, getD-take, getD-drop, slice-cons, sets}
+use lib.Seq.{slice, length-slice, length-take-le, take-add, drop-append-le, drop-at, getD-take, getD-drop, slice-cons}
 use Rattle.papers.specs.Lists.{Asc}
 use Rattle.papers.specs.Numbers.{encode}
 use Rattle.papers.specs.Key.{gapsOf}
+use Rattle.list_laws.specs.Wrote.{Wrote}
 use Rattle.bytes_laws.proofs.Writing.{writes-numbers}
 use Rattle.write_gaps.specs.ListAt.{ListAt}
 use Rattle.write_gaps.proofs.Rows.{RowsLeft, WritesRows}
+use Rattle.write_lists.specs.Lists.{RunEnd}
 
 -- the last row of a list, or the one before it
 abbrev lastOf : ℕ → List ℕ → ℕ
@@ -43,16 +45,16 @@ slice-cut rows i e to a b h =
     ap (drop i) t ∙ drop-append-le i (take e rows) (take (to - e) (drop e rows)) (omega arith) ∙ ap (λ (s : List ℕ). slice i e rows ++ s) (sym r)
 
 -- the rows up to e are cut off, of those from i on
-module _ {rows : List ℕ} {to before i : ℕ} (l : RowsLeft rows to before i) (e : ℕ) (a : i < e) (b : e ≤ to) where
+module _ {rows : List ℕ} {to before i : ℕ} {e : ℕ} (l : RowsLeft rows to before i) (end : RunEnd i to e) where
   there : e ≤ length rows
   there = let n = l .inside in omega arith
 
   cut : slice i to rows ≡ slice i e rows ++ slice e to rows
-  cut = slice-cut rows i e to (omega arith) b (l .inside)
+  cut = slice-cut rows i e to (omega arith) (end .within) (l .inside)
 
   last-row : lastOf before (slice i e rows) ≡ getD rows (e - 1) 0
   last-row =
-      let c : slice i e rows ≡ getD rows i 0 ∷ slice (suc i) e rows = slice-cons i e rows 0 a there in
+      let c : slice i e rows ≡ getD rows i 0 ∷ slice (suc i) e rows = slice-cons i e rows 0 (end .past) there in
       let p : i + (e - suc i) ≡ e - 1 = omega arith in
       ap (lastOf before) c ∙ last-at before (getD rows i 0) (slice (suc i) e rows)
       ∙ rw (← c, length-slice (suc i) e rows there, getD-drop i (take e rows) (e - suc i) 0, p, getD-take e rows (e - 1) 0 (omega arith))
@@ -79,7 +81,7 @@ module _ {rows : List ℕ} {to before i : ℕ} (l : RowsLeft rows to before i) (
       let few = l .few in
       record {
         inside = l .inside;
-        high = b;
+        high = end .within;
         ascending = ascends .1;
         few = omega arith;
         within = λ k m. l .within k (rw cut (Memᴰ·append-right (slice i e rows) m));
@@ -88,11 +90,11 @@ module _ {rows : List ℕ} {to before i : ℕ} (l : RowsLeft rows to before i) (
 -- a run of a list that is being written
 module _ {j : ℕ} {rows : List ℕ} {from to : ℕ} {d₀ : List ℕ} {first : ℕ} {d : List ℕ} {next before i : ℕ} (w : WritesRows j rows from to d₀ first d
     next before i)
-    {e : ℕ} (a : i < e) (b : e ≤ to) where
-  pub run-turn : {row m : ℕ} {d′ : List ℕ} → row ≡ getD rows (e - 1) 0 → m ≡ next + length (encode (gapsOf before (slice i e rows)))
-      → d′ ≡ sets d next (encode (gapsOf before (slice i e rows))) → WritesRows j rows from to d₀ first d′ m row e
-  run-turn q f g =
+    {e : ℕ} (end : RunEnd i to e) where
+  pub run-turn : {row m : ℕ} {d′ : List ℕ} → row ≡ getD rows (e - 1) 0 → Wrote (encode (gapsOf before (slice i e rows))) d d′ next m
+      → WritesRows j rows from to d₀ first d′ m row e
+  run-turn q p =
       rw q (record {
-        rows-left = rows-cut (w .rows-left) e a b;
-        written = writes-numbers (gapsOf before (slice i e rows)) (w .written) (gaps-cut (w .rows-left) e a b) f g;
+        rows-left = rows-cut (w .rows-left) end;
+        written = writes-numbers (gapsOf before (slice i e rows)) _ (w .written) (gaps-cut (w .rows-left) end) p;
       })

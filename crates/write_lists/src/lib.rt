@@ -1,15 +1,13 @@
 // Writes the lists of columns into a lent slice, for keys and plans: of each its count and the gaps between its rows, as far as the slice
 // goes.
-ghost use mathlib.Core.Path.{_≡_};
-ghost use Prim.Native.Nat.{_+_, _-_, _^_, _≤_, _<_};
-ghost use lib.ListN.{length};
-ghost use lib.Seq.{slice, sets};
-ghost use Rattle.papers.specs.Bounds.{maxColumns};
+ghost use Prim.Native.Nat.{_^_, _<_};
+ghost use lib.Seq.{slice};
 ghost use Rattle.papers.specs.Numbers.{encode};
 ghost use Rattle.papers.specs.Job.{columnOf};
 ghost use Rattle.papers.specs.Key.{listNumbers, listsNumbers, listsOf};
-ghost use Rattle.papers.specs.Refusals.{passed, startsTest, rowsTest};
-ghost use Rattle.write_gaps.specs.ListAt.{ListAt};
+ghost use Rattle.list_laws.specs.Wrote.{Wrote};
+ghost use Rattle.write_gaps.specs.ListAt.{ListNear};
+ghost use Rattle.write_lists.specs.Lists.{RunEnd, ListsNear};
 
 // How many rows of a list are written in one go.
 const RUN: usize = 16;
@@ -17,7 +15,7 @@ const RUN: usize = 16;
 // The end of the run that begins at place i of a list that ends at `to`.
 fn run_end(i: usize, to: usize) -> usize
     requires { ⌜ i < to ⌝ }
-    ensures { λ r. ⌜ (i < r) × (r ≤ to) ⌝ }
+    ensures { λ r. ⌜ RunEnd i to r ⌝ }
 {
     if to - i < RUN {
         return to;
@@ -28,11 +26,8 @@ fn run_end(i: usize, to: usize) -> usize
 // Writes the list of column j, its count and its gaps, from `at` on, and answers the place behind it. In the loop the rows before i are
 // written up to next, and `before` is the last of them, or j.
 fn write_list(rows: &[u32], from: usize, to: usize, j: u32, bytes: &mut [u8], at: usize) -> usize
-    requires { ⌜ ListAt j (now rows) from to × (at < 2 ^ 61) ⌝ }
-    ensures place { λ r. ⌜ r ≡ at + length (encode (listNumbers j (slice from to (now (rows .entry))))) ⌝ }
-    ensures writes { λ r. ⌜
-        now (bytes .exit) ≡ sets (now (bytes .entry)) at (encode (listNumbers j (slice from to (now (rows .entry)))))
-        ⌝ }
+    requires { ⌜ ListNear (now rows) from to j at (2 ^ 61) ⌝ }
+    ensures { λ r. ⌜ Wrote (encode (listNumbers j (slice from to (now (rows .entry))))) (now (bytes .entry)) (now (bytes .exit)) at r ⌝ }
 {
     let mut next = write_number::put(bytes, at, (to - from) as u64);
     let mut before = j;
@@ -49,14 +44,10 @@ fn write_list(rows: &[u32], from: usize, to: usize, j: u32, bytes: &mut [u8], at
 // Writes the lists of the columns 1 to n from `at` on, and answers the place behind them. In the loop those of the first `done` columns are
 // written up to next.
 pub fn write_lists(n: u64, starts: &[u64], rows: &[u32], bytes: &mut [u8], at: usize) -> usize
-    requires few { ⌜ n ≤ maxColumns ⌝ }
-    requires starts_pass { ⌜ startsTest n (now starts) (now rows) ≡ passed ⌝ }
-    requires rows_pass { ⌜ rowsTest n (now starts) (now rows) ≡ passed ⌝ }
-    requires near { ⌜ at < 2 ^ 60 ⌝ }
-    ensures place { λ r. ⌜ r ≡ at + length (encode (listsNumbers 1 (listsOf n (columnOf (now (starts .entry)) (now (rows .entry)))))) ⌝ }
-    ensures writes { λ r. ⌜
-        now (bytes .exit)
-        ≡ sets (now (bytes .entry)) at (encode (listsNumbers 1 (listsOf n (columnOf (now (starts .entry)) (now (rows .entry))))))
+    requires { ⌜ ListsNear n (now starts) (now rows) at ⌝ }
+    ensures { λ r. ⌜
+        Wrote (encode (listsNumbers 1 (listsOf n (columnOf (now (starts .entry)) (now (rows .entry))))))
+        (now (bytes .entry)) (now (bytes .exit)) at r
         ⌝ }
 {
     let mut next = at;

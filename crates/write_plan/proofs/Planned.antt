@@ -2,20 +2,22 @@
 -- left of the whole is the parts that follow; and they are so few that every place among them is near.
 -- Assumes nothing.
 use Prim.Native.Nat.{ℕ, _+_, _*_, _^_, _<_, _≤_}
-use mathlib.Core.Path.{_≡_, refl, ap, _∙_}
+use mathlib.Core.Path.{refl, sym}
 use mathlib.Core.List.{List, [], _∷_, _++_}
 use native.Mathlib.Omega.{arith}
 use lib.ListN.{length, length-append}
-use lib.Seq.{sets}
 use Rattle.papers.specs.Bounds.{maxColumns}
 use Rattle.papers.specs.Numbers.{bytesOf, encode}
 use Rattle.papers.specs.Job.{Job, columnOf}
 use Rattle.papers.specs.Key.{listsNumbers, listsOf, keyNumbers, keyOf}
 use Rattle.papers.specs.Plan.{planNumbers, planBytes}
+use Rattle.list_laws.specs.Wrote.{Wrote}
+use Rattle.list_laws.proofs.Writing.{wrote-as, Writes, writes-all, writes-none}
 use Rattle.bytes_laws.proofs.Numbers.{encode-append}
-use Rattle.bytes_laws.proofs.Writing.{writes-near, Writes, writes-all, writes-number, writes-numbers, writes-none}
+use Rattle.bytes_laws.proofs.Writing.{encode-none, writes-number, writes-numbers, writes-near}
 use Rattle.job_laws.proofs.Passed.{Passed, passes-iff, lists-iff}
 use Rattle.write_lists.proofs.Columns.{lists-few}
+use Rattle.key.proofs.Written.{numbers-few}
 use Rattle.write_plan.specs.Lists.{planIn, Writable}
 use Rattle.write_plan.proofs.Steps.{numbersOf, steps-few}
 
@@ -37,55 +39,52 @@ module _ {job : Job} {order pops starts rows : List ℕ} {peak : ℕ} (w : Writa
   few = valid .few
 
   whole-few : length (wholeNumbers job order pops starts rows peak) ≤ 2 * ((maxColumns + 1) * maxColumns) + 2 * maxColumns + 5
-  unfolding keyNumbers planNumbers
+  unfolding planNumbers
   whole-few =
       let steps = numbersOf order pops in
       let lists = listsBetween (job .n) starts rows in
       let last = peak ∷ [] in
-      let h = few in
-      let a = w .all-steps in
       omega (
         arith,
+        few,
+        w .all-steps,
         length-append (keyNumbers job) (steps ++ (lists ++ last)),
         length-append steps (lists ++ last),
         length-append lists last,
-        lists-few few (valid .lists),
+        numbers-few job valid,
         lists-few few (lists-iff (job .n) starts rows .0 (w .starts-pass, w .rows-pass)),
         steps-few order pops,
       )
 
   -- every place among the bytes of the plan
-  pub place-near : {d₀ left d : List ℕ} {k : ℕ} → Writes (wholeNumbers job order pops starts rows peak) d₀ 0 left d k → k < 2 ^ 59
-  place-near s = omega (arith, writes-near s, whole-few)
+  pub place-near : {d₀ left d : List ℕ} {k : ℕ} → Writes (encode (wholeNumbers job order pops starts rows peak)) d₀ 0 left d k → k < 2 ^ 59
+  place-near s = omega (arith, writes-near (wholeNumbers job order pops starts rows peak) s, whole-few)
 
 -- ---- put one behind the other
 
--- what is put into d at k comes to d′ and k′
-abbrev Put : List ℕ → List ℕ → ℕ → List ℕ → ℕ → Type 0
-Put bytes d k d′ k′ = (k′ ≡ k + length bytes) × (d′ ≡ sets d k bytes)
+module _ (job : Job) (order pops starts rows : List ℕ) (peak : ℕ) (d₀ : List ℕ) where
+  -- of the plan these numbers are left, from place k of d on
+  abbrev pub Left : List ℕ → List ℕ → ℕ → Type 0
+  Left xs d k = Writes (encode (wholeNumbers job order pops starts rows peak)) d₀ 0 (encode xs) d k
 
--- what is left of the plan behind each part
-module _ (job : Job) (order pops starts rows : List ℕ) (peak : ℕ) (d₀ : List ℕ) {d₁ : List ℕ} {k₁ : ℕ}
-    (p₁ : (k₁ ≡ length (keyOf job)) × (d₁ ≡ sets d₀ 0 (keyOf job))) where
-  pub behind-key : Writes (wholeNumbers job order pops starts rows peak) d₀ 0
-      (numbersOf order pops ++ (listsBetween (job .n) starts rows ++ (peak ∷ []))) d₁ k₁
-  unfolding keyOf planNumbers
-  behind-key = writes-numbers (keyNumbers job) writes-all refl (omega (arith, p₁ .0)) (p₁ .1)
+  -- what is left of the plan behind each part
+  module _ {d₁ : List ℕ} {k₁ : ℕ} (p₁ : Wrote (keyOf job) d₀ d₁ 0 k₁) where
+    pub behind-key : Left (numbersOf order pops ++ (listsBetween (job .n) starts rows ++ (peak ∷ []))) d₁ k₁
+    unfolding keyOf planNumbers
+    behind-key = writes-numbers (keyNumbers job) _ writes-all refl p₁
 
-  module _ {d₂ : List ℕ} {k₂ : ℕ} (p₂ : Put (encode (numbersOf order pops)) d₁ k₁ d₂ k₂) where
-    pub behind-steps : Writes (wholeNumbers job order pops starts rows peak) d₀ 0 (listsBetween (job .n) starts rows ++ (peak ∷ [])) d₂ k₂
-    behind-steps = writes-numbers (numbersOf order pops) behind-key refl (p₂ .0) (p₂ .1)
+    module _ {d₂ : List ℕ} {k₂ : ℕ} (p₂ : Wrote (encode (numbersOf order pops)) d₁ d₂ k₁ k₂) where
+      pub behind-steps : Left (listsBetween (job .n) starts rows ++ (peak ∷ [])) d₂ k₂
+      behind-steps = writes-numbers (numbersOf order pops) _ behind-key refl p₂
 
-    module _ {d₃ : List ℕ} {k₃ : ℕ} (p₃ : Put (encode (listsBetween (job .n) starts rows)) d₂ k₂ d₃ k₃) where
-      pub behind-lists : Writes (wholeNumbers job order pops starts rows peak) d₀ 0 (peak ∷ []) d₃ k₃
-      behind-lists = writes-numbers (listsBetween (job .n) starts rows) behind-steps refl (p₃ .0) (p₃ .1)
+      module _ {d₃ : List ℕ} {k₃ : ℕ} (p₃ : Wrote (encode (listsBetween (job .n) starts rows)) d₂ d₃ k₂ k₃) where
+        pub behind-lists : Left (peak ∷ []) d₃ k₃
+        behind-lists = writes-numbers (listsBetween (job .n) starts rows) _ behind-steps refl p₃
 
-      -- behind the peak nothing is left
-      pub plan-put : {d₄ : List ℕ} {k₄ : ℕ} → Put (bytesOf peak) d₃ k₃ d₄ k₄
-          → (k₄ ≡ length (planBytes job (planIn (job .n) order pops starts rows peak))) ×
-          (d₄ ≡ sets d₀ 0 (planBytes job (planIn (job .n) order pops starts rows peak)))
-      unfolding planBytes keyOf
-      plan-put p₄ =
-          let (e, f) = writes-none (writes-number behind-lists refl (p₄ .0) (p₄ .1)) refl in
-          let parts = encode-append (keyNumbers job) (planNumbers (planIn (job .n) order pops starts rows peak)) in
-          (omega (arith, ap length parts), f ∙ ap (sets d₀ 0) parts)
+        -- behind the peak nothing is left
+        pub plan-put : {d₄ : List ℕ} {k₄ : ℕ} → Wrote (bytesOf peak) d₃ d₄ k₃ k₄
+            → Wrote (planBytes job (planIn (job .n) order pops starts rows peak)) d₀ d₄ 0 k₄
+        unfolding planBytes keyOf
+        plan-put p₄ =
+            wrote-as (sym (encode-append (keyNumbers job) (planNumbers (planIn (job .n) order pops starts rows peak))))
+            (writes-none (writes-number behind-lists refl p₄) (encode-none refl))

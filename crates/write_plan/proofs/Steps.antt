@@ -6,11 +6,13 @@ use mathlib.Core.List.{List, [], _∷_}
 use native.Mathlib.Omega.{arith}
 use native.Mathlib.Numerals.{add-one}
 use lib.ListN.{length, getD, drop, drop-of-length-le}
-use lib.Seq.{drop-cons, sets}
+use lib.Seq.{drop-cons}
 use Rattle.papers.specs.Bounds.{maxColumns, maxGroups}
 use Rattle.papers.specs.Numbers.{bytesOf, encode}
 use Rattle.papers.specs.Plan.{columnsIn, popsIn, stepNumbers}
-use Rattle.bytes_laws.proofs.Writing.{writes-near, Writes, writes-number, writes-none}
+use Rattle.list_laws.specs.Wrote.{Wrote}
+use Rattle.list_laws.proofs.Writing.{Writes, writes-none}
+use Rattle.bytes_laws.proofs.Writing.{encode-none, writes-number, writes-near}
 use Rattle.write_plan.specs.Lists.{stepsIn}
 
 -- steps taken apart and put together again
@@ -47,29 +49,28 @@ module _ (order pops : List ℕ) (i : ℕ) (paired : length order ≤ length pop
 -- the first i steps are written
 pub record WritesSteps (order pops d₀ : List ℕ) (first : ℕ) (d : List ℕ) (next i : ℕ) : Type 0 where
   pub paired : length order ≤ length pops
-  pub written : Writes (numbersOf order pops) d₀ first (numbersFrom order pops i) d next
+  pub written : Writes (encode (numbersOf order pops)) d₀ first (encode (numbersFrom order pops i)) d next
   pub few : length order ≤ maxColumns
 
 module _ {order pops d₀ : List ℕ} {first : ℕ} {d : List ℕ} {next i : ℕ} (w : WritesSteps order pops d₀ first d next i) where
   -- no place is far behind the first
-  near : {left d′ : List ℕ} {k : ℕ} → Writes (numbersOf order pops) d₀ first left d′ k → k ≤ first + 2 * maxGroups * maxColumns
-  near s = let few = w .few in omega (arith, writes-near s, steps-few order pops)
+  near : {left d′ : List ℕ} {k : ℕ} → Writes (encode (numbersOf order pops)) d₀ first left d′ k → k ≤ first + 2 * maxGroups * maxColumns
+  near s = omega (arith, w .few, writes-near (numbersOf order pops) s, steps-few order pops)
 
   pub column-near : next ≤ first + 2 * maxGroups * maxColumns
   column-near = near (w .written)
 
   module _ (h : i < length order) where
-    module _ {m : ℕ} {d′ : List ℕ} (e : m ≡ next + length (bytesOf (getD order i 0))) (f : d′ ≡ sets d next (bytesOf (getD order i 0))) where
+    module _ {m : ℕ} {d′ : List ℕ} (column : Wrote (bytesOf (getD order i 0)) d d′ next m) where
       -- the column is written, its pops are left
-      behind-column : Writes (numbersOf order pops) d₀ first (getD pops i 0 ∷ numbersFrom order pops (i + 1)) d′ m
-      behind-column = writes-number (w .written) (step-next order pops i (w .paired) h) e f
+      behind-column : Writes (encode (numbersOf order pops)) d₀ first (encode (getD pops i 0 ∷ numbersFrom order pops (i + 1))) d′ m
+      behind-column = writes-number (w .written) (step-next order pops i (w .paired) h) column
 
       pub pops-near : m ≤ first + 2 * maxGroups * maxColumns
       pops-near = near behind-column
 
-      pub write-turn : {m″ : ℕ} {d″ : List ℕ} → m″ ≡ m + length (bytesOf (getD pops i 0)) → d″ ≡ sets d′ m (bytesOf (getD pops i 0))
-          → WritesSteps order pops d₀ first d″ m″ (i + 1)
-      write-turn g k = record { paired = w .paired; written = writes-number behind-column refl g k; few = w .few }
+      pub write-turn : {m″ : ℕ} {d″ : List ℕ} → Wrote (bytesOf (getD pops i 0)) d′ d″ m m″ → WritesSteps order pops d₀ first d″ m″ (i + 1)
+      write-turn popped = record { paired = w .paired; written = writes-number behind-column refl popped; few = w .few }
 
-  pub write-stop : length order ≤ i → (next ≡ first + length (encode (numbersOf order pops))) × (d ≡ sets d₀ first (encode (numbersOf order pops)))
-  write-stop h = writes-none (w .written) (steps-none order pops i (w .paired) h)
+  pub write-stop : length order ≤ i → Wrote (encode (numbersOf order pops)) d₀ d first next
+  write-stop h = writes-none (w .written) (encode-none (steps-none order pops i (w .paired) h))

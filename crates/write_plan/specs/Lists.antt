@@ -1,10 +1,10 @@
 -- The plan that lies in lists: what its writer is handed, and what it asks of it.
 -- Assumes nothing.
-use Prim.Native.Nat.{ℕ, _≤_}
+use Prim.Native.Nat.{ℕ, _^_, _<_, _≤_}
 use mathlib.Core.Path.{_≡_}
 use mathlib.Core.List.{List, [], _∷_}
 use lib.ListN.{length}
-use Rattle.papers.specs.Bounds.{maxPeak}
+use Rattle.papers.specs.Bounds.{maxColumns, maxPeak}
 use Rattle.papers.specs.Job.{Job, columnOf}
 use Rattle.papers.specs.Key.{listsOf}
 use Rattle.papers.specs.Plan.{Plan}
@@ -19,6 +19,12 @@ stepsIn (j ∷ order) (p ∷ pops) = (j, p) ∷ stepsIn order pops
 -- the plan of n columns with these steps, the lists between these starts, and this peak
 abbrev pub planIn : ℕ → List ℕ → List ℕ → List ℕ → List ℕ → ℕ → Plan
 planIn n order pops starts rows peak = record { steps = stepsIn order pops; lists = listsOf n (columnOf starts rows); peak = peak }
+
+-- the steps can be written from `at` on: each has its pops, and they are no more than there may be columns
+pub record StepsNear (order pops : List ℕ) (at : ℕ) : Type 0 where
+  pub paired : length order ≤ length pops
+  pub few : length order ≤ maxColumns
+  pub near : at < 2 ^ 59
 
 -- what can be written as a plan of a job: a step for each column, lists that pass 4 to 6, and a peak that a plan may declare
 pub record Writable (job : Job) (order pops starts rows : List ℕ) (peak : ℕ) : Type 0 where

@@ -1,26 +1,19 @@
 // Writes the bytes of a plan into a lent slice: its key, its steps, its lists and its peak.
-ghost use mathlib.Core.Path.{_≡_};
-ghost use Prim.Native.Nat.{_+_, _^_, _≤_, _<_};
-ghost use lib.ListN.{length};
-ghost use lib.Seq.{sets};
-ghost use Rattle.papers.specs.Bounds.{maxColumns};
 ghost use Rattle.papers.specs.Numbers.{encode};
 ghost use Rattle.papers.specs.Job.{jobOf};
 ghost use Rattle.papers.specs.Plan.{stepNumbers, planBytes};
 ghost use Rattle.papers.specs.Refusals.{EndsAs};
-ghost use Rattle.write_plan.specs.Lists.{stepsIn, planIn, Writable};
+ghost use Rattle.list_laws.specs.Wrote.{Wrote};
 ghost use Rattle.write_stored.specs.Stored.{stored};
+ghost use Rattle.write_plan.specs.Lists.{stepsIn, planIn, StepsNear, Writable};
 use papers::Answer;
 use papers::JobHead;
 
 // Writes the steps from `at` on, and answers the place behind them. In the loop the first `done` are written up to next.
 pub fn write_steps(order: &[u32], pops: &[u32], bytes: &mut [u8], at: usize) -> usize
-    requires paired { ⌜ length (now order) ≤ length (now pops) ⌝ }
-    requires few { ⌜ length (now order) ≤ maxColumns ⌝ }
-    requires near { ⌜ at < 2 ^ 59 ⌝ }
-    ensures place { λ r. ⌜ r ≡ at + length (encode (stepNumbers (stepsIn (now (order .entry)) (now (pops .entry))))) ⌝ }
-    ensures writes { λ r. ⌜
-        now (bytes .exit) ≡ sets (now (bytes .entry)) at (encode (stepNumbers (stepsIn (now (order .entry)) (now (pops .entry)))))
+    requires { ⌜ StepsNear (now order) (now pops) at ⌝ }
+    ensures { λ r. ⌜
+        Wrote (encode (stepNumbers (stepsIn (now (order .entry)) (now (pops .entry))))) (now (bytes .entry)) (now (bytes .exit)) at r
         ⌝ }
 {
     let mut next = at;
@@ -46,14 +39,10 @@ pub fn put_plan(
     bytes: &mut [u8],
 ) -> usize
     requires { ⌜ Writable (jobOf head (now starts) (now rows)) (now order) (now pops) (now fstarts) (now frows) peak ⌝ }
-    ensures place { λ r. ⌜
-        r ≡ length (planBytes (jobOf head (now (starts .entry)) (now (rows .entry)))
+    ensures { λ r. ⌜
+        Wrote (planBytes (jobOf head (now (starts .entry)) (now (rows .entry)))
         (planIn (head .n) (now (order .entry)) (now (pops .entry)) (now (fstarts .entry)) (now (frows .entry)) peak))
-        ⌝ }
-    ensures writes { λ r. ⌜
-        now (bytes .exit)
-        ≡ sets (now (bytes .entry)) 0 (planBytes (jobOf head (now (starts .entry)) (now (rows .entry)))
-        (planIn (head .n) (now (order .entry)) (now (pops .entry)) (now (fstarts .entry)) (now (frows .entry)) peak))
+        (now (bytes .entry)) (now (bytes .exit)) 0 r
         ⌝ }
 {
     let key = key::put_key(head, starts, rows, bytes);

@@ -5,10 +5,11 @@ use mathlib.Core.Path.{_≡_, sym, ap, _∙_}
 use mathlib.Core.List.{List, _++_}
 use native.Mathlib.Omega.{arith}
 use lib.ListN.{length, take, drop}
-use lib.Seq.{sets, length-sets}
 use Rattle.papers.specs.declared.Answer.{Answer}
 use Rattle.papers.specs.Lists.{zeros, thenZeros}
 use Rattle.papers.specs.Refusals.{answer, zeroed, Outcome, bytesTest}
+use Rattle.list_laws.specs.Wrote.{Wrote}
+use Rattle.list_laws.proofs.Writing.{wrote-long}
 use Rattle.job_laws.proofs.Firsts.{first-last, over-refuses, over-passes-iff}
 use Rattle.job_laws.proofs.Outcomes.{outcome-zeroed, outcome-done}
 use Rattle.slices.specs.From.{zerosFrom}
@@ -31,14 +32,17 @@ module _ (written bytes : List ℕ) where
 
 -- ---- bytes written from the front on: the slice has their first places, and `needed` is how many they are
 
-module _ (written before : List ℕ) {entry : List ℕ} {needed : ℕ} (n : needed ≡ length written) (e : entry ≡ sets before 0 written) where
+module _ (written before : List ℕ) {entry : List ℕ} {needed : ℕ} (w : Wrote written before entry 0 needed) where
+  counted : needed ≡ length written
+  counted = omega (arith, w .place)
+
   same-places : length entry ≡ length before
-  same-places = rw e (length-sets before 0 written)
+  same-places = wrote-long w
 
   -- they do not all have a place
   pub finished-short : length entry < needed → {r : Answer} {after : List ℕ} → r ≡ answer 10 0 needed → after ≡ zeros entry
       → _≡_ {A = Outcome (List ℕ)} (record { answer = r; lent = after }) (stored written before)
-  finished-short h a z = rw (a, z, same-places, n) (sym (short-is written before (omega (arith, same-places))))
+  finished-short h a z = rw (a, z, same-places, counted) (sym (short-is written before (omega (arith, same-places, counted))))
 
   module _ (h : needed ≤ length entry) where
     -- the places behind them are cleared
@@ -46,5 +50,6 @@ module _ (written before : List ℕ) {entry : List ℕ} {needed : ℕ} (n : need
         → _≡_ {A = Outcome (List ℕ)} (record { answer = r; lent = take needed entry ++ (rest ++ drop (length entry - needed) (drop needed entry)) })
         (stored written before)
     finished-whole a z =
-        let left = cleared-from needed entry h z ∙ ap (zerosFrom needed) e ∙ stored-from written before (sym n) (omega (arith, same-places)) in
-        rw (left, a, n) (sym (whole-is written before (omega (arith, same-places))))
+        let fits : needed ≤ length before = omega (arith, same-places) in
+        let left = cleared-from needed entry h z ∙ ap (zerosFrom needed) (w .writes) ∙ stored-from written before (sym counted) fits in
+        rw (left, a, counted) (sym (whole-is written before (omega (arith, counted))))

@@ -1,19 +1,16 @@
 // Ends a writing: decides between 10 and done for bytes that were written from the front of a slice as far as it goes, and clears the rest
 // or all of the slice.
-ghost use mathlib.Core.Path.{_≡_};
 ghost use mathlib.Core.List.{List};
-ghost use Prim.Native.Nat.{ℕ, _<_, _≤_};
-ghost use lib.ListN.{length};
-ghost use lib.Seq.{sets};
-ghost use Rattle.papers.specs.Lists.{zeros};
+ghost use Prim.Native.Nat.{ℕ};
 ghost use Rattle.papers.specs.Refusals.{EndsAs};
-ghost use Rattle.write_stored.specs.Stored.{stored};
+ghost use Rattle.list_laws.specs.Wrote.{Wrote};
+ghost use Rattle.write_stored.specs.Stored.{stored, ClearedLate};
 use papers::Answer;
 
 // Answers 10 with the bytes needed, and clears the slice, if the bytes do not fit; else answers done, and clears what is behind them.
 pub fn finish(bytes: &mut [u8], needed: usize) -> Answer
     ensures { λ r. ⌜
-        ((written before : List ℕ) → needed ≡ length written → now (bytes .entry) ≡ sets before 0 written
+        ((written before : List ℕ) → Wrote written before (now (bytes .entry)) 0 needed
         → EndsAs r (now (bytes .exit)) (stored written before))
         ⌝ }
 {
@@ -27,8 +24,7 @@ pub fn finish(bytes: &mut [u8], needed: usize) -> Answer
 
 // Clears the bytes after a refusal with a number over 7; up to 7 they stay as they were.
 pub fn clear_late(number: u64, bytes: &mut [u8])
-    ensures early { λ _. ⌜ (number ≤ 7 → now (bytes .exit) ≡ now (bytes .entry)) ⌝ }
-    ensures late { λ _. ⌜ (7 < number → now (bytes .exit) ≡ zeros (now (bytes .entry))) ⌝ }
+    ensures { λ _. ⌜ ClearedLate number (now (bytes .entry)) (now (bytes .exit)) ⌝ }
 {
     if number <= 7 {
         return;

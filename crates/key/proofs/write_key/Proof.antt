@@ -9,35 +9,34 @@ use Rattle.key.proofs.Written.{key-refused, key-stored}
 use Rattle.key.proofs.write_key.Statement.{statement}
 use Rattle.key.proofs.write_key.Tie as tie
 
--- The places that the answers look back to: `start (search)` is the one behind the answer at hand.
-abbrev start : tie.Start → tie.Start
-start c = c
+-- The places that the answers look back to: `entry (search)` is the one behind the answer at hand.
+abbrev entry : tie.Start → tie.Start
+entry c = c
 
-abbrev after-first-fault : tie.After-first-fault → tie.After-first-fault
-after-first-fault c = c
+abbrev judged : tie.After-first-fault → tie.After-first-fault
+judged c = c
 
-abbrev else1 : tie.Else1 → tie.Else1
-else1 c = c
+abbrev passes : tie.Else1 → tie.Else1
+passes c = c
 
-abbrev after-put-key : tie.After-put-key → tie.After-put-key
-after-put-key c = c
+abbrev key-put : tie.After-put-key → tie.After-put-key
+key-put c = c
 
-abbrev after-finish : tie.After-finish → tie.After-finish
-after-finish c = c
+abbrev finished : tie.After-finish → tie.After-finish
+finished c = c
 
 returns : tie.Need-returns
-returns c = key-refused _ _ (after-first-fault (search) .first-fault .ensures) (c .if1 .taken) refl
+returns c = key-refused _ _ (judged (search) .first-fault .ensures) (c .if1 .taken) refl
 
 put-key-requires : tie.Need-put-key-requires
-put-key-requires c κs = job-answered _ (after-first-fault (search) .first-fault .ensures) (c .before .if1 .left)
+put-key-requires c κs = job-answered _ (judged (search) .first-fault .ensures) (c .before .if1 .left)
 
 returns-2 : tie.Need-returns-2
 returns-2 c =
-    let job = jobOf (start (search) .args .head) (start (search) .args .starts .now) (start (search) .args .rows .now) in
-    let passed = job-answered job (after-first-fault (search) .first-fault .ensures) (else1 (search) .if1 .left) in
-    let put = after-put-key (search) .put-key .ensures in
-    after-finish (search) .finish .ensures (keyOf job) (start (search) .args .bytes .now) (put .0) (put .1) ∙ sym
-    (key-stored job (start (search) .args .bytes .now) passed)
+    let job = jobOf (entry (search) .args .head) (entry (search) .args .starts .now) (entry (search) .args .rows .now) in
+    let passed = job-answered job (judged (search) .first-fault .ensures) (passes (search) .if1 .left) in
+    finished (search) .finish .ensures (keyOf job) (entry (search) .args .bytes .now) (key-put (search) .put-key .ensures) ∙ sym
+    (key-stored job (entry (search) .args .bytes .now) passed)
 
 pub write-key-spec : {M : Type 1} → statement M
 write-key-spec =

@@ -1,6 +1,7 @@
 -- A law for each way out: a slice too short for any listing, and what is printed in the cleared slice.
 -- Assumes nothing.
 use borrow.Author.Needs.{needs}
+use denote.Ref.{now}
 use Rattle.listing.proofs.Ways.{way-short, prints-fit, way-printed}
 use Rattle.listing.proofs.listing.Statement.{statement}
 use Rattle.listing.proofs.listing.Tie as tie
@@ -9,8 +10,8 @@ use Rattle.listing.proofs.listing.Tie as tie
 abbrev entry : tie.Start → tie.Start
 entry c = c
 
-abbrev else1 : tie.Else1 → tie.Else1
-else1 c = c
+abbrev long-enough : tie.Else1 → tie.Else1
+long-enough c = c
 
 abbrev cleared : tie.After-clear8 → tie.After-clear8
 cleared c = c
@@ -19,19 +20,15 @@ abbrev printed : tie.After-print-text → tie.After-print-text
 printed c = c
 
 returns : tie.Need-returns
-returns c =
-    way-short (record { text = entry (search) .args .text .now; more = entry (search) .args .more }) (entry (search) .args .bytes .now)
-    (c .if1 .taken)
+returns c = way-short _ _ (c .if1 .taken)
 
 print-text-requires : tie.Need-print-text-requires
 print-text-requires c κs =
-    prints-fit (record { text = entry (search) .args .text .now; more = entry (search) .args .more }) (entry (search) .args .bytes .now)
-    (else1 (search) .if1 .left) (cleared (search) .clear8 .ensures)
+    prints-fit _ (now (entry (search) .args .bytes)) (long-enough (search) .if1 .left) (cleared (search) .clear8 .ensures)
 
 returns-2 : tie.Need-returns-2
 returns-2 c =
-    way-printed (record { text = entry (search) .args .text .now; more = entry (search) .args .more }) (entry (search) .args .bytes .now)
-    (else1 (search) .if1 .left) (cleared (search) .clear8 .ensures) (printed (search) .print-text .ensures)
+    way-printed _ _ (long-enough (search) .if1 .left) (cleared (search) .clear8 .ensures) (printed (search) .print-text .ensures)
 
 pub listing-spec : {M : Type 1} → statement M
 listing-spec =

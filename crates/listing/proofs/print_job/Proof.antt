@@ -2,7 +2,6 @@
 -- Assumes nothing.
 use native.Mathlib.Omega.{arith}
 use borrow.Author.Needs.{needs}
-use Rattle.papers.specs.Job.{jobOf}
 use Rattle.listing.proofs.Told.{fits-in, printed-in}
 use Rattle.listing.proofs.print_job.Statement.{statement}
 use Rattle.listing.proofs.print_job.Tie as tie
@@ -15,16 +14,10 @@ abbrev printed : tie.After-print-analysis → tie.After-print-analysis
 printed c = c
 
 print-analysis-requires : tie.Need-print-analysis-requires
-print-analysis-requires c κs = (
-  omega (arith, entry (search) .pre .0),
-  fits-in (jobOf (entry (search) .args .head) (entry (search) .args .starts .now) (entry (search) .args .rows .now))
-      (entry (search) .args .bytes .now) (entry (search) .pre .1),
-)
+print-analysis-requires c κs = record { wide = omega (arith, entry (search) .pre .columns); fits = fits-in _ (entry (search) .pre .fits) }
 
 returns : tie.Need-returns
-returns c =
-    printed-in (jobOf (entry (search) .args .head) (entry (search) .args .starts .now) (entry (search) .args .rows .now))
-    (entry (search) .args .bytes .now) (printed (search) .print-analysis .ensures)
+returns c = printed-in _ (printed (search) .print-analysis .ensures)
 
 pub print-job-spec : {M : Type 1} → statement M
 print-job-spec =

@@ -1,8 +1,11 @@
 -- One digit, or the last digit behind those of the tenth, which is smaller: the measure is the number itself.
 -- Assumes nothing.
-use Prim.Native.Nat.{ℕ, _<_}
+use Prim.Native.Nat.{ℕ, _+_, _/_, _<_, _≤_}
 use native.Mathlib.Omega.{arith}
+use lib.ListN.{length}
 use borrow.Author.Needs.{needs}
+use denote.Ref.{now}
+use Rattle.papers.specs.Text.{decimalOf}
 use Rattle.listing_lines.proofs.Digits.{one-fits, one-written, last-fits, last-written}
 use borrow.Fn.Kinds.{In}
 use borrow.Fn.PlainCycle.{Measures, is, falls, and}
@@ -29,44 +32,48 @@ module _ (t : ℕ) where
   abbrev entry : lts.Start calls here write-decimal.Post → lts.Start calls here write-decimal.Post
   entry c = c
 
-  abbrev else1 : lts.Else1 calls here write-decimal.Post → lts.Else1 calls here write-decimal.Post
-  else1 c = c
+  abbrev longer : lts.Else1 calls here write-decimal.Post → lts.Else1 calls here write-decimal.Post
+  longer c = c
 
   abbrev written : lts.After-write-decimal calls here write-decimal.Post → lts.After-write-decimal calls here write-decimal.Post
   written c = c
 
+  abbrev entry₁ : lts.Else1 calls here write-decimal.Post → lts.Start calls here write-decimal.Post
+  entry₁ c = search
+
+  -- what the contract asks, beside the measure
+  asked : (c : lts.Start calls here write-decimal.Post) → c .args .at + length (decimalOf (c .args .x)) ≤ length (now (c .args .bytes))
+  asked c = c .pre .1
+
+  -- the last digit has a place behind the others
+  last-place : (c : lts.Else1 calls here write-decimal.Post)
+      → entry₁ c .args .at + length (decimalOf (entry₁ c .args .x / 10)) < length (now (entry₁ c .args .bytes))
+  last-place c = let e = entry₁ c .args in last-fits (e .x) (e .at) (now (e .bytes)) (c .if1 .left) (asked (entry₁ c))
+
   slice-write-bytes : lts.Need-slice-write-bytes calls here write-decimal.Post
   slice-write-bytes c =
-      let e = entry (search) in one-fits (e .args .x) (e .args .at) (e .args .bytes .now) (c .if1 .taken) (e .pre .1)
+      one-fits (entry (search) .args .x) (entry (search) .args .at) (now (entry (search) .args .bytes)) (c .if1 .taken) (asked (search))
 
   returns : lts.Need-returns calls here write-decimal.Post
-  returns c = let e = entry (search) in one-written (e .args .x) (e .args .at) (e .args .bytes .now) (c .if1 .taken)
+  returns c = one-written (entry (search) .args .x) (entry (search) .args .at) (now (entry (search) .args .bytes)) (c .if1 .taken)
 
   write-decimal-requires : lts.Need-write-decimal-requires calls here write-decimal.Post
   write-decimal-requires c κs =
-      let e = entry (search) in
-      let l = else1 (search) .if1 .left in (
-        omega (arith, e .pre .0),
-        omega (arith, last-fits (e .args .x) (e .args .at) (e .args .bytes .now) l (e .pre .1)),
-      )
+      (omega (arith, entry (search) .pre, longer (search) .if1 .left), omega (arith, last-place (search)))
 
   slice-write-bytes-2 : lts.Need-slice-write-bytes-2 calls here write-decimal.Post
   slice-write-bytes-2 c =
-      let e = entry (search) in
-      let h = last-fits (e .args .x) (e .args .at) (e .args .bytes .now) (else1 (search) .if1 .left) (e .pre .1) in
-      omega (arith, written (search) .write-decimal .ensures .0, written (search) .write-decimal .kept)
+      omega (arith, last-place (search), written (search) .write-decimal .ensures .place, written (search) .write-decimal .kept)
 
   add-result-2 : lts.Need-add-result-2 calls here write-decimal.Post
   add-result-2 c =
-      let e = entry (search) in
-      let h = last-fits (e .args .x) (e .args .at) (e .args .bytes .now) (else1 (search) .if1 .left) (e .pre .1) in
-      let p = written (search) .write-decimal .ensures .0 in search needs
+      let h = last-place (search) in
+      let p = written (search) .write-decimal .ensures .place in search needs
 
   returns-2 : lts.Need-returns-2 calls here write-decimal.Post
   returns-2 c =
-      let e = entry (search) in
-      last-written (e .args .x) (e .args .at) (e .args .bytes .now) (else1 (search) .if1 .left)
-      (written (search) .write-decimal .ensures .0) (written (search) .write-decimal .ensures .1)
+      last-written (entry (search) .args .x) (entry (search) .args .at) (now (entry (search) .args .bytes)) (longer (search) .if1 .left)
+      (written (search) .write-decimal .ensures)
 
   closed : {M : Type 1} → lts.Closed calls here write-decimal.Post M
   closed =

@@ -21,8 +21,7 @@ same-length : tie.Need-same-length
 same-length c = omega (arith, written (search) .write-decimal .kept, length-set (entry (search) .args .bytes .now) (entry (search) .args .at) 32)
 
 returns : tie.Need-returns
-returns c =
-    spaced-number (entry (search) .args .x) (entry (search) .args .bytes .now) (entry (search) .args .at) (written (search) .write-decimal .ensures)
+returns c = spaced-number (entry (search) .args .x) (written (search) .write-decimal .ensures)
 
 pub write-number-spec : {M : Type 1} → statement M
 write-number-spec =

@@ -1,13 +1,12 @@
 -- The line of a refusal is the word `refused` and its three numbers.
 -- Assumes nothing.
 use Prim.Native.Nat.{ℕ, _≤_}
-use mathlib.Core.Path.{_≡_}
 use mathlib.Core.List.{List, [], _∷_}
 use lib.ListN.{length}
-use lib.Seq.{sets}
 use borrow.Author.Needs.{needs}
 use Rattle.papers.specs.declared.Answer.{Answer}
 use Rattle.papers.specs.Text.{printed, wordRefused, refusalLine}
+use Rattle.list_laws.specs.Wrote.{Wrote}
 use Rattle.listing_lines.proofs.write_refusal.Statement.{statement}
 use Rattle.listing_lines.proofs.write_refusal.Tie as tie
 
@@ -16,11 +15,10 @@ module _ (a : Answer) where
   unfolding refusalLine
   line-fits h = h
 
-  line-written : (d₀ : List ℕ) {d : List ℕ} {k : ℕ} → (k ≡ length (printed wordRefused (a .number ∷ a .place ∷ a .count ∷ []))) ×
-      (d ≡ sets d₀ 0 (printed wordRefused (a .number ∷ a .place ∷ a .count ∷ [])))
-      → (k ≡ length (refusalLine a)) × (d ≡ sets d₀ 0 (refusalLine a))
+  line-written : {d₀ d : List ℕ} {k : ℕ} → Wrote (printed wordRefused (a .number ∷ a .place ∷ a .count ∷ [])) d₀ d 0 k
+      → Wrote (refusalLine a) d₀ d 0 k
   unfolding refusalLine
-  line-written d₀ p = p
+  line-written p = p
 
 -- The places that the answers look back to: `entry (search)` is the one behind the answer at hand.
 abbrev entry : tie.Start → tie.Start
@@ -33,7 +31,7 @@ write-line-requires : tie.Need-write-line-requires
 write-line-requires c κs = line-fits (entry (search) .args .answer) (entry (search) .pre)
 
 returns : tie.Need-returns
-returns c = line-written (entry (search) .args .answer) (entry (search) .args .bytes .now) (written (search) .write-line .ensures)
+returns c = line-written (entry (search) .args .answer) (written (search) .write-line .ensures)
 
 pub write-refusal-spec : {M : Type 1} → statement M
 write-refusal-spec =

@@ -3,8 +3,8 @@
 use Prim.Native.Nat.{_-_}
 use lib.ListN.{length}
 use borrow.Author.Needs.{needs}
-use Rattle.listing_lines.proofs.Writing.{writes-all}
-use Rattle.listing_lines.proofs.Lines.{Listed, listed-room, listed-turn, listed-stop}
+use Rattle.list_laws.proofs.Writing.{writes-all}
+use Rattle.listing_lines.proofs.Lines.{Listed, listed-fits, listed-turn, listed-stop}
 use Rattle.listing_lines.proofs.write_rows.Statement.{statement}
 use Rattle.listing_lines.proofs.write_rows.Tie as tie
 
@@ -24,22 +24,22 @@ at-loop c = c
 abbrev in-loop : tie.In-loop Inv-loop μ-loop → tie.In-loop Inv-loop μ-loop
 in-loop c = c
 
-abbrev after-wide32 : tie.After-wide32 Inv-loop μ-loop → tie.After-wide32 Inv-loop μ-loop
-after-wide32 c = c
+abbrev widened : tie.After-wide32 Inv-loop μ-loop → tie.After-wide32 Inv-loop μ-loop
+widened c = c
 
-abbrev after-write-number : tie.After-write-number Inv-loop μ-loop → tie.After-write-number Inv-loop μ-loop
-after-write-number c = c
+abbrev written : tie.After-write-number Inv-loop μ-loop → tie.After-write-number Inv-loop μ-loop
+written c = c
 
 loop-holds : tie.Need-loop-holds Inv-loop μ-loop
-loop-holds c = record { written = writes-all _ _ _; room = entry (search) .pre }
+loop-holds c = record { written = writes-all; fits = entry (search) .pre }
 
 write-number-requires : tie.Need-write-number-requires Inv-loop μ-loop
-write-number-requires c κs = listed-room (at-loop (search) .loop .inv) (in-loop (search) .loop-test .taken) (c .before .wide32 .ensures .0)
+write-number-requires c κs = listed-fits (at-loop (search) .loop .inv) (in-loop (search) .loop-test .taken) (c .before .wide32 .ensures .0)
 
 loop-again : tie.Need-loop-again Inv-loop μ-loop
 loop-again c =
-    listed-turn (at-loop (search) .loop .inv) (in-loop (search) .loop-test .taken) (after-wide32 (search) .wide32 .ensures .0)
-    (after-write-number (search) .write-number .ensures .0) (after-write-number (search) .write-number .ensures .1)
+    listed-turn (at-loop (search) .loop .inv) (in-loop (search) .loop-test .taken) (widened (search) .wide32 .ensures .0)
+    (written (search) .write-number .ensures)
 
 same-length : tie.Need-same-length Inv-loop μ-loop
 same-length c = c .before .loop .inv .written .long

@@ -1,14 +1,15 @@
 -- The loop's invariant: storing the letters from i on at their place leaves what storing all of them leaves. The measure is how many are left.
 -- Assumes nothing.
 use Prim.Native.Nat.{_-_}
+use mathlib.Core.Path.{refl}
 use lib.ListN.{length}
 use borrow.Author.Needs.{needs}
-use Rattle.listing_lines.proofs.Lines.{Spelled, spelled-start, spelled-turn, spelled-stop}
+use Rattle.list_laws.proofs.Writing.{Copied, copied-none, copied-more, copied-all}
 use Rattle.listing_lines.proofs.write_word.Statement.{statement}
 use Rattle.listing_lines.proofs.write_word.Tie as tie
 
 abbrev Inv-loop : tie.InvT-loop
-Inv-loop word bytes₀ at i₀ bytes i = Spelled word bytes₀ at bytes i
+Inv-loop word bytes₀ at i₀ bytes i = Copied word bytes₀ at bytes i
 
 abbrev μ-loop : tie.MeasureT-loop
 μ-loop word bytes₀ at i₀ bytes i = length word - i
@@ -18,16 +19,16 @@ abbrev at-loop : tie.At-loop Inv-loop μ-loop → tie.At-loop Inv-loop μ-loop
 at-loop c = c
 
 loop-holds : tie.Need-loop-holds Inv-loop μ-loop
-loop-holds c = spelled-start _ _ _
+loop-holds c = copied-none _ _ _
 
 loop-again : tie.Need-loop-again Inv-loop μ-loop
-loop-again c = spelled-turn (at-loop (search) .loop .inv) (c .before .loop-test .taken)
+loop-again c = copied-more (at-loop (search) .loop .inv) (c .before .loop-test .taken) refl
 
 same-length : tie.Need-same-length Inv-loop μ-loop
 same-length c = c .before .loop .inv .written .long
 
 returns : tie.Need-returns Inv-loop μ-loop
-returns c = spelled-stop (c .before .loop .inv) (c .loop-test .left)
+returns c = copied-all (c .before .loop .inv) (c .loop-test .left)
 
 pub write-word-spec : {M : Type 1} → statement M
 write-word-spec =

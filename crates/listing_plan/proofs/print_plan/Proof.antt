@@ -1,11 +1,14 @@
 -- The header, then the steps behind it: together the listing.
 -- Assumes nothing.
-use mathlib.Core.List.{[], _∷_}
+use Prim.Native.Nat.{ℕ}
+use mathlib.Core.List.{List, [], _∷_}
+use native.Mathlib.Omega.{arith}
 use lib.ListN.{length}
 use borrow.Author.Needs.{needs}
+use denote.Ref.{now}
 use Rattle.papers.specs.Text.{wordPlan, printed}
+use Rattle.list_laws.proofs.Writing.{wrote-both, first-fits, second-fits}
 use Rattle.listing_steps.specs.Steps.{linesTo}
-use Rattle.listing_plan.proofs.Parts.{header-fits, lines-fit, both-written}
 use Rattle.listing_plan.proofs.print_plan.Statement.{statement}
 use Rattle.listing_plan.proofs.print_plan.Tie as tie
 
@@ -13,36 +16,34 @@ use Rattle.listing_plan.proofs.print_plan.Tie as tie
 abbrev entry : tie.Start → tie.Start
 entry c = c
 
-abbrev after-write-header : tie.After-write-header → tie.After-write-header
-after-write-header c = c
+abbrev header-written : tie.After-write-header → tie.After-write-header
+header-written c = c
 
-abbrev after-write-steps : tie.After-write-steps → tie.After-write-steps
-after-write-steps c = c
+abbrev steps-written : tie.After-write-steps → tie.After-write-steps
+steps-written c = c
+
+-- the two parts of the listing
+abbrev header : tie.Start → List ℕ
+header c = printed wordPlan (c .args .head .n ∷ c .args .head .mark ∷ c .args .peak ∷ [])
+
+abbrev lines : tie.Start → List ℕ
+lines c =
+    linesTo (now (c .args .order)) (now (c .args .pops)) (now (c .args .fstarts)) (now (c .args .frows)) (length (now (c .args .order)))
 
 write-header-requires : tie.Need-write-header-requires
-write-header-requires c κs =
-    header-fits (printed wordPlan (entry (search) .args .head .n ∷ entry (search) .args .head .mark ∷ entry (search) .args .peak ∷ []))
-    (linesTo (entry (search) .args .order .now) (entry (search) .args .pops .now) (entry (search) .args .fstarts .now)
-    (entry (search) .args .frows .now) (length (entry (search) .args .order .now))) (entry (search) .args .bytes .now) (entry (search) .pre .1 .1)
+write-header-requires c κs = first-fits (header (entry (search))) (lines (entry (search))) (entry (search) .pre .fits)
 
 write-steps-requires : tie.Need-write-steps-requires
-write-steps-requires c κs = (
-  entry (search) .pre .0,
-  (
-    entry (search) .pre .1 .0,
-    lines-fit (printed wordPlan (entry (search) .args .head .n ∷ entry (search) .args .head .mark ∷ entry (search) .args .peak ∷ []))
-        (linesTo (entry (search) .args .order .now) (entry (search) .args .pops .now) (entry (search) .args .fstarts .now)
-        (entry (search) .args .frows .now) (length (entry (search) .args .order .now))) (entry (search) .args .bytes .now)
-        (after-write-header (search) .write-header .ensures) (entry (search) .pre .1 .1),
-  ),
-)
+write-steps-requires c κs =
+    record {
+      printable = entry (search) .pre .printable;
+      wide = entry (search) .pre .wide;
+      fits = second-fits (header (entry (search))) (lines (entry (search))) (header-written (search) .write-header .ensures)
+          (omega (arith, entry (search) .pre .fits));
+    }
 
 returns : tie.Need-returns
-returns c =
-    both-written (printed wordPlan (entry (search) .args .head .n ∷ entry (search) .args .head .mark ∷ entry (search) .args .peak ∷ []))
-    (linesTo (entry (search) .args .order .now) (entry (search) .args .pops .now) (entry (search) .args .fstarts .now)
-    (entry (search) .args .frows .now) (length (entry (search) .args .order .now))) (entry (search) .args .bytes .now)
-    (after-write-header (search) .write-header .ensures) (after-write-steps (search) .write-steps .ensures)
+returns c = wrote-both (header-written (search) .write-header .ensures) (steps-written (search) .write-steps .ensures)
 
 pub print-plan-spec : {M : Type 1} → statement M
 print-plan-spec =

@@ -28,20 +28,20 @@ at-loop c = c
 abbrev in-loop : tie.In-loop Inv-loop μ-loop → tie.In-loop Inv-loop μ-loop
 in-loop c = c
 
-abbrev after-rows-of : tie.After-rows-of Inv-loop μ-loop → tie.After-rows-of Inv-loop μ-loop
-after-rows-of c = c
+abbrev counted : tie.After-rows-of Inv-loop μ-loop → tie.After-rows-of Inv-loop μ-loop
+counted c = c
 
-abbrev after-in-use : tie.After-in-use Inv-loop μ-loop → tie.After-in-use Inv-loop μ-loop
-after-in-use c = c
+abbrev used : tie.After-in-use Inv-loop μ-loop → tie.After-in-use Inv-loop μ-loop
+used c = c
 
-abbrev written : tie.After-write-column Inv-loop μ-loop → tie.After-write-column Inv-loop μ-loop
-written c = c
+abbrev line-written : tie.After-write-column Inv-loop μ-loop → tie.After-write-column Inv-loop μ-loop
+line-written c = c
 
 abbrev held : tie.After-hold Inv-loop μ-loop → tie.After-hold Inv-loop μ-loop
 held c = c
 
 loop-holds : tie.Need-loop-holds Inv-loop μ-loop
-loop-holds c = printing-start _ _ _ _ (entry (search) .args .below .now) _ _ (entry (search) .pre .1 .0)
+loop-holds c = printing-start _ _ _ _ (entry (search) .args .below .now) _ _ (entry (search) .pre .wide)
 
 cast-j : tie.Need-cast-j Inv-loop μ-loop
 cast-j c = omega (arith, c .shared-slice-known5 .given (at-loop (search) .loop .k))
@@ -50,32 +50,31 @@ cast-p : tie.Need-cast-p Inv-loop μ-loop
 cast-p c = omega (arith, c .shared-slice-known6 .given (at-loop (search) .loop .k))
 
 rows-of-requires : tie.Need-rows-of-requires Inv-loop μ-loop
-rows-of-requires c κs = entry (search) .pre .0 .stepped .column (at-loop (search) .loop .k) (in-loop (search) .loop-test .taken)
+rows-of-requires c κs = entry (search) .pre .printable .stepped .column (at-loop (search) .loop .k) (in-loop (search) .loop-test .taken)
 
 in-use-requires : tie.Need-in-use-requires Inv-loop μ-loop
 in-use-requires c κs =
-    stacked-over _ _ _ (at-loop (search) .loop .inv .stacked) (entry (search) .pre .0 .stepped) (in-loop (search) .loop-test .taken)
+    stacked-over _ _ _ (at-loop (search) .loop .inv .stacked) (entry (search) .pre .printable .stepped) (in-loop (search) .loop-test .taken)
     (c .before .rows-of .ensures)
 
 write-column-requires : tie.Need-write-column-requires Inv-loop μ-loop
-write-column-requires c κs = (
-  (
-    entry (search) .pre .0 .stepped .column (at-loop (search) .loop .k) (in-loop (search) .loop-test .taken),
-    entry (search) .pre .0 .inside (at-loop (search) .loop .k) (in-loop (search) .loop-test .taken),
-  ),
-  printing-fits _ _ _ _ (at-loop (search) .loop .inv) (entry (search) .pre .0) (in-loop (search) .loop-test .taken)
-      (after-rows-of (search) .rows-of .ensures) (c .before .in-use .ensures) (entry (search) .pre .1 .1),
-)
+write-column-requires c κs =
+    record {
+      column = entry (search) .pre .printable .stepped .column (at-loop (search) .loop .k) (in-loop (search) .loop-test .taken);
+      inside = entry (search) .pre .printable .inside (at-loop (search) .loop .k) (in-loop (search) .loop-test .taken);
+      fits = printing-fits _ _ _ _ (at-loop (search) .loop .inv) (entry (search) .pre .printable) (in-loop (search) .loop-test .taken)
+          (counted (search) .rows-of .ensures) (c .before .in-use .ensures) (entry (search) .pre .fits);
+    }
 
 hold-requires : tie.Need-hold-requires Inv-loop μ-loop
 hold-requires c κs =
-    stacked-over _ _ _ (at-loop (search) .loop .inv .stacked) (entry (search) .pre .0 .stepped) (in-loop (search) .loop-test .taken)
-    (after-rows-of (search) .rows-of .ensures)
+    stacked-over _ _ _ (at-loop (search) .loop .inv .stacked) (entry (search) .pre .printable .stepped) (in-loop (search) .loop-test .taken)
+    (counted (search) .rows-of .ensures)
 
 loop-again : tie.Need-loop-again Inv-loop μ-loop
 loop-again c =
-    printing-turn _ _ _ _ (at-loop (search) .loop .inv) (entry (search) .pre .0) (in-loop (search) .loop-test .taken)
-    (after-rows-of (search) .rows-of .ensures) (after-in-use (search) .in-use .ensures) (written (search) .write-column .ensures)
+    printing-turn _ _ _ _ (at-loop (search) .loop .inv) (entry (search) .pre .printable) (in-loop (search) .loop-test .taken)
+    (counted (search) .rows-of .ensures) (used (search) .in-use .ensures) (line-written (search) .write-column .ensures)
     (held (search) .hold .ensures)
 
 same-length : tie.Need-same-length Inv-loop μ-loop

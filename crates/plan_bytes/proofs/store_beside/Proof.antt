@@ -15,8 +15,8 @@ entry c = c
 abbrev stored : tie.After-store-plan → tie.After-store-plan
 stored c = c
 
-abbrev then1 : tie.Then1 → tie.Then1
-then1 c = c
+abbrev refused : tie.Then1 → tie.Then1
+refused c = c
 
 abbrev cleared : tie.After-clear-all → tie.After-clear-all
 cleared c = c
@@ -60,46 +60,10 @@ slice-aggregate-store-plan-4 c = sym (length-take-le _ _ (entry (search) .pre .r
 store-plan-requires : tie.Need-store-plan-requires
 store-plan-requires c κs = entry (search) .pre .writable
 
-same-length : tie.Need-same-length
-same-length c = cleared (search) .clear-all .kept .0
-
-same-length-2 : tie.Need-same-length-2
-same-length-2 c = omega (arith, cleared (search) .clear-all .kept)
-
-same-length-3 : tie.Need-same-length-3
-same-length-3 c = omega (arith, cleared (search) .clear-all .kept)
-
-same-length-4 : tie.Need-same-length-4
-same-length-4 c = omega (arith, cleared (search) .clear-all .kept)
-
-same-length-5 : tie.Need-same-length-5
-same-length-5 c = omega (arith, cleared (search) .clear-all .kept)
-
-same-length-6 : tie.Need-same-length-6
-same-length-6 c = omega (arith, cleared (search) .clear-all .kept)
-
-same-length-7 : tie.Need-same-length-7
-same-length-7 c = omega (arith, stored (search) .store-plan .kept)
-
 returns : tie.Need-returns
 returns c =
-    refused-beside _ _ (rw (entry₁ (search) .pre .planned) at (stored (search) .store-plan .ensures)) (then1 (search) .if1 .taken)
+    refused-beside _ _ (rw (entry₁ (search) .pre .planned) at (stored (search) .store-plan .ensures)) (refused (search) .if1 .taken)
     (cleared (search) .clear-all .ensures)
-
-same-length-8 : tie.Need-same-length-8
-same-length-8 c = refl
-
-same-length-9 : tie.Need-same-length-9
-same-length-9 c = refl
-
-same-length-10 : tie.Need-same-length-10
-same-length-10 c = refl
-
-same-length-11 : tie.Need-same-length-11
-same-length-11 c = refl
-
-same-length-12 : tie.Need-same-length-12
-same-length-12 c = omega (arith, stored (search) .store-plan .kept)
 
 returns-2 : tie.Need-returns-2
 returns-2 c = done-beside _ _ (rw (entry (search) .pre .planned) at (stored (search) .store-plan .ensures)) (c .if1 .left)
@@ -121,17 +85,17 @@ store-beside-spec =
     slice-aggregate-store-plan-4
     store-plan-requires
     (λ c κs. tt)
-    same-length
-    same-length-2
-    same-length-3
-    same-length-4
-    same-length-5
-    same-length-6
-    same-length-7
+    (λ c. omega (arith, cleared (search) .clear-all .kept))
+    (λ c. omega (arith, cleared (search) .clear-all .kept))
+    (λ c. omega (arith, cleared (search) .clear-all .kept))
+    (λ c. omega (arith, cleared (search) .clear-all .kept))
+    (λ c. omega (arith, cleared (search) .clear-all .kept))
+    (λ c. omega (arith, cleared (search) .clear-all .kept))
+    (λ c. omega (arith, stored (search) .store-plan .kept))
     returns
-    same-length-8
-    same-length-9
-    same-length-10
-    same-length-11
-    same-length-12
+    (λ c. refl)
+    (λ c. refl)
+    (λ c. refl)
+    (λ c. refl)
+    (λ c. omega (arith, stored (search) .store-plan .kept))
     returns-2)

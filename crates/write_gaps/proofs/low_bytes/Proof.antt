@@ -26,7 +26,7 @@ abbrev in-loop : tie.In-loop Inv-loop μ-loop → tie.In-loop Inv-loop μ-loop
 in-loop c = c
 
 loop-holds : tie.Need-loop-holds Inv-loop μ-loop
-loop-holds c = lows-start (entry (search) .pre .0) (entry (search) .pre .1)
+loop-holds c = lows-start (entry (search) .pre)
 
 sub-gap : tie.Need-sub-gap Inv-loop μ-loop
 sub-gap c = omega (arith, row-above (at-loop (search) .loop .inv .rows-left) (c .before .loop-test .taken) refl)

@@ -14,9 +14,9 @@ Inv-loop rows from to b bytes₀ at next₀ before₀ i₀ bytes next before i =
 abbrev μ-loop : tie.MeasureT-loop
 μ-loop rows from to b bytes₀ at next₀ before₀ i₀ bytes next before i = to - i
 
--- The places that the answers look back to: `start (search)` is the one behind the answer at hand.
-abbrev start : tie.Start Inv-loop μ-loop → tie.Start Inv-loop μ-loop
-start c = c
+-- The places that the answers look back to: `entry (search)` is the one behind the answer at hand.
+abbrev entry : tie.Start Inv-loop μ-loop → tie.Start Inv-loop μ-loop
+entry c = c
 
 abbrev at-loop : tie.At-loop Inv-loop μ-loop → tie.At-loop Inv-loop μ-loop
 at-loop c = c
@@ -24,11 +24,11 @@ at-loop c = c
 abbrev in-loop : tie.In-loop Inv-loop μ-loop → tie.In-loop Inv-loop μ-loop
 in-loop c = c
 
-abbrev after-put : tie.After-put Inv-loop μ-loop → tie.After-put Inv-loop μ-loop
-after-put c = c
+abbrev gap-put : tie.After-put Inv-loop μ-loop → tie.After-put Inv-loop μ-loop
+gap-put c = c
 
 loop-holds : tie.Need-loop-holds Inv-loop μ-loop
-loop-holds c = gaps-start (start (search) .pre .0)
+loop-holds c = gaps-start (entry (search) .pre .list)
 
 sub-put : tie.Need-sub-put Inv-loop μ-loop
 sub-put c = omega (arith, row-above (at-loop (search) .loop .inv .rows-left) (in-loop (search) .loop-test .taken) refl)
@@ -39,19 +39,14 @@ cast-put c = omega (arith, row-within (at-loop (search) .loop .inv .rows-left) (
 put-requires : tie.Need-put-requires Inv-loop μ-loop
 put-requires c κs =
     let loop = at-loop (search) .loop in
-    let entry = start (search) .pre in (
-      omega (arith, row-within (loop .inv .rows-left) (in-loop (search) .loop-test .taken) refl),
-      omega (
-        arith,
-        place-near (loop .inv) (entry .0),
-        entry .1,
-      ),
-    )
+    record {
+      fits = omega (arith, row-within (loop .inv .rows-left) (in-loop (search) .loop-test .taken) refl);
+      near = omega (arith, place-near (loop .inv) (entry (search) .pre .list), entry (search) .pre .near);
+    }
 
 loop-again : tie.Need-loop-again Inv-loop μ-loop
 loop-again c =
-    let put = after-put (search) .put in
-    write-turn (at-loop (search) .loop .inv) (in-loop (search) .loop-test .taken) refl (put .ensures .0) (put .ensures .1)
+    write-turn (at-loop (search) .loop .inv) (in-loop (search) .loop-test .taken) refl (gap-put (search) .put .ensures)
 
 returns : tie.Need-returns Inv-loop μ-loop
 returns c = gaps-stop (c .before .loop .inv) (c .loop-test .left)

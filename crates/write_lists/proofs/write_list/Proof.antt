@@ -18,55 +18,49 @@ Inv-loop rows from to j bytes₀ at next₀ before₀ i₀ bytes next before i =
 abbrev μ-loop : tie.MeasureT-loop
 μ-loop rows from to j bytes₀ at next₀ before₀ i₀ bytes next before i = to - i
 
--- The places that the answers look back to: `start (search)` is the one behind the answer at hand.
-abbrev start : tie.Start Inv-loop μ-loop → tie.Start Inv-loop μ-loop
-start c = c
+-- The places that the answers look back to: `entry (search)` is the one behind the answer at hand.
+abbrev entry : tie.Start Inv-loop μ-loop → tie.Start Inv-loop μ-loop
+entry c = c
 
-abbrev after-put : tie.After-put Inv-loop μ-loop → tie.After-put Inv-loop μ-loop
-after-put c = c
+abbrev counted : tie.After-put Inv-loop μ-loop → tie.After-put Inv-loop μ-loop
+counted c = c
 
 abbrev at-loop : tie.At-loop Inv-loop μ-loop → tie.At-loop Inv-loop μ-loop
 at-loop c = c
 
-abbrev after-run-end : tie.After-run-end Inv-loop μ-loop → tie.After-run-end Inv-loop μ-loop
-after-run-end c = c
+abbrev bounded : tie.After-run-end Inv-loop μ-loop → tie.After-run-end Inv-loop μ-loop
+bounded c = c
 
 abbrev written : tie.After-write-run Inv-loop μ-loop → tie.After-write-run Inv-loop μ-loop
 written c = c
 
 put-requires : tie.Need-put-requires Inv-loop μ-loop
 put-requires c κs =
-    let entry = start (search) .pre in
-    (let few = entry .0 .few in omega arith, omega (arith, entry .1))
+    record { fits = omega (arith, entry (search) .pre .list .few); near = omega (arith, entry (search) .pre .near) }
 
 loop-holds : tie.Need-loop-holds Inv-loop μ-loop
-loop-holds c = gaps-start (start (search) .pre .0)
+loop-holds c = gaps-start (entry (search) .pre .list)
 
 write-run-requires : tie.Need-write-run-requires Inv-loop μ-loop
 write-run-requires c κs =
     let loop = at-loop (search) .loop in
-    let end = c .before .run-end in
-    let put = after-put (search) .put in (
-      run-list (loop .inv .rows-left) _ (end .ensures .0) (end .ensures .1),
-      omega (
+    record {
+      list = run-list (loop .inv .rows-left) (c .before .run-end .ensures);
+      near = omega (
         arith,
-        place-near (loop .inv) (start (search) .pre .0),
-        put .ensures .0,
-        bytes-length (start (search) .args .to - start (search) .args .from),
-        start (search) .pre .1,
-      ),
-    )
+        place-near (loop .inv) (entry (search) .pre .list),
+        counted (search) .put .ensures .place,
+        bytes-length (entry (search) .args .to - entry (search) .args .from),
+        entry (search) .pre .near,
+      );
+    }
 
 loop-again : tie.Need-loop-again Inv-loop μ-loop
 loop-again c =
-    let end = after-run-end (search) .run-end in
-    let run = written (search) .write-run in
-    run-turn (at-loop (search) .loop .inv) (end .ensures .0) (end .ensures .1) refl (run .ensures .0) (run .ensures .1)
+    run-turn (at-loop (search) .loop .inv) (bounded (search) .run-end .ensures) refl (written (search) .write-run .ensures)
 
 returns : tie.Need-returns Inv-loop μ-loop
-returns c =
-    let put = after-put (search) .put in
-    list-stop _ _ (start (search) .pre .0) (put .ensures .0) (put .ensures .1) (c .before .loop .inv) (c .loop-test .left)
+returns c = list-stop (entry (search) .pre .list) (counted (search) .put .ensures) (c .before .loop .inv) (c .loop-test .left)
 
 pub write-list-spec : {M : Type 1} → statement M
 write-list-spec =

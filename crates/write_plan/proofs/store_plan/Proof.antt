@@ -8,16 +8,15 @@ use Rattle.write_plan.proofs.store_plan.Tie as tie
 abbrev entry : tie.Start → tie.Start
 entry c = c
 
-abbrev after-put-plan : tie.After-put-plan → tie.After-put-plan
-after-put-plan c = c
+abbrev plan-put : tie.After-put-plan → tie.After-put-plan
+plan-put c = c
 
-abbrev after-finish : tie.After-finish → tie.After-finish
-after-finish c = c
+abbrev finished : tie.After-finish → tie.After-finish
+finished c = c
 
 returns : tie.Need-returns
 returns c =
-    let put = after-put-plan (search) .put-plan .ensures in
-    after-finish (search) .finish .ensures _ (entry (search) .args .bytes .now) (put .0) (put .1)
+    finished (search) .finish .ensures _ (entry (search) .args .bytes .now) (plan-put (search) .put-plan .ensures)
 
 pub store-plan-spec : {M : Type 1} → statement M
 store-plan-spec = tie.close (tie.spec (λ c κs. search needs) (λ c κs. search needs) (λ c. search needs) returns)

@@ -4,7 +4,7 @@ use Prim.Native.Nat.{_-_}
 use native.Mathlib.Omega.{arith}
 use lib.ListN.{length}
 use borrow.Author.Needs.{needs}
-use Rattle.bytes_laws.proofs.Writing.{writes-all}
+use Rattle.list_laws.proofs.Writing.{writes-all}
 use Rattle.write_plan.proofs.Steps.{WritesSteps, column-near, pops-near, write-turn, write-stop}
 use Rattle.write_plan.proofs.write_steps.Statement.{statement}
 use Rattle.write_plan.proofs.write_steps.Tie as tie
@@ -25,14 +25,14 @@ at-loop c = c
 abbrev in-loop : tie.In-loop Inv-loop μ-loop → tie.In-loop Inv-loop μ-loop
 in-loop c = c
 
-abbrev after-put : tie.After-put Inv-loop μ-loop → tie.After-put Inv-loop μ-loop
-after-put c = c
+abbrev column-put : tie.After-put Inv-loop μ-loop → tie.After-put Inv-loop μ-loop
+column-put c = c
 
-abbrev after-put2 : tie.After-put2 Inv-loop μ-loop → tie.After-put2 Inv-loop μ-loop
-after-put2 c = c
+abbrev pops-put : tie.After-put2 Inv-loop μ-loop → tie.After-put2 Inv-loop μ-loop
+pops-put c = c
 
 loop-holds : tie.Need-loop-holds Inv-loop μ-loop
-loop-holds c = record { paired = entry (search) .pre .0; written = writes-all; few = entry (search) .pre .1 .0 }
+loop-holds c = record { paired = entry (search) .pre .paired; written = writes-all; few = entry (search) .pre .few }
 
 cast-put : tie.Need-cast-put Inv-loop μ-loop
 cast-put c = omega (arith, c .shared-slice-known3 .given (at-loop (search) .loop .done))
@@ -40,7 +40,10 @@ cast-put c = omega (arith, c .shared-slice-known3 .given (at-loop (search) .loop
 put-requires : tie.Need-put-requires Inv-loop μ-loop
 put-requires c κs =
     let loop = at-loop (search) .loop in
-    (omega (arith, c .shared-slice-known3 .given (loop .done)), omega (arith, column-near (loop .inv), entry (search) .pre .1 .1))
+    record {
+      fits = omega (arith, c .shared-slice-known3 .given (loop .done));
+      near = omega (arith, column-near (loop .inv), entry (search) .pre .near);
+    }
 
 cast-put-2 : tie.Need-cast-put-2 Inv-loop μ-loop
 cast-put-2 c = omega (arith, c .shared-slice-known4 .given (at-loop (search) .loop .done))
@@ -48,18 +51,19 @@ cast-put-2 c = omega (arith, c .shared-slice-known4 .given (at-loop (search) .lo
 put-requires-2 : tie.Need-put-requires-2 Inv-loop μ-loop
 put-requires-2 c κs =
     let loop = at-loop (search) .loop in
-    let column = after-put (search) .put in (
-      omega (arith, c .shared-slice-known4 .given (loop .done)),
-      omega (arith, pops-near (loop .inv) (in-loop (search) .loop-test .taken) (column .ensures .0) (column .ensures .1), entry (search) .pre .1 .1),
-    )
+    record {
+      fits = omega (arith, c .shared-slice-known4 .given (loop .done));
+      near = omega (
+        arith,
+        pops-near (loop .inv) (in-loop (search) .loop-test .taken) (column-put (search) .put .ensures),
+        entry (search) .pre .near,
+      );
+    }
 
 loop-again : tie.Need-loop-again Inv-loop μ-loop
 loop-again c =
-    let column = after-put (search) .put in
-    let taken = after-put2 (search) .put2 in
-    let there = in-loop (search) .loop-test .taken in
-    let inv = at-loop (search) .loop .inv in
-    write-turn inv there (column .ensures .0) (column .ensures .1) (taken .ensures .0) (taken .ensures .1)
+    write-turn (at-loop (search) .loop .inv) (in-loop (search) .loop-test .taken) (column-put (search) .put .ensures)
+    (pops-put (search) .put2 .ensures)
 
 returns : tie.Need-returns Inv-loop μ-loop
 returns c = write-stop (c .before .loop .inv) (c .loop-test .left)

@@ -5,26 +5,26 @@ use Rattle.write_stored.proofs.Stores.{finished-short, finished-whole}
 use Rattle.write_stored.proofs.finish.Statement.{statement}
 use Rattle.write_stored.proofs.finish.Tie as tie
 
--- The places that the answers look back to: `else1 (search)` is the one behind the answer at hand.
-abbrev else1 : tie.Else1 → tie.Else1
-else1 c = c
+-- The places that the answers look back to: `whole (search)` is the one behind the answer at hand.
+abbrev whole : tie.Else1 → tie.Else1
+whole c = c
 
-abbrev then1 : tie.Then1 → tie.Then1
-then1 c = c
+abbrev short : tie.Then1 → tie.Then1
+short c = c
 
-abbrev after-clear8 : tie.After-clear8 → tie.After-clear8
-after-clear8 c = c
+abbrev cleared : tie.After-clear8 → tie.After-clear8
+cleared c = c
 
-abbrev after-clear82 : tie.After-clear82 → tie.After-clear82
-after-clear82 c = c
+abbrev rest-cleared : tie.After-clear82 → tie.After-clear82
+rest-cleared c = c
 
 returns : tie.Need-returns
-returns c written before n e =
-    finished-short written before n e (then1 (search) .if1 .taken) (c .answered .ensures) (after-clear8 (search) .clear8 .ensures)
+returns c written before w =
+    finished-short written before w (short (search) .if1 .taken) (c .answered .ensures) (cleared (search) .clear8 .ensures)
 
 returns-2 : tie.Need-returns-2
-returns-2 c written before n e =
-    finished-whole written before n e (else1 (search) .if1 .left) (c .answered2 .ensures) (after-clear82 (search) .clear82 .ensures)
+returns-2 c written before w =
+    finished-whole written before w (whole (search) .if1 .left) (c .answered2 .ensures) (rest-cleared (search) .clear82 .ensures)
 
 pub finish-spec : {M : Type 1} → statement M
 finish-spec =

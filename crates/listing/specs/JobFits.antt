@@ -1,0 +1,14 @@
+-- What the writer of a job's listing asks.
+-- Assumes nothing.
+use Prim.Native.Nat.{ℕ, _≤_}
+use mathlib.Core.List.{List}
+use lib.ListN.{length}
+use Rattle.papers.specs.Bounds.{programColumns}
+use Rattle.papers.specs.Job.{Job}
+use Rattle.papers.specs.Text.{buffers}
+use Rattle.listing_plan.specs.PlanLines.{printedFrom}
+
+-- the program has columns enough for the job, and what is printed of it fits
+pub record JobFits (job : Job) (bytes : List ℕ) : Type 0 where
+  pub columns : job .n ≤ programColumns
+  pub fits : length (printedFrom job buffers) ≤ length bytes
