@@ -3,10 +3,13 @@ pub mod Ascending
 pub mod Merges
 pub mod Members
 pub mod Keeps
+pub mod Every
 pub mod Counts
 pub mod UpTo
 pub mod Stores
 pub mod Writing
+pub mod Parts
+pub mod Slices
 pub mod Sorts
 pub mod SortOrder
 pub mod Leasts

@@ -3,7 +3,7 @@ ghost use mathlib.Core.Path.{_≡_};
 ghost use Prim.Native.Nat.{_≤_};
 ghost use Rattle.papers.specs.Bounds.{maxColumns};
 ghost use Rattle.papers.specs.Order.{siblingKey};
-ghost use Rattle.tree.specs.Laid.{part};
+ghost use Rattle.list_laws.specs.Parts.{part};
 ghost use Rattle.sibling_keys.specs.Kids.{keyAt, needAt, Kids, Keyable, Keyed};
 
 // The key of a child with these rows and this W, under a parent with `above` rows. Siblings go by descending key.

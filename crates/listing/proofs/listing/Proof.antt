@@ -20,7 +20,9 @@ abbrev printed : tie.After-print-text → tie.After-print-text
 printed c = c
 
 returns : tie.Need-returns
-returns c = way-short _ _ (c .if1 .taken)
+returns c =
+    way-short (record { text = entry (search) .args .text .now; more = entry (search) .args .more }) (entry (search) .args .bytes .now)
+    (c .before .if1 .taken) (c .answered .ensures)
 
 print-text-requires : tie.Need-print-text-requires
 print-text-requires c κs =
@@ -28,8 +30,9 @@ print-text-requires c κs =
 
 returns-2 : tie.Need-returns-2
 returns-2 c =
-    way-printed _ _ (long-enough (search) .if1 .left) (cleared (search) .clear8 .ensures) (printed (search) .print-text .ensures)
+    way-printed (record { text = entry (search) .args .text .now; more = entry (search) .args .more }) (entry (search) .args .bytes .now)
+    (long-enough (search) .if1 .left) (cleared (search) .clear8 .ensures) (printed (search) .print-text .ensures) (c .answered2 .ensures)
 
 pub listing-spec : {M : Type 1} → statement M
 listing-spec =
-    tie.close (tie.spec returns (λ c κs. search needs) print-text-requires (λ c. search needs) returns-2)
+    tie.close (tie.spec (λ c κs. search needs) returns (λ c κs. search needs) print-text-requires (λ c κs. search needs) (λ c. search needs) returns-2)

@@ -25,6 +25,9 @@ entry₁ c = search
 abbrev fault-found : tie.After-number → tie.After-number
 fault-found c = c
 
+abbrev refusal : tie.After-answered → tie.After-answered
+refusal c = c
+
 abbrev written : tie.After-write-refusal → tie.After-write-refusal
 written c = c
 
@@ -37,11 +40,15 @@ found c = record { starts = _; rows = _; head = _; count = _; job = told-job (re
 
 write-refusal-requires : tie.Need-write-refusal-requires
 write-refusal-requires c κs =
-    omega (arith, ap length (told-refusal _ (read (search) .read-job .ensures) (fault-found (search) .number .given .1)), entry (search) .pre)
+    omega (
+      arith,
+      ap length (told-refusal _ (read (search) .read-job .ensures) (fault-found (search) .number .given .1) (refusal (search) .answered .ensures)),
+      entry (search) .pre,
+    )
 
 returns : tie.Need-returns
 returns c =
-    wrote-as (told-refusal _ (read (search) .read-job .ensures) (fault-found (search) .number .given .1))
+    wrote-as (told-refusal _ (read (search) .read-job .ensures) (fault-found (search) .number .given .1) (refusal (search) .answered .ensures))
     (written (search) .write-refusal .ensures)
 
 add-starts : tie.Need-add-starts
@@ -77,6 +84,7 @@ print-text-spec =
     (λ c. search needs)
     (λ c κs. search needs)
     (λ c. search needs)
+    (λ c κs. search needs)
     write-refusal-requires
     (λ c. search needs)
     returns
