@@ -12,8 +12,7 @@ use Rattle.papers.specs.declared.JobHead.{JobHead}
 use Rattle.papers.specs.Bounds.{programColumns, programRows}
 use Rattle.papers.specs.Job.{Job, jobOf}
 use Rattle.papers.specs.Refusals.{answer, passed, first}
-use Rattle.papers.specs.Analysis.{analysed}
-use Rattle.papers.specs.Text.{Input, textJob, textTests, refusalLine, buffers, jobPrinted, programPrints}
+use Rattle.papers.specs.Text.{Input, textJob, textTests, refusalLine, buffers, programPrints}
 use Rattle.list_laws.specs.Wrote.{Wrote}
 use Rattle.list_laws.proofs.Stores.{front-stored}
 use Rattle.text_laws.proofs.Printed as printed
