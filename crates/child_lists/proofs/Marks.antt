@@ -12,7 +12,7 @@ use lib.Seq.{drop-cons, getD-set-same, getD-set-other, set-out}
 use borrow.Author.Tests.{eq-eqb, ne-eqb, eqb-true}
 use Rattle.papers.specs.Lists.{_∈_, every}
 use Rattle.list_laws.proofs.Tests.{Compare, below, level, above, compare, below-or, Test, passes, fails, test, true-false}
-use Rattle.column_laws.proofs.Places.{at-place}
+use Rattle.list_laws.proofs.Members.{at-place}
 use Rattle.child_lists.specs.Marks.{marked, isMarked, Markable, Sound, Changed}
 
 -- what a store leaves at place p

@@ -1,20 +1,14 @@
--- The number at a place of a list stands in it, and is 0 in a cleared one; two numbers are the same or not.
+-- The number at a place of a cleared list is 0; two numbers are the same or not.
 -- Assumes nothing.
-use Prim.Native.Nat.{ℕ, zero, suc, _<_}
+use Prim.Native.Nat.{ℕ, zero, suc}
 use mathlib.Core.Path.{_≡_, refl}
 use mathlib.Core.Logic.{_⊎_, inl, inr, _≢_}
-use mathlib.Core.List.{List, [], _∷_, List·Memᴰ·head, List·Memᴰ·tail}
-use native.Mathlib.Omega.{arith}
+use mathlib.Core.List.{List, [], _∷_}
 use lib.Dec.{eqb}
-use lib.ListN.{length, getD}
+use lib.ListN.{getD}
 use borrow.Author.Tests.{eqb-true, eqb-false}
-use Rattle.papers.specs.Lists.{_∈_, zeros}
+use Rattle.papers.specs.Lists.{zeros}
 use Rattle.list_laws.proofs.Tests.{Test, passes, fails, test}
-
-pub at-place : (l : List ℕ) (k : ℕ) → k < length l → getD l k 0 ∈ l
-at-place [] k h = absurd (omega arith)
-at-place (x ∷ l) zero h = List·Memᴰ·head refl
-at-place (x ∷ l) (suc k) h = List·Memᴰ·tail (at-place l k (omega arith))
 
 -- two numbers are the same, or not
 pub same-or : (x y : ℕ) → (x ≡ y) ⊎ (x ≢ y)
