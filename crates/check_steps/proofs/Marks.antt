@@ -15,7 +15,7 @@ use Rattle.papers.specs.Order.{columnAt}
 use Rattle.papers.specs.Check.{repeated}
 use Rattle.list_laws.proofs.Members.{member-into, member-out}
 use Rattle.list_laws.proofs.Leasts.{least-none, least-here}
-use Rattle.tree.proofs.Children.{equal-or}
+use Rattle.list_laws.proofs.Tests.{same-or}
 use Rattle.check_steps.specs.Steps.{Within}
 
 pub record Marks (order work₀ work : List ℕ) (i : ℕ) : Type 0 where
@@ -70,7 +70,7 @@ module _ (order : List ℕ) where
 
       turn : getD work (getD order i 0) 0 ≤ 0 → Marks order work₀ (set work (getD order i 0) 1) (i + 1)
       turn p = rw add-one (record {
-        marked = λ j l q. rw (take-suc order i 0 more) (one j l q (equal-or j (getD order i 0)));
+        marked = λ j l q. rw (take-suc order i 0 more) (one j l q (same-or j (getD order i 0)));
         unmarked = λ j l q m. other j l q (List·Memᴰ·append-cases (take i order) (rw (take-suc order i 0 more) at m));
         none = least-none (repeated order) i (inv .none) (new i (inv .unmarked (getD order i 0) (within i more .1) (omega arith)));
         seen = omega arith;
@@ -87,7 +87,7 @@ module _ (order : List ℕ) where
           one j l q (inr e) = Memᴰ·append-left _ (inv .marked j l (omega (arith, getD-set-other work (getD order i 0) j 1 0 e)))
 
           other : (j : ℕ) → j ≤ length order → getD (set work (getD order i 0) 1) j 0 ≡ 0 → (j ∈ take i order) ⊎ (j ∈ (getD order i 0 ∷ [])) → ⊥
-          other j l q m = go m (equal-or j (getD order i 0))
+          other j l q m = go m (same-or j (getD order i 0))
             where
               go : (j ∈ take i order) ⊎ (j ∈ (getD order i 0 ∷ [])) → (j ≡ getD order i 0) ⊎ (j ≢ getD order i 0) → ⊥
               go m (inl e) = let f : getD (set work (getD order i 0) 1) j 0 ≡ 1 = rw e (getD-set-same work (getD order i 0) 1 0 inside) in omega arith

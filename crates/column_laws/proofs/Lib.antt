@@ -1,4 +1,3 @@
-pub mod Places
 pub mod Slices
 pub mod Parts
 pub mod Chains

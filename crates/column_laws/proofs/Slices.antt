@@ -8,9 +8,8 @@ use native.Mathlib.Omega.{arith}
 use lib.ListN.{length, getD, take, length-take, drop-of-length-le}
 use lib.Seq.{slice, slice-cons}
 use Rattle.papers.specs.Lists.{_∈_, Asc}
-use Rattle.list_laws.proofs.Tests.{below-or}
+use Rattle.list_laws.proofs.Tests.{below-or, same-or}
 use Rattle.list_laws.proofs.Ascending.{asc-above}
-use Rattle.column_laws.proofs.Places.{same-or}
 
 -- i stands at a place from a on, before b
 pub record At (i a b : ℕ) (l : List ℕ) : Type 0 where

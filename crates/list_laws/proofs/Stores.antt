@@ -5,7 +5,7 @@ use Prim.Native.Nat.{ℕ, zero, suc, _+_, _-_, _<_, _≤_}
 use mathlib.Core.Path.{_≡_, refl, sym, ap, _∙_}
 use mathlib.Core.List.{List, [], _∷_, _++_, append-assoc, append-nil}
 use native.Mathlib.Omega.{arith}
-use lib.ListN.{length, set, take, drop, replicate, length-append, length-replicate}
+use lib.ListN.{length, getD, set, take, drop, replicate, length-append, length-replicate}
 use lib.Seq.{sets, sets-eq, set-set, set-comm, take-at}
 use Rattle.papers.specs.Lists.{zeros, thenZeros, flat, startsFrom}
 
@@ -22,6 +22,12 @@ drop-replicate : (i n v : ℕ) → drop i (replicate n v) ≡ replicate (n - i) 
 drop-replicate zero n v = let e : n - 0 ≡ n = omega arith in rw e
 drop-replicate (suc i) zero v = let e : 0 - suc i ≡ 0 = omega arith in rw e
 drop-replicate (suc i) (suc n) v = let e : suc n - suc i ≡ n - i = omega arith in rw e (drop-replicate i n v)
+
+-- each number of a cleared slice is 0
+pub zero-at : (l : List ℕ) (p : ℕ) → getD (zeros l) p 0 ≡ 0
+zero-at [] p = refl
+zero-at (x ∷ l) zero = refl
+zero-at (x ∷ l) (suc p) = zero-at l p
 
 -- a result stored at the front of a cleared slice: the result, then zeros
 pub sets-zeros : (xs l : List ℕ) → length xs ≤ length l → sets (zeros l) 0 xs ≡ thenZeros xs l

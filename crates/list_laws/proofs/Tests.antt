@@ -2,11 +2,11 @@
 -- Assumes nothing.
 use Prim.Native.Nat.{ℕ, zero, suc, _<_, _≤_}
 use mathlib.Core.Path.{_≡_, refl}
-use mathlib.Core.Logic.{_⊎_, inl, inr}
+use mathlib.Core.Logic.{_⊎_, inl, inr, _≢_}
 use mathlib.Core.Bool.{Bool, true, false, not, _&&_}
 use native.Mathlib.Omega.{arith}
-use lib.Dec.{ltb}
-use borrow.Author.Tests.{ltb-true, ltb-false}
+use lib.Dec.{ltb, eqb}
+use borrow.Author.Tests.{ltb-true, ltb-false, eqb-true, eqb-false}
 
 -- a test with its outcome: a clause on it keeps the equation
 pub data Test (b : Bool) : Type 0 where
@@ -36,6 +36,14 @@ below-or x y = go (ltb x y) refl
     go : (p : Bool) → ltb x y ≡ p → (x < y) ⊎ (y ≤ x)
     go true e = inl (ltb-true x y e)
     go false e = inr (ltb-false x y e)
+
+-- two numbers are the same, or not
+pub same-or : (x y : ℕ) → (x ≡ y) ⊎ (x ≢ y)
+same-or x y = go (test (eqb x y))
+  where
+    go : Test (eqb x y) → (x ≡ y) ⊎ (x ≢ y)
+    go (passes e) = inl (eqb-true x y e)
+    go (fails e) = inr (eqb-false x y e)
 
 pub true-false : {b : Bool} → b ≡ true → b ≡ false → ⊥
 true-false p q = let z : _≡_ {A = ℕ} 0 1 = cc in omega arith

@@ -12,10 +12,9 @@ use Rattle.papers.specs.Lists.{_∈_}
 use Rattle.papers.specs.Job.{Pattern}
 use Rattle.papers.specs.Fill.{R}
 use Rattle.papers.specs.Tree.{parent}
-use Rattle.list_laws.proofs.Tests.{below-or}
+use Rattle.list_laws.proofs.Tests.{below-or, same-or}
 use Rattle.fill_laws.proofs.Fill.{R-range}
 use Rattle.fill_laws.proofs.Parents.{parent-least, parent-above, hands-on}
-use Rattle.column_laws.proofs.Places.{same-or}
 use Rattle.needed_climb.specs.Row.{Row, Start, Climbing, Climbed}
 use Rattle.needed_climb.proofs.Marking.{settle, step, parent-new, parent-old, count-few}
 

@@ -12,11 +12,10 @@ use Rattle.papers.specs.Lists.{_∈_}
 use Rattle.papers.specs.Job.{Pattern, Below}
 use Rattle.papers.specs.Fill.{R}
 use Rattle.papers.specs.Tree.{parent}
-use Rattle.list_laws.proofs.Tests.{below-or}
+use Rattle.list_laws.proofs.Tests.{below-or, same-or}
 use Rattle.list_laws.proofs.Ascending.{asc-length}
 use Rattle.fill_laws.proofs.Fill.{R-asc, R-range}
 use Rattle.fill_laws.proofs.Parents.{parent-least}
-use Rattle.column_laws.proofs.Places.{same-or}
 use Rattle.needed_climb.specs.Sums.{sumTo, under, hit}
 use Rattle.needed_climb.specs.Row.{tally, Row}
 use Rattle.needed_climb.proofs.Sums.{hit-yes, hit-no, sum-same, sum-bump, sum-few, under-few}

@@ -7,7 +7,7 @@ use mathlib.Core.List.{List, _∷_, List·Memᴰ·head, List·Memᴰ·tail, List
 use native.Mathlib.Omega.{arith}
 use lib.ListN.{length, getD}
 use Rattle.papers.specs.Lists.{_∈_}
-use Rattle.column_laws.proofs.Places.{same-or}
+use Rattle.list_laws.proofs.Tests.{same-or}
 use Rattle.rows_needed.specs.Buckets.{cursor, Points, Place, UpTo, Bucket, Buckets}
 use Rattle.rows_needed.proofs.Buckets.{place-ext, Stays, bucket-move}
 

@@ -13,11 +13,10 @@ use Rattle.papers.specs.Job.{Pattern, Below}
 use Rattle.papers.specs.Key.{listsOf}
 use Rattle.papers.specs.Fill.{R}
 use Rattle.papers.specs.Tree.{parent, Under, top, up}
-use Rattle.list_laws.proofs.Tests.{below-or}
+use Rattle.list_laws.proofs.Tests.{below-or, same-or}
 use Rattle.fill_laws.proofs.Fill.{R-asc, R-range}
 use Rattle.fill_laws.proofs.Parents.{parent-mem, parent-above}
 use Rattle.fill_laws.proofs.Subtrees.{under-le, row-subtree}
-use Rattle.column_laws.proofs.Places.{same-or}
 use Rattle.needed_climb.specs.Sums.{sumTo, under}
 use Rattle.needed_climb.specs.Row.{tally, Row}
 use Rattle.needed_climb.proofs.Sums.{hit-yes, hit-no, sum-same, sum-bump}

@@ -12,8 +12,9 @@ use Rattle.papers.specs.Lists.{flat, zeros}
 use Rattle.papers.specs.Job.{columnOf}
 use Rattle.papers.specs.Key.{listsOf}
 use Rattle.papers.specs.Fill.{R}
+use Rattle.list_laws.proofs.Tests.{same-or}
+use Rattle.list_laws.proofs.Stores.{zero-at}
 use Rattle.column_laws.specs.Tested.{Tested}
-use Rattle.column_laws.proofs.Places.{zero-at, same-or}
 use Rattle.column_laws.proofs.Columns.{tested-below, starts-long, starts-rise, row-range}
 use Rattle.rows_needed.specs.Buckets.{Points, UpTo, Bucket, Buckets, filed}
 use Rattle.rows_needed.specs.Walk.{Filing, Between, Walk, Begun}

@@ -9,8 +9,8 @@ use native.Mathlib.Omega.{arith}
 use lib.ListN.{length, getD}
 use Rattle.papers.specs.Lists.{_∈_}
 use Rattle.papers.specs.Job.{columnOf, Below}
+use Rattle.list_laws.proofs.Tests.{same-or}
 use Rattle.fill_laws.proofs.Fill.{R-pattern}
-use Rattle.column_laws.proofs.Places.{same-or}
 use Rattle.column_laws.proofs.Columns.{tested-below, starts-long, starts-fit, row-range, rows-rise}
 use Rattle.needed_climb.specs.Sums.{sumTo}
 use Rattle.needed_climb.specs.Row.{Start, Climbing, Climbed}

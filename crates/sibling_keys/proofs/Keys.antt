@@ -12,7 +12,7 @@ use Rattle.papers.specs.Lists.{_∈_}
 use Rattle.papers.specs.Tree.{t}
 use Rattle.papers.specs.Order.{siblingKey}
 use Rattle.list_laws.proofs.Members.{at-place}
-use Rattle.tree.proofs.Children.{equal-or}
+use Rattle.list_laws.proofs.Tests.{same-or}
 use Rattle.tree.specs.Laid.{part}
 use Rattle.sibling_keys.specs.Kids.{Kids, Keyed}
 
@@ -73,7 +73,7 @@ module _ {k : ℕ} {key : ℕ → ℕ} {kids before after : List ℕ} {i : ℕ} 
     pub keying-turn : Keying k key kids before (set after (k + getD kids i 0) v) (i + 1)
     keying-turn = record {
       same = take-set-le k after (k + getD kids i 0) v (omega arith) ∙ inv .same;
-      keys = λ c m. keys-next c (List·Memᴰ·append-cases (take i kids) (rw (add-one, take-suc kids i 0 more) at m)) (equal-or c (getD kids i 0));
+      keys = λ c m. keys-next c (List·Memᴰ·append-cases (take i kids) (rw (add-one, take-suc kids i 0 more) at m)) (same-or c (getD kids i 0));
       seen = omega arith;
       long = length-set after (k + getD kids i 0) v ∙ inv .long;
     }

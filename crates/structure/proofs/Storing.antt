@@ -13,9 +13,9 @@ use Rattle.papers.specs.Lists.{head0, flat, zeros}
 use Rattle.papers.specs.Job.{Pattern, Below}
 use Rattle.papers.specs.Fill.{R}
 use Rattle.papers.specs.Tree.{parent}
+use Rattle.list_laws.proofs.Stores.{zero-at}
 use Rattle.job_laws.proofs.Laid.{lists-none}
 use Rattle.fill_laws.proofs.Parents.{parent-within}
-use Rattle.column_laws.proofs.Places.{zero-at}
 use Rattle.column_laws.proofs.Families.{flat-more, length-more}
 use Rattle.child_lists.specs.Marks.{Changed, Fresh}
 use Rattle.column_laws.proofs.Chains.{chain-ext}
