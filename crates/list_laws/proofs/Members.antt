@@ -1,11 +1,11 @@
 -- The tests on lists: `member` passes just where the number stands in the list, `same` just where the lists are one. And what
--- stands at a place of a list is one of it.
+-- stands at a place of a list is one of it; what agrees on its members agrees on all of it.
 -- Assumes nothing.
 use Prim.Native.Nat.{ℕ, zero, suc, _<_}
 use mathlib.Core.Path.{_≡_, refl}
 use mathlib.Core.Logic.{_⊎_, inl, inr}
 use mathlib.Core.Bool.{true, false}
-use mathlib.Core.List.{List, [], _∷_, List·Memᴰ·head, List·Memᴰ·tail, List·Memᴰ·not-nil, List·Memᴰ·cases-cons}
+use mathlib.Core.List.{List, [], _∷_, flatMap, List·Memᴰ·head, List·Memᴰ·tail, List·Memᴰ·not-nil, List·Memᴰ·cases-cons}
 use native.Mathlib.Omega.{arith}
 use lib.Dec.{eqb}
 use lib.ListN.{length, getD}
@@ -60,3 +60,9 @@ pub at-place : (l : List ℕ) (k : ℕ) → k < length l → getD l k 0 ∈ l
 at-place [] k h = absurd (omega arith)
 at-place (y ∷ l) zero h = List·Memᴰ·head refl
 at-place (y ∷ l) (suc k) h = List·Memᴰ·tail (at-place l k (omega arith))
+
+-- lists that agree on the members of cs, one behind the other
+pub flatMap-same : (u v : ℕ → List ℕ) (cs : List ℕ) → ((c : ℕ) → c ∈ cs → u c ≡ v c) → flatMap u cs ≡ flatMap v cs
+unfolding flatMap
+flatMap-same u v [] h = refl
+flatMap-same u v (c ∷ cs) h = rw (h c (List·Memᴰ·head refl), flatMap-same u v cs (λ d m. h d (List·Memᴰ·tail m)))

@@ -13,6 +13,7 @@ use Rattle.papers.specs.Order.{arranged, stepsOf}
 use Rattle.list_laws.proofs.Tests.{strong}
 use Rattle.list_laws.proofs.Counts.{distinct-length, same-length}
 use Rattle.list_laws.proofs.UpTo.{upTo-into, length-upTo}
+use Rattle.list_laws.proofs.Members.{flatMap-same}
 use Rattle.order_laws.specs.Parents.{Tree}
 use Rattle.order_laws.specs.Held.{heldAfterAll}
 use Rattle.order_laws.specs.Stack.{heldColumns}
@@ -24,7 +25,7 @@ use Rattle.order_laws.proofs.Steps.{column-at}
 use Rattle.order_laws.proofs.Takes.{step-enough}
 use Rattle.order_laws.proofs.Entries.{held-entries}
 use Rattle.tree.specs.Blocks.{block, blocks}
-use Rattle.tree.proofs.Blocks.{flatMap-same, block-is}
+use Rattle.tree.proofs.Blocks.{block-is}
 
 -- ---- lists by the mark
 

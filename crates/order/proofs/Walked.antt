@@ -10,6 +10,7 @@ use lib.Seq.{sets, sets-eq}
 use Rattle.papers.specs.Bounds.{maxColumns}
 use Rattle.papers.specs.Lists.{_∈_}
 use Rattle.list_laws.proofs.Tests.{below-or}
+use Rattle.list_laws.proofs.Members.{flatMap-same}
 use Rattle.order_laws.proofs.Subtrees.{children-are}
 use Rattle.order_laws.proofs.Arranged.{arranged-elements}
 use Rattle.order_laws.proofs.Orders.{ordered-length, marked-ordered}
@@ -17,7 +18,7 @@ use Rattle.tree.specs.Parents.{parentIn, kidsIn}
 use Rattle.tree.specs.Blocks.{block, blocks, kidsAt}
 use Rattle.tree.specs.Laid.{Descendants}
 use Rattle.tree.proofs.Children.{kids-lower}
-use Rattle.tree.proofs.Blocks.{flatMap-same, block-count}
+use Rattle.tree.proofs.Blocks.{block-count}
 use Rattle.walk.specs.Tasks.{Laid, Asked, kidsSteps}
 use Rattle.room.specs.Rows.{rowsIn}
 use Rattle.order.specs.Given.{Rowed, stepsIn, orderIn}

@@ -3,18 +3,14 @@
 use Prim.Native.Nat.{ℕ, zero, suc, _<_, _≤_}
 use mathlib.Core.Path.{_≡_, refl, ap, _∙_}
 use mathlib.Core.Logic.{_↔_}
-use mathlib.Core.List.{List, [], _∷_, _++_, flatMap, List·Memᴰ·head, List·Memᴰ·tail}
+use mathlib.Core.List.{List, [], _∷_, _++_, flatMap}
 use native.Mathlib.Omega.{arith}
 use lib.ListN.{length}
 use Rattle.papers.specs.Lists.{_∈_, Distinct}
 use Rattle.papers.specs.Order.{siblingKey, alone, arranged, stepsOf}
+use Rattle.list_laws.proofs.Members.{flatMap-same}
 use Rattle.list_laws.proofs.Sorts.{sort-elements, sort-length, sort-distinct}
 use Rattle.list_laws.proofs.SortOrder.{sort-same}
-
-flatMap-same : (u v : ℕ → List ℕ) (cs : List ℕ) → ((c : ℕ) → c ∈ cs → u c ≡ v c) → flatMap u cs ≡ flatMap v cs
-unfolding flatMap
-flatMap-same u v [] h = refl
-flatMap-same u v (c ∷ cs) h = rw (h c (List·Memᴰ·head refl), flatMap-same u v cs (λ d m. h d (List·Memᴰ·tail m)))
 
 module _ (mark : ℕ) (size : ℕ → ℕ) (kids : ℕ → List ℕ) where
   -- ---- the children of j, arranged

@@ -2,22 +2,18 @@
 -- Assumes nothing.
 use Prim.Native.Nat.{ℕ, zero, suc, _+_, _<_, _≤_}
 use mathlib.Core.Path.{_≡_, refl, sym, ap, _∙_}
-use mathlib.Core.List.{List, [], _∷_, _++_, flatMap, append-assoc, List·Memᴰ·head, List·Memᴰ·tail}
+use mathlib.Core.List.{List, [], _∷_, _++_, flatMap, append-assoc}
 use native.Mathlib.Omega.{arith}
 use native.Mathlib.Numerals.{add-one}
 use lib.ListN.{length, getD, length-append}
 use lib.Seq.{slice, slice-cons}
 use Rattle.papers.specs.Lists.{_∈_}
 use Rattle.papers.specs.Order.{siblingKey, arranged, stepsOf}
+use Rattle.list_laws.proofs.Members.{flatMap-same}
 use Rattle.list_laws.proofs.SortOrder.{sort-level}
 use Rattle.order_laws.proofs.Arranged.{steps-suc, steps-enough}
 use Rattle.tree.specs.Blocks.{block, blocks, kidsAt}
 use Rattle.tree.proofs.Slices.{slice-none}
-
-pub flatMap-same : (u v : ℕ → List ℕ) (cs : List ℕ) → ((c : ℕ) → c ∈ cs → u c ≡ v c) → flatMap u cs ≡ flatMap v cs
-unfolding flatMap
-flatMap-same u v [] h = refl
-flatMap-same u v (c ∷ cs) h = rw (h c (List·Memᴰ·head refl), flatMap-same u v cs (λ d m. h d (List·Memᴰ·tail m)))
 
 -- mark 0 leaves children as they stand
 pub arranged-zero : (size : ℕ → ℕ) (kids : ℕ → List ℕ) (steps : ℕ → List ℕ) (j : ℕ) → arranged 0 size kids steps j ≡ kids j
