@@ -17,7 +17,7 @@ use Rattle.list_laws.proofs.Counts.{distinct-append}
 use Rattle.list_laws.proofs.Keeps.{keep-from, keep-into, keep-asc}
 use Rattle.list_laws.proofs.Members.{same-true, same-refl}
 use Rattle.list_laws.proofs.Merges.{merge-asc, merge-left, merge-right, merge-from}
-use Rattle.order_laws.proofs.TogetherTest.{every-all}
+use Rattle.list_laws.proofs.Every.{every-all}
 use Rattle.child_lists.specs.Marks.{isMarked}
 use Rattle.check_marks.specs.Marked.{MarkedAre}
 use Rattle.check_rows.specs.Added.{addsOwn}

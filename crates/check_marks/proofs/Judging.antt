@@ -15,9 +15,9 @@ use Rattle.list_laws.proofs.Tests.{Test, passes, fails, test, true-false}
 use Rattle.list_laws.proofs.Ascending.{asc-above, asc-distinct, asc-ext}
 use Rattle.list_laws.proofs.Counts.{distinct-length}
 use Rattle.list_laws.proofs.Members.{member-true, member-into, same-true, same-refl}
+use Rattle.list_laws.proofs.Every.{every-all}
 use Rattle.bytes_laws.proofs.Gaps.{RowsFit}
 use Rattle.fill_laws.proofs.Fill.{R-asc}
-use Rattle.order_laws.proofs.TogetherTest.{every-all}
 use Rattle.child_lists.specs.Marks.{isMarked}
 use Rattle.check_marks.specs.Marked.{Counted}
 

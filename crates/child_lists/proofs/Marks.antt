@@ -3,16 +3,17 @@
 use Prim.Native.Nat.{ℕ, suc, _+_, _<_, _≤_}
 use mathlib.Core.Path.{_≡_, refl, sym, ap, _∙_}
 use mathlib.Core.Logic.{_⊎_, inl, inr, _≢_}
-use mathlib.Core.Bool.{Bool, true, false}
-use mathlib.Core.List.{List, [], _∷_, List·Memᴰ·head, List·Memᴰ·tail, List·Memᴰ·not-nil, List·Memᴰ·cases-cons}
+use mathlib.Core.Bool.{true, false}
+use mathlib.Core.List.{List, [], _∷_, List·Memᴰ·head, List·Memᴰ·tail}
 use native.Mathlib.Omega.{arith}
 use native.Mathlib.Numerals.{add-one}
 use lib.ListN.{length, getD, drop, set, length-set, drop-of-length-le}
 use lib.Seq.{drop-cons, getD-set-same, getD-set-other, set-out}
 use borrow.Author.Tests.{eq-eqb, ne-eqb, eqb-true}
 use Rattle.papers.specs.Lists.{_∈_, every}
-use Rattle.list_laws.proofs.Tests.{Compare, below, level, above, compare, below-or, Test, passes, fails, test, true-false}
+use Rattle.list_laws.proofs.Tests.{Compare, below, level, above, compare, below-or}
 use Rattle.list_laws.proofs.Members.{at-place}
+use Rattle.list_laws.proofs.Every.{every-nil, every-yes, every-no, every-all}
 use Rattle.child_lists.specs.Marks.{marked, isMarked, Markable, Sound, Changed}
 
 -- what a store leaves at place p
@@ -104,29 +105,6 @@ mark-place {l = l} m k h = omega (arith, m .most (getD l k 0) (at-place l k h), 
 
 -- ---- the loop that reads them
 
-module _ (f : ℕ → Bool) where
-  pub every-nil : every f [] ≡ true
-  unfolding every
-  every-nil = refl
-
-  every-yes : (x : ℕ) (xs : List ℕ) → f x ≡ true → every f (x ∷ xs) ≡ every f xs
-  unfolding every
-  every-yes x xs e = rw (e, every)
-
-  every-no : (x : ℕ) (xs : List ℕ) → f x ≡ false → every f (x ∷ xs) ≡ false
-  unfolding every
-  every-no x xs e = rw (e, every)
-
-  -- of all where every passes
-  pub every-true : (l : List ℕ) {i : ℕ} → every f l ≡ true → i ∈ l → f i ≡ true
-  every-true [] e m = absurd (List·Memᴰ·not-nil m)
-  every-true (x ∷ xs) {i} e m = go (test (f x)) (List·Memᴰ·cases-cons m) (λ q t. every-true xs q t)
-    where
-      go : Test (f x) → (i ≡ x) ⊎ (i ∈ xs) → (every f xs ≡ true → i ∈ xs → f i ≡ true) → f i ≡ true
-      go (passes p) (inl q) ih = rw q p
-      go (passes p) (inr t) ih = ih (sym (every-yes x xs p) ∙ e) t
-      go (fails p) q ih = absurd (true-false e (every-no x xs p))
-
 module _ (n j : ℕ) (l w : List ℕ) where
   -- the rows before k are marked
   pub record Covering (k : ℕ) : Type 0 where
@@ -152,4 +130,4 @@ module _ (n j : ℕ) (l w : List ℕ) where
 
   -- a list covered by sound marks brings nothing new
   pub covered-in : (acc : List ℕ) → every (isMarked n j w) l ≡ true → Sound n j w acc → (i : ℕ) → 1 ≤ i → i ∈ l → i ∈ acc
-  covered-in acc e s i h m = s i h (eqb-true (getD w (n + n + i) 0) j (every-true (isMarked n j w) l e m))
+  covered-in acc e s i h m = s i h (eqb-true (getD w (n + n + i) 0) j (every-all (isMarked n j w) l .0 e i m))

@@ -3,6 +3,7 @@ pub mod Ascending
 pub mod Merges
 pub mod Members
 pub mod Keeps
+pub mod Every
 pub mod Counts
 pub mod UpTo
 pub mod Stores

@@ -2,10 +2,10 @@
 -- all of it.
 -- Assumes nothing.
 use Prim.Native.Nat.{ℕ, _-_, _<_, _≤_}
-use mathlib.Core.Path.{_≡_, refl}
-use mathlib.Core.Logic.{_⊎_, inl, inr, _↔_}
-use mathlib.Core.Bool.{Bool, true, false, _&&_}
-use mathlib.Core.List.{List, [], _∷_, List·Memᴰ·head, List·Memᴰ·tail, List·Memᴰ·not-nil, List·Memᴰ·cases-cons}
+use mathlib.Core.Path.{_≡_}
+use mathlib.Core.Logic.{_↔_}
+use mathlib.Core.Bool.{true, false, _&&_}
+use mathlib.Core.List.{List, [], _∷_, List·Memᴰ·not-nil}
 use native.Mathlib.Omega.{arith}
 use lib.Dec.{leb}
 use lib.ListN.{length}
@@ -15,26 +15,14 @@ use Rattle.papers.specs.Lists.{_∈_, Distinct, every}
 use Rattle.papers.specs.Tree.{Under, top, isUnder, subtreeOf}
 use Rattle.papers.specs.Order.{columnAt, Together}
 use Rattle.papers.specs.Check.{scattered}
-use Rattle.list_laws.proofs.Tests.{Test, passes, fails, test, true-false, not-false, and-both}
+use Rattle.list_laws.proofs.Tests.{not-false, and-both}
+use Rattle.list_laws.proofs.Every.{every-all}
 use Rattle.list_laws.proofs.Counts.{same-length, all-there}
 use Rattle.order_laws.specs.Parents.{Tree}
 use Rattle.order_laws.proofs.Trees.{under-range}
 use Rattle.order_laws.proofs.Subtrees.{under-test, subtree-is, subtree-distinct}
 use Rattle.order_laws.proofs.Steps.{column-in, slice-distinct}
 use Rattle.order_laws.proofs.Pieces.{Piece, together-piece, piece-together}
-
-pub every-all : (f : ℕ → Bool) (l : List ℕ) → (every f l ≡ true) ↔ ((x : ℕ) → x ∈ l → f x ≡ true)
-unfolding every
-every-all f [] = (λ e x m. absurd (List·Memᴰ·not-nil m), λ h. refl)
-every-all f (y ∷ l) = go (test (f y)) (every-all f l)
-  where
-    go : Test (f y) → (every f l ≡ true) ↔ ((x : ℕ) → x ∈ l → f x ≡ true) → (every f (y ∷ l) ≡ true) ↔ ((x : ℕ) → x ∈ (y ∷ l) → f x ≡ true)
-    go (passes e) ih = (λ q x m. at q x (List·Memᴰ·cases-cons m), λ h. rw (e, every) (ih .1 (λ x m. h x (List·Memᴰ·tail m))))
-      where
-        at : every f (y ∷ l) ≡ true → (x : ℕ) → (x ≡ y) ⊎ (x ∈ l) → f x ≡ true
-        at q x (inl p) = rw p e
-        at q x (inr m) = ih .0 (rw (e, every) at q) x m
-    go (fails e) ih = (λ q. absurd (true-false (rw (e, every) at q) refl), λ h. absurd (true-false (h y (List·Memᴰ·head refl)) e))
 
 module _ {par : ℕ → ℕ} {n : ℕ} (tree : Tree par n) (order : List ℕ) (each : (j : ℕ) → (j ∈ order) ↔ ((1 ≤ j) × (j ≤ n))) (once : Distinct order)
     (s : ℕ) (l : 1 ≤ s) (u : s ≤ length order) where

@@ -16,7 +16,7 @@ use Rattle.papers.specs.Run.{RunCall, rowsIn, popsAt, roomIn, fits, stepFault, 
 use Rattle.papers.specs.Conditions.{Known, AllFit, StepFault, unknown-column, too-many-pops, row-outside, over-room, BadStep}
 use Rattle.list_laws.proofs.Tests.{Test, passes, fails, test, and-both}
 use Rattle.list_laws.proofs.Members.{member-true, member-into}
-use Rattle.order_laws.proofs.TogetherTest.{every-all}
+use Rattle.list_laws.proofs.Every.{every-all}
 use Rattle.refusal_laws.proofs.Agreements.{Agree}
 use Rattle.refusal_laws.proofs.Exactly.{_&_}
 use Rattle.refusal_laws.proofs.Tests.{below-iff, fails-iff, Faults, agree-faults}

@@ -13,8 +13,8 @@ use lib.Seq.{drop-cons}
 use Rattle.papers.specs.Lists.{_∈_, Asc, member, every}
 use Rattle.list_laws.proofs.Tests.{Compare, below, level, above, compare}
 use Rattle.list_laws.proofs.Members.{member-into, member-out}
+use Rattle.list_laws.proofs.Every.{every-nil, every-yes, every-no}
 use Rattle.run_front.specs.Search.{Bracket, Alike}
-use Rattle.run_front.proofs.Every.{every-none, every-yes, every-no}
 use Rattle.run_front.proofs.SameRows.{from, in-first-from, in-second-from, same-from, differ-from}
 use Rattle.run_front.proofs.Places.{places-ascend, found-there, found-nowhere}
 
@@ -34,7 +34,7 @@ swept-start column rows update = record { within = omega arith; before = λ h k 
 module _ {column : ℕ} {rows update : List ℕ} {found i : ℕ} (s : Swept column rows update found i) where
   -- all rows are passed
   pub swept-end : length update ≤ i → true ≡ every (inFront column rows) update
-  swept-end h = sym (every-none (inFront column rows)) ∙ (rw (drop-of-length-le update h) at (s .same))
+  swept-end h = sym (every-nil (inFront column rows)) ∙ (rw (drop-of-length-le update h) at (s .same))
 
   module _ (h : i < length update) where
     next : drop i update ≡ getD update i 0 ∷ drop (i + 1) update

@@ -11,7 +11,7 @@ use Rattle.papers.specs.Lists.{member, every}
 use Rattle.papers.specs.Job.{columnOf}
 use Rattle.papers.specs.Tree.{t}
 use Rattle.papers.specs.Run.{fits, rowsIn}
-use Rattle.run_front.proofs.Every.{every-none, every-yes, every-no}
+use Rattle.list_laws.proofs.Every.{every-nil, every-yes, every-no}
 use Rattle.run_updates.specs.Kept.{heldIn, factorOf}
 use Rattle.run_updates.proofs.Stack.{popped-next, popped-none}
 use Rattle.run_updates.proofs.Entries.{total, total-none, total-cons}
@@ -37,7 +37,7 @@ module _ (n : ℕ) (starts rows stack : List ℕ) where
 
     fit-none : fit [] ≡ true
     unfolding fits rowsIn
-    fit-none = every-none standsIn
+    fit-none = every-nil standsIn
 
     fit-yes : (u : ℕ) (us : List ℕ) → standsIn u ≡ true → fit (u ∷ us) ≡ fit us
     unfolding fits rowsIn
