@@ -9,13 +9,13 @@ use lib.ListN.{length, getD, drop, set, length-take, length-drop, take-append-dr
 use lib.Seq.{getD-take, take-take, take-add, length-take-le, sets, sets-eq, set-getD}
 use Rattle.papers.specs.Lists.{head0, flat, startsFrom}
 use Rattle.papers.specs.Job.{columnOf}
+use Rattle.list_laws.specs.Parts.{part}
 use Rattle.list_laws.proofs.Stores.{length-starts}
 use Rattle.bytes_laws.proofs.Gaps.{RowsFit}
 use Rattle.job_laws.proofs.Starts.{start-at, column-at, start-within}
 use Rattle.job_laws.proofs.Passed.{PassedLists}
 use Rattle.job_laws.proofs.Laid.{laid-column}
 use Rattle.job_laws.proofs.Readable.{laid-pass}
-use Rattle.column_laws.specs.Chains.{part}
 use Rattle.column_laws.proofs.Columns.{column-part}
 use Rattle.column_list.specs.Stored.{Part}
 use Rattle.structure.specs.Hanging.{hanging}

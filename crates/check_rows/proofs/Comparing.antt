@@ -8,13 +8,14 @@ use mathlib.Core.List.{List, [], _∷_, Memᴰ·append-right}
 use native.Mathlib.Omega.{arith}
 use native.Mathlib.Numerals.{add-one}
 use lib.Dec.{eqb}
-use lib.ListN.{length, getD, take, drop, length-drop, drop-of-length-le, take-append-drop}
-use lib.Seq.{take-all, drop-cons}
+use lib.ListN.{length, getD, take, drop, drop-of-length-le, take-append-drop}
+use lib.Seq.{drop-cons}
 use borrow.Author.Tests.{eq-eqb, ne-eqb}
 use Rattle.papers.specs.Lists.{keep, same}
 use Rattle.list_laws.proofs.Tests.{Test, passes, fails, test, true-false}
 use Rattle.list_laws.proofs.Keeps.{keep-nil, keep-yes, keep-no}
 use Rattle.list_laws.proofs.Members.{same-true, same-refl}
+use Rattle.list_laws.proofs.Parts.{part-last}
 use Rattle.child_lists.specs.Marks.{Markable}
 
 -- lists of other lengths
@@ -104,13 +105,10 @@ then-other x y b h = rw (eq-eqb x y h)
 
 -- ---- the rest of a list as a part of its slice
 
-pub rest-part : (l : List ℕ) (k : ℕ) → take (length l - k) (drop k l) ≡ drop k l
-rest-part l k = take-all (length l - k) (drop k l) (rw length-drop (omega arith))
-
 pub rest-markable : {n : ℕ} {list w w₁ : List ℕ} (p : ℕ) → Markable n list w → length w₁ ≡ length w
     → Markable n (take (length list - p) (drop p list)) w₁
 rest-markable {list = list} p m e =
     record {
-      most = λ i t. m .most i (rw (← take-append-drop p list) (Memᴰ·append-right (take p list) (rw (rest-part list p) at t)));
+      most = λ i t. m .most i (rw (← take-append-drop p list) (Memᴰ·append-right (take p list) (rw (part-last list p) at t)));
       long = rw e (m .long);
     }

@@ -11,9 +11,11 @@ use Rattle.papers.specs.Bounds.{maxColumns, workLength}
 use Rattle.papers.specs.Lists.{least}
 use Rattle.papers.specs.Order.{columnAt}
 use Rattle.papers.specs.Check.{scattered}
+use Rattle.list_laws.specs.Parts.{part}
+use Rattle.list_laws.proofs.Parts.{part-length}
 use Rattle.tree.specs.Parents.{parentIn, TreeIn}
-use Rattle.tree.specs.Laid.{Descendants, part}
-use Rattle.tree.proofs.Parts.{part-length, front-is, back-is}
+use Rattle.tree.specs.Laid.{Descendants}
+use Rattle.tree.proofs.Parts.{front-is, back-is}
 use Rattle.check_subtrees.specs.Steps.{EachOnce, listed, StepsIn}
 use Rattle.check_subtrees.specs.Strays.{strayStep, earliest, Placed}
 use Rattle.check_subtrees.proofs.Counts.{order-has, subtree-count, subtree-few}

@@ -8,7 +8,7 @@ use native.Mathlib.Omega.{arith}
 use lib.ListN.{length, take}
 use lib.Seq.{sets}
 use Rattle.papers.specs.Lists.{merge}
-use Rattle.column_laws.proofs.Parts.{front-stored}
+use Rattle.list_laws.proofs.Stores.{front-stored}
 use Rattle.child_lists.specs.Buffers.{buffer, held, Roomy}
 
 pub first-buffer : (t : ℕ) (x y : List ℕ) → t ≡ 0 → buffer t x y ≡ x

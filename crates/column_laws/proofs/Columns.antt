@@ -9,13 +9,13 @@ use lib.ListN.{length, getD}
 use lib.Seq.{slice}
 use Rattle.papers.specs.Lists.{_∈_}
 use Rattle.papers.specs.Job.{start, columnOf, Below}
+use Rattle.list_laws.specs.Parts.{part}
 use Rattle.list_laws.proofs.Ascending.{asc-above}
+use Rattle.list_laws.proofs.Parts.{part-slice}
+use Rattle.list_laws.proofs.Slices.{At, in-slice, slice-into, slice-rises}
 use Rattle.job_laws.proofs.Starts.{start-at, start-within}
 use Rattle.job_laws.proofs.Passed.{PassedLists, lists-iff, lists-below}
 use Rattle.column_laws.specs.Tested.{Tested}
-use Rattle.column_laws.specs.Chains.{part}
-use Rattle.column_laws.proofs.Parts.{part-slice}
-use Rattle.column_laws.proofs.Slices.{At, in-slice, slice-has, slice-rises}
 
 -- the rows of column m + 1 are the part between its two starts
 pub column-part : (starts rows : List ℕ) (m : ℕ) → part (getD starts m 0) (getD starts (m + 1) 0) rows ≡ columnOf starts rows (m + 1)
@@ -54,8 +54,8 @@ module _ {n : ℕ} {starts rows : List ℕ} (t : Tested n starts rows) where
     pub row-range : (q : ℕ) → getD starts (c - 1) 0 ≤ q → q < getD starts c 0
         → (getD rows q 0 ∈ columnOf starts rows c) × ((c < getD rows q 0) × ((getD rows q 0 ≤ n) × (q < length rows)))
     row-range q a b =
-        let m : getD rows q 0 ∈ columnOf starts rows c = rw (column-slice starts rows c) (slice-has rows (getD starts c 0) (starts-fit c high)
-        (getD starts (c - 1) 0) q a b) in (
+        let m : getD rows q 0 ∈ columnOf starts rows c = rw (column-slice starts rows c) (slice-into (getD starts (c - 1) 0) (getD starts c 0) q rows
+        (starts-fit c high) a b) in (
           m,
           (
             asc-above c (columnOf starts rows c) (tested-below .ascending c) m,

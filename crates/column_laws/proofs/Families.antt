@@ -10,9 +10,9 @@ use lib.ListN.{length, take, drop, length-append}
 use lib.Seq.{take-all, take-append-le, take-take, take-add, drop-at}
 use Rattle.papers.specs.Lists.{upTo, flat, startsFrom}
 use Rattle.papers.specs.Key.{listsOf}
+use Rattle.list_laws.specs.Parts.{part}
 use Rattle.list_laws.proofs.Stores.{flat-append, starts-more}
 use Rattle.job_laws.proofs.Laid.{lists-more}
-use Rattle.column_laws.specs.Chains.{part}
 
 pub map-upTo {ℓ} : {B : Type ℓ} (f : ℕ → B) (m : ℕ) → map f (upTo (suc m)) ≡ map f (upTo m) ++ (f (suc m) ∷ [])
 unfolding upTo

@@ -1,5 +1,3 @@
-pub mod Slices
-pub mod Parts
 pub mod Chains
 pub mod Columns
 pub mod Families

@@ -12,10 +12,10 @@ use Rattle.papers.specs.Job.{Pattern, Below}
 use Rattle.papers.specs.Fill.{R}
 use Rattle.list_laws.proofs.Ascending.{asc-length}
 use Rattle.list_laws.proofs.Merges.{merge-asc, merge-left, merge-right, merge-from}
+use Rattle.list_laws.proofs.Stores.{front-stored}
 use Rattle.fill_laws.proofs.Fill.{R-range, R-pattern}
 use Rattle.column_laws.specs.Tested.{Tested}
 use Rattle.column_laws.proofs.Columns.{starts-long, starts-rise, starts-fit}
-use Rattle.column_laws.proofs.Parts.{front-stored}
 use Rattle.column_laws.proofs.Chains.{chain-end, chain-on}
 use Rattle.linked_children.specs.Children.{handedOn, Linked, Longest}
 use Rattle.linked_children.proofs.Picking.{siblings-ext}

@@ -12,11 +12,11 @@ use Rattle.papers.specs.Job.{Pattern, Below}
 use Rattle.papers.specs.Fill.{R}
 use Rattle.papers.specs.Tree.{parent}
 use Rattle.list_laws.proofs.Ascending.{asc-above, drop-head}
+use Rattle.list_laws.proofs.Parts.{part-rest}
 use Rattle.fill_laws.proofs.Fill.{R-asc}
 use Rattle.fill_laws.proofs.Parents.{child-cons, parent-above}
 use Rattle.fill_laws.proofs.Children.{FromChild, R-children}
 use Rattle.column_laws.specs.Chains.{Chain}
-use Rattle.column_laws.proofs.Parts.{part-rest}
 use Rattle.column_laws.proofs.Chains.{desc-first}
 use Rattle.column_laws.proofs.Families.{length-more, length-grows, list-at}
 use Rattle.linked_children.specs.Children.{handedOn, Child, Siblings}

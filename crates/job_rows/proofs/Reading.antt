@@ -4,13 +4,14 @@
 use Prim.Native.Nat.{ℕ, suc, _+_, _<_, _≤_}
 use mathlib.Core.Path.{_≡_, refl, sym, subst, _∙_}
 use mathlib.Core.Logic.{_≢_}
-use mathlib.Core.List.{List, []}
+use mathlib.Core.List.{List}
 use native.Mathlib.Omega.{arith}
 use native.Mathlib.Numerals.{add-one}
-use lib.ListN.{length, getD, take, length-take, drop-of-length-le}
+use lib.ListN.{length, getD}
 use lib.Seq.{slice, slice-cons}
 use Rattle.papers.specs.Lists.{least}
 use Rattle.papers.specs.Refusals.{answer, untouched, passed, answerOf, startsTest, rowFault, rowsFault, columnFault, rowsTest}
+use Rattle.list_laws.proofs.Slices.{slice-none}
 use Rattle.job_laws.proofs.Firsts.{answer-refused, answer-passed}
 use Rattle.job_laws.proofs.Faults.{faulty, faults-next, faults-pass, faults-refuse}
 use Rattle.job_laws.proofs.Starts.{Starts, start-at, column-at, starts-iff, start-within}
@@ -35,9 +36,6 @@ pub first-column : {n : ℕ} {starts rows : List ℕ} → startsTest n starts ro
 unfolding least
 first-column {n} {starts} {rows} p =
     record { no-number = refl; no-place = refl; whole = starts-iff n starts rows .0 p; reached = omega arith; none = refl }
-
-slice-none : (i e : ℕ) (l : List ℕ) → e ≤ i → slice i e l ≡ []
-slice-none i e l h = let d : length (take e l) ≤ i = rw length-take (omega arith) in drop-of-length-le (take e l) d
 
 module _ {n : ℕ} {starts rows : List ℕ} {j end number place i before : ℕ} (r : Rows n starts rows j end number place i before) where
   -- no row is left

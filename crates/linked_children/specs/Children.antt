@@ -5,7 +5,8 @@ use mathlib.Core.Logic.{_≢_}
 use mathlib.Core.List.{List}
 use lib.ListN.{length, getD}
 use Rattle.papers.specs.Lists.{_∈_}
-use Rattle.column_laws.specs.Chains.{Chain, Desc, part}
+use Rattle.list_laws.specs.Parts.{part}
+use Rattle.column_laws.specs.Chains.{Chain, Desc}
 
 -- the rows of column c in the lists stored
 abbrev pub rowsOf : List ℕ → ℕ → ℕ

@@ -7,6 +7,8 @@ pub mod Every
 pub mod Counts
 pub mod UpTo
 pub mod Stores
+pub mod Parts
+pub mod Slices
 pub mod Sorts
 pub mod SortOrder
 pub mod Leasts

@@ -47,6 +47,10 @@ pub take-then-zeros : {k : ℕ} (xs l : List ℕ) → length xs ≡ k → take k
 unfolding thenZeros
 take-then-zeros {k} xs l e = take-at xs (replicate (length l - length xs) 0) k e
 
+-- what is stored at the front stands there
+pub front-stored : (l v : List ℕ) → length v ≤ length l → take (length v) (sets l 0 v) ≡ v
+front-stored l v h = rw (sets-eq v l 0 (omega arith)) (take-at v (drop (0 + length v) l) (length v) refl)
+
 -- a store in front of a run
 set-sets : (ws l : List ℕ) (i v k : ℕ) → i < k → set (sets l k ws) i v ≡ sets (set l i v) k ws
 set-sets [] l i v k h = refl

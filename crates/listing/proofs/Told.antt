@@ -13,8 +13,8 @@ use Rattle.papers.specs.Job.{Job, jobOf}
 use Rattle.papers.specs.Refusals.{answer, passed, first}
 use Rattle.papers.specs.Analysis.{analysed}
 use Rattle.papers.specs.Text.{Input, textJob, textTests, refusalLine, buffers, jobPrinted, programPrints}
+use Rattle.list_laws.proofs.Stores.{front-stored}
 use Rattle.lent.specs.Six.{zeroes}
-use Rattle.column_laws.proofs.Parts.{front-stored}
 use Rattle.text_lines.specs.Narrowed.{narrowed}
 use Rattle.text_reader.specs.declared.JobRead.{JobRead}
 use Rattle.text_reader.specs.declared.JobRead.the-variants as read

@@ -13,12 +13,12 @@ use Rattle.papers.specs.Lists.{upTo}
 use Rattle.papers.specs.Tree.{children}
 use Rattle.list_laws.proofs.Tests.{below-or}
 use Rattle.list_laws.proofs.Keeps.{keep-none}
+use Rattle.list_laws.proofs.Slices.{slice-none}
 use Rattle.order_laws.specs.Subtrees.{Kin}
 use Rattle.order_laws.proofs.Subtrees.{children-are}
 use Rattle.tree.specs.Parents.{parentIn, TreeIn, kidsIn}
 use Rattle.tree.specs.Blocks.{kidsAt}
 use Rattle.tree.specs.Laid.{Lie}
-use Rattle.tree.proofs.Slices.{slice-none}
 use Rattle.tree.proofs.Children.{kids-lower, parent-is}
 use Rattle.tree.proofs.Blocks.{kids-are}
 use Rattle.room.specs.Rows.{rowsIn, Column}

@@ -9,11 +9,12 @@ use lib.ListN.{length, getD, take}
 use lib.Seq.{length-take-le, take-take, getD-take, length-slice}
 use Rattle.tree.specs.Parents.{kidsIn}
 use Rattle.tree.specs.Blocks.{kidsAt}
-use Rattle.tree.specs.Laid.{part, LaidOut}
+use Rattle.list_laws.specs.Parts.{part}
+use Rattle.list_laws.proofs.Parts.{part-length, part-same}
+use Rattle.tree.specs.Laid.{LaidOut}
 use Rattle.tree.proofs.Blocks.{kids-are}
 use Rattle.order.specs.Given.{Given, Starts}
 use Rattle.siblings.specs.Arranged.{arrangedIn, Arrangeable, AllArranged}
-use Rattle.tree.proofs.Parts.{part-length, part-same}
 use Rattle.order.proofs.Families.{family-of, lists-end, lists-are}
 use Rattle.order.proofs.Walked.{Lists}
 

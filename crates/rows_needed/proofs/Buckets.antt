@@ -11,9 +11,9 @@ use Rattle.papers.specs.Lists.{_∈_, Distinct}
 use Rattle.papers.specs.Job.{columnOf}
 use Rattle.list_laws.proofs.Tests.{Compare, below, level, above, compare, below-or}
 use Rattle.list_laws.proofs.Ascending.{drop-head}
+use Rattle.list_laws.proofs.Slices.{At}
 use Rattle.column_laws.specs.Tested.{Tested}
 use Rattle.column_laws.proofs.Chains.{Linked, chain-end, chain-on, chain-ext}
-use Rattle.column_laws.proofs.Slices.{At}
 use Rattle.column_laws.proofs.Columns.{row-at, rows-rise}
 use Rattle.rows_needed.specs.Buckets.{cursor, Points, Place, UpTo, Bucket, Buckets}
 

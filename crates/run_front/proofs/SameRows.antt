@@ -6,9 +6,11 @@ use mathlib.Core.Path.{_≡_}
 use mathlib.Core.Logic.{_≢_}
 use mathlib.Core.List.{List}
 use native.Mathlib.Omega.{arith}
-use lib.ListN.{length, getD, take, drop, length-drop}
-use lib.Seq.{take-all, getD-drop}
+use lib.ListN.{length, getD, length-drop}
+use lib.Seq.{getD-drop}
+use Rattle.list_laws.specs.Parts.{part}
 use Rattle.list_laws.proofs.Tests.{Compare, below, level, above, compare}
+use Rattle.list_laws.proofs.Parts.{part-last}
 use Rattle.run_front.specs.Search.{Same, Alike}
 
 module _ {a b : List ℕ} {i : ℕ} (s : Same a b i) where
@@ -22,16 +24,13 @@ module _ {a b : List ℕ} {i : ℕ} (s : Same a b i) where
 
 -- a list from a place on
 abbrev pub from : List ℕ → ℕ → List ℕ
-from l i = take (length l - i) (drop i l)
-
-from-is : (l : List ℕ) (i : ℕ) → from l i ≡ drop i l
-from-is l i = take-all (length l - i) (drop i l) (omega (arith, length-drop i l))
+from l i = part i (length l) l
 
 getD-from : (l : List ℕ) (i k : ℕ) → getD (from l i) k 0 ≡ getD l (i + k) 0
-getD-from l i k = rw (from-is l i) (getD-drop i l k 0)
+getD-from l i k = rw (part-last l i) (getD-drop i l k 0)
 
 length-from : (l : List ℕ) (i : ℕ) → length (from l i) ≡ length l - i
-length-from l i = rw (from-is l i) (length-drop i l)
+length-from l i = rw (part-last l i) (length-drop i l)
 
 module _ (a b : List ℕ) (i j : ℕ) where
   module _ {count : ℕ} (l : Alike (from a i) (from b j) count) where

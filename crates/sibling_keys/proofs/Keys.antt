@@ -11,9 +11,9 @@ use lib.Seq.{take-suc, take-all, take-set-le, getD-take, getD-drop, getD-set-sam
 use Rattle.papers.specs.Lists.{_∈_}
 use Rattle.papers.specs.Tree.{t}
 use Rattle.papers.specs.Order.{siblingKey}
+use Rattle.list_laws.specs.Parts.{part}
 use Rattle.list_laws.proofs.Members.{at-place}
 use Rattle.list_laws.proofs.Tests.{same-or}
-use Rattle.tree.specs.Laid.{part}
 use Rattle.sibling_keys.specs.Kids.{Kids, Keyed}
 
 -- ---- the marks

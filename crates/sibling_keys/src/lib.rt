@@ -4,7 +4,7 @@ ghost use Prim.Native.Nat.{_+_, _-_, _≤_};
 ghost use lib.ListN.{length};
 ghost use Rattle.papers.specs.Bounds.{maxColumns};
 ghost use Rattle.papers.specs.Order.{siblingKey};
-ghost use Rattle.tree.specs.Laid.{part};
+ghost use Rattle.list_laws.specs.Parts.{part};
 ghost use Rattle.sibling_keys.specs.Kids.{keyAt, needAt, Kids, Keyed};
 
 // The key by which siblings descend: of a child with its rows and its W, under a parent with `above` rows.

@@ -8,12 +8,12 @@ use native.Mathlib.Omega.{arith}
 use lib.ListN.{length, getD, take}
 use lib.Seq.{getD-take, length-slice}
 use Rattle.papers.specs.Lists.{_∈_}
+use Rattle.list_laws.specs.Parts.{part}
+use Rattle.list_laws.proofs.Parts.{part-slice, part-length}
 use Rattle.tree.specs.Blocks.{kidsAt}
 use Rattle.tree.proofs.Blocks.{kids-are, arranged-zero}
 use Rattle.room.specs.Rows.{rowsIn}
-use Rattle.tree.specs.Laid.{part}
 use Rattle.siblings.specs.Arranged.{siblingsAt, Placed, aloneIn, arrangedIn, startsIn, Arrangeable, AllArranged}
-use Rattle.tree.proofs.Parts.{part-slice, part-length}
 use Rattle.siblings.proofs.Works.{alone-light}
 
 pub record Arranging (mark : ℕ) (factor list₀ work₀ list work : List ℕ) (scratch₀ scratch w k j : ℕ) : Type 0 where

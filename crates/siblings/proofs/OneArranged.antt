@@ -7,12 +7,12 @@ use mathlib.Core.List.{List}
 use native.Mathlib.Omega.{arith}
 use lib.ListN.{length, getD}
 use lib.Seq.{slice, sets, getD-set-same, getD-set-other, length-slice}
+use Rattle.list_laws.specs.Parts.{part}
 use Rattle.list_laws.proofs.Tests.{Compare, below, level, above, compare}
 use Rattle.order_laws.proofs.Arranged.{arranged-length}
 use Rattle.tree.specs.Blocks.{kidsAt}
 use Rattle.tree.proofs.Blocks.{kids-are}
 use Rattle.room.specs.Rows.{rowsIn}
-use Rattle.tree.specs.Laid.{part}
 use Rattle.siblings.specs.Arranged.{sortedIn, Arranged, aloneIn, arrangedIn, startsIn, Arrangeable}
 use Rattle.tree.proofs.Parts.{slice-behind, slice-before, slice-run}
 use Rattle.siblings.proofs.Works.{sorted-arranged, need-alone}

@@ -7,13 +7,14 @@ use native.Mathlib.Omega.{arith}
 use lib.ListN.{length, getD, set, take, drop, length-take}
 use lib.Seq.{sets, take-take, take-set-le}
 use Rattle.papers.specs.Lists.{_∈_, sort}
+use Rattle.list_laws.specs.Parts.{part}
 use Rattle.list_laws.proofs.Sorts.{sort-elements, sort-length}
 use Rattle.list_laws.proofs.SortOrder.{sort-same}
+use Rattle.list_laws.proofs.Parts.{part-length, part-at, part-same, part-set}
 use Rattle.sibling_sort.specs.Joining.{keyIn}
-use Rattle.tree.specs.Laid.{part}
 use Rattle.sibling_keys.specs.Kids.{keyAt, needAt, Kids, Keyed}
 use Rattle.siblings.specs.Arranged.{Sortable, sortedBy, Sorted, siblingsAt, Placed, Arranged}
-use Rattle.tree.proofs.Parts.{part-length, part-at, part-same, part-set, back-sets}
+use Rattle.tree.proofs.Parts.{back-sets}
 
 -- children in another order are the same children
 kids-sorted : (key : ℕ → ℕ) {factor rooms kids : List ℕ} {j : ℕ} → Kids factor rooms kids j → Kids factor rooms (sort key kids) j

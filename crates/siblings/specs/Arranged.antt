@@ -8,9 +8,9 @@ use lib.Seq.{sets}
 use Rattle.papers.specs.Bounds.{maxColumns}
 use Rattle.papers.specs.Lists.{sort}
 use Rattle.papers.specs.Order.{alone, arranged, stepsOf}
+use Rattle.list_laws.specs.Parts.{part}
 use Rattle.order_laws.specs.Subtrees.{Kin}
 use Rattle.tree.specs.Blocks.{kidsAt}
-use Rattle.tree.specs.Laid.{part}
 use Rattle.room.specs.Rows.{rowsIn, Column}
 use Rattle.sibling_keys.specs.Kids.{keyAt, needAt, Kids}
 

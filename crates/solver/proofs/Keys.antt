@@ -15,10 +15,9 @@ use Rattle.papers.specs.Text.{buffers}
 use Rattle.papers.specs.Call.{solverAnswer}
 use Rattle.papers.specs.declared.Answer.{Answer}
 use Rattle.papers.specs.declared.JobHead.{JobHead}
-use Rattle.list_laws.proofs.Stores.{length-starts}
+use Rattle.list_laws.proofs.Stores.{length-starts, front-stored}
 use Rattle.bytes_laws.proofs.Fields.{got-inj, got-bad}
 use Rattle.bytes_laws.proofs.Reaches.{lists-reach}
-use Rattle.column_laws.proofs.Parts.{front-stored}
 use Rattle.refusal_laws.proofs.Called.{call-fits}
 use Rattle.read_fields.specs.Reading.{Told, finds, refuses}
 use Rattle.read_fields.specs.declared.Reading.{Reading}

@@ -11,9 +11,9 @@ use Rattle.papers.specs.Lists.{_∈_}
 use Rattle.papers.specs.Order.{siblingKey, arranged, stepsOf}
 use Rattle.list_laws.proofs.Members.{flatMap-same}
 use Rattle.list_laws.proofs.SortOrder.{sort-level}
+use Rattle.list_laws.proofs.Slices.{slice-none}
 use Rattle.order_laws.proofs.Arranged.{steps-suc, steps-enough}
 use Rattle.tree.specs.Blocks.{block, blocks, kidsAt}
-use Rattle.tree.proofs.Slices.{slice-none}
 
 -- mark 0 leaves children as they stand
 pub arranged-zero : (size : ℕ → ℕ) (kids : ℕ → List ℕ) (steps : ℕ → List ℕ) (j : ℕ) → arranged 0 size kids steps j ≡ kids j

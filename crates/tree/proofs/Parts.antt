@@ -1,34 +1,14 @@
--- Parts of slices: what a store, a part that came back, or a change further on leaves of them.
+-- Parts of slices: what a part that came back, or a run of stores elsewhere, leaves of them.
 -- Assumes nothing.
-use Prim.Native.Nat.{ℕ, zero, suc, _+_, _-_, _<_, _≤_}
+use Prim.Native.Nat.{ℕ, suc, _+_, _-_, _≤_}
 use mathlib.Core.Path.{_≡_, refl, sym, ap, _∙_}
 use mathlib.Core.List.{List, [], _∷_, _++_, append-assoc}
 use native.Mathlib.Omega.{arith}
-use lib.ListN.{length, getD, set, take, drop, length-drop, length-append}
-use lib.Seq.{sets, sets-eq, slice, take-nil, drop-drop, drop-set-add, take-set-lt, take-at, drop-at, length-take-le, getD-take, getD-drop}
-use Rattle.tree.proofs.Slices.{slice-low, slice-high}
-use Rattle.tree.specs.Laid.{part}
-
--- the two forms of a part
-pub part-slice : (a e : ℕ) (l : List ℕ) → part a e l ≡ slice a e l
-part-slice zero e l = let z : e - 0 ≡ e = omega arith in rw z
-part-slice (suc a) zero l = let z : zero - suc a ≡ 0 = omega arith in rw z
-part-slice (suc a) (suc e) [] = take-nil (suc e - suc a)
-part-slice (suc a) (suc e) (x ∷ l) = let z : suc e - suc a ≡ e - a = omega arith in rw z (part-slice a e l)
-
-pub part-length : (a e : ℕ) (l : List ℕ) → a ≤ e → e ≤ length l → length (part a e l) ≡ e - a
-part-length a e l h g = length-take-le (e - a) (drop a l) (rw length-drop (omega arith))
-
-pub part-at : (a e : ℕ) (l : List ℕ) (i : ℕ) → a + i < e → getD (part a e l) i 0 ≡ getD l (a + i) 0
-part-at a e l i h = getD-take (e - a) (drop a l) i 0 (omega arith) ∙ getD-drop a l i 0
-
--- a part of what is the same up to its end
-pub part-same : (a e : ℕ) (l m : List ℕ) → take e l ≡ take e m → part a e l ≡ part a e m
-part-same a e l m h = part-slice a e l ∙ (ap (drop a) h ∙ sym (part-slice a e m))
-
--- a store in a part
-pub part-set : (a e i v : ℕ) (l : List ℕ) → a + i < e → part a e (set l (a + i) v) ≡ set (part a e l) i v
-part-set a e i v l h = ap (take (e - a)) (drop-set-add a l i v) ∙ take-set-lt (e - a) (drop a l) i v (omega arith)
+use lib.ListN.{length, set, take, drop, length-drop, length-append}
+use lib.Seq.{sets, sets-eq, slice, drop-drop, take-at, drop-at, length-take-le}
+use Rattle.list_laws.specs.Parts.{part}
+use Rattle.list_laws.proofs.Parts.{part-slice, part-length}
+use Rattle.list_laws.proofs.Slices.{slice-low, slice-high}
 
 -- ---- a part that came back changed
 module _ (l ys : List ℕ) (a e : ℕ) (rise : a ≤ e) (inside : e ≤ length l) (count : length ys ≡ e - a) where

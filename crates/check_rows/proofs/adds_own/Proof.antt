@@ -5,7 +5,8 @@ use borrow.Author.Needs.{needs}
 use denote.Ref.{now}
 use native.Mathlib.Omega.{arith}
 use Rattle.papers.specs.Lists.{every}
-use Rattle.check_rows.proofs.Comparing.{not-both, then-other, rest-part, rest-markable}
+use Rattle.list_laws.proofs.Parts.{part-last}
+use Rattle.check_rows.proofs.Comparing.{not-both, then-other, rest-markable}
 use Rattle.check_rows.proofs.adds_own.Statement.{statement}
 use Rattle.check_rows.proofs.adds_own.Tie as tie
 
@@ -30,7 +31,7 @@ covered-requires c κs = rest-markable _ (entry (search) .pre .1 .0) (omega (ari
 
 returns-2 : tie.Need-returns-2
 returns-2 c = (
-  c .covered .ensures ∙ ap (every _) (rest-part (now (entry (search) .args .list)) (entry (search) .args .p)) ∙ then-other _ _ _
+  c .covered .ensures ∙ ap (every _) (part-last (now (entry (search) .args .list)) (entry (search) .args .p)) ∙ then-other _ _ _
       (sym (counted (search) .count-marked .ensures) ∙ else1 (search) .if1 .left),
   marked (search) .mark .ensures,
 )

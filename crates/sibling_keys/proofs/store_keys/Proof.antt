@@ -6,7 +6,7 @@ use native.Mathlib.Omega.{arith}
 use lib.ListN.{length}
 use borrow.Author.Needs.{needs}
 use Rattle.sibling_keys.proofs.Keys.{same-key, keying-places, Keying, keying-start, keying-stop, keying-reads, keying-turn}
-use Rattle.tree.specs.Laid.{part}
+use Rattle.list_laws.specs.Parts.{part}
 use Rattle.sibling_keys.specs.Kids.{keyAt}
 use Rattle.sibling_keys.proofs.store_keys.Statement.{statement}
 use Rattle.sibling_keys.proofs.store_keys.Tie as tie
