@@ -13,6 +13,7 @@ use Rattle.papers.specs.Conditions.{Condition, Answered, Unrefused}
 use Rattle.refusal_laws.specs.Exactly.{Exactly}
 use Rattle.list_laws.proofs.Tests.{below-or}
 use Rattle.job_laws.proofs.Firsts.{refused-passed, first-append-passed, first-append-refused, first-map}
+use Rattle.job_laws.proofs.Outcomes.{outcome-untouched, outcome-zeroed, outcome-done}
 use Rattle.refusal_laws.proofs.Agreements.{Refuses, one-answer, AgreeEach, answered-iff, passed-iff}
 
 -- two outcomes that a statement by conditions allows coincide: answer, and all of each lent slice
@@ -73,20 +74,6 @@ leaving-behind {C} part ts us call h g = go (first ts (part call)) refl
 -- ---- the outcome
 
 module _ {C S : Type 0} (tests : List (C → Verdict)) (done : C → Outcome S) (zeroing : S → S) (call : C) (lent : S) where
-  outcome-done : first tests call ≡ passed → outcome tests done zeroing call lent ≡ done call
-  unfolding outcome
-  outcome-done p = rw (p, outcome)
-
-  outcome-untouched : {a : Answer} → first tests call ≡ refused a untouched
-      → outcome tests done zeroing call lent ≡ record { answer = a; lent = lent }
-  unfolding outcome
-  outcome-untouched p = rw (p, outcome)
-
-  outcome-zeroed : {a : Answer} → first tests call ≡ refused a zeroed
-      → outcome tests done zeroing call lent ≡ record { answer = a; lent = zeroing lent }
-  unfolding outcome
-  outcome-zeroed p = rw (p, outcome)
-
   module _ (conditions : List (Condition C)) (agree : AgreeEach tests conditions call) where
     -- the outcome by the conditions, where a call that passes the tests is done
     pub outcome-exactly : Leaving (first tests call) → (first tests call ≡ passed → done call .answer .number ≡ 0)
@@ -113,7 +100,7 @@ module _ {C S : Type 0} (tests : List (C → Verdict)) (done : C → Outcome S) 
         go : (v : Verdict) → first tests call ≡ v → Exactly conditions call lent (zeroing lent) (done call) (outcome tests done zeroing call lent)
         go passed q =
             let z = finished q in
-            rw (outcome-done q)
+            rw (outcome-done tests done zeroing call lent q)
             (record {
               refused-iff = λ a h. (λ e. absurd (omega (arith, ap (λ (b : Answer). b .number) e)), λ r. absurd (refused-passed (given a .1 r .1) q));
               done-iff = (λ e. none .0 q, λ u. z);
@@ -122,6 +109,9 @@ module _ {C S : Type 0} (tests : List (C → Verdict)) (done : C → Outcome S) 
               zeroed = λ h. absurd (omega arith);
             })
         go (refused b untouched) q =
-            let h = rw q at leaving in rw (outcome-untouched q) (refusal b untouched lent q (h .0) (λ e. refl) (λ e. absurd (omega arith)))
+            let h = rw q at leaving in
+            rw (outcome-untouched tests done zeroing call lent q) (refusal b untouched lent q (h .0) (λ e. refl) (λ e. absurd (omega arith)))
         go (refused b zeroed) q =
-            let h = rw q at leaving in rw (outcome-zeroed q) (refusal b zeroed (zeroing lent) q (omega arith) (λ e. absurd (omega arith)) (λ e. refl))
+            let h = rw q at leaving in
+            rw (outcome-zeroed tests done zeroing call lent q)
+            (refusal b zeroed (zeroing lent) q (omega arith) (λ e. absurd (omega arith)) (λ e. refl))
