@@ -1,7 +1,7 @@
 -- What the listing program prints fits the listing's slice, whatever it reads: a refusal is one short line, and a listing is that of a job of the
 -- program's sizes.
 -- Assumes nothing.
-use Prim.Native.Nat.{ℕ, zero, suc, _≤_}
+use Prim.Native.Nat.{ℕ, _≤_}
 use mathlib.Core.Path.{_≡_, refl, sym, ap, _∙_}
 use mathlib.Core.List.{map}
 use native.Mathlib.Omega.{arith}
@@ -16,8 +16,9 @@ use Rattle.papers.specs.Plan.{planOf}
 use Rattle.papers.specs.Refusals.{answer, untouched, zeroed, Leaves, Verdict, passed, refused, first, Outcome, jobTests}
 use Rattle.papers.specs.Refusals.{Lent, allZero, factorRowsTest}
 use Rattle.papers.specs.Analysis.{AnalysisCall, analysisTests, analysisDone, analysed}
-use Rattle.papers.specs.Text.{textHead, textJob, Input, headTest, textTests, refusalLine, listingOf, buffers, jobPrinted, programPrints}
-use Rattle.list_laws.proofs.Tests.{Test, passes, fails, test}
+use Rattle.papers.specs.Text.{textHead, textJob, Input, textTests, refusalLine, listingOf, buffers, jobPrinted, programPrints}
+use Rattle.text_laws.proofs.LineTests.{head-columns}
+use Rattle.text_laws.proofs.Printed.{refusal-printed, text-refused, text-passed}
 use Rattle.job_laws.proofs.Firsts.{refused-passed, first-passed-iff, first-append-refused, first-map, over-passes-iff}
 use Rattle.job_laws.proofs.Passed.{passes-iff, passed-below}
 use Rattle.job_laws.proofs.Outcomes.{outcome-untouched, outcome-zeroed, outcome-done, job-passes}
@@ -29,15 +30,6 @@ use Rattle.listing_laws.proofs.TextAnswers.{text-small, text-columns}
 refusal-fits : (a : Answer) → Small a → length (refusalLine a) ≤ listingBytes
 refusal-fits a s = omega (arith, refusal-short a (s .1) (s .2) (s .3))
 
--- a refusal prints its line
-line : (job : Job) (a : Answer) → Small a → jobPrinted job a ≡ refusalLine a
-unfolding jobPrinted
-line job a s = go (a .number) refl
-  where
-    go : (m : ℕ) → a .number ≡ m → jobPrinted job a ≡ refusalLine a
-    go zero e = absurd (let p = s .0 in omega arith)
-    go (suc m) e = let q : a ≡ answer (suc m) (a .place) (a .count) = λ i. record { number = e i; place = a .place; count = a .count } in rw q
-
 module _ (input : Input) where
   abbrev job : Job
   job = textJob (input .text)
@@ -47,21 +39,15 @@ module _ (input : Input) where
 
   -- ---- what is printed
 
-  text-refused : {a : Answer} {l : Leaves} → first textTests input ≡ refused a l → programPrints input ≡ refusalLine a
-  unfolding programPrints
-  text-refused e = rw (e, programPrints)
-
-  text-passed : first textTests input ≡ passed → programPrints input ≡ jobPrinted job (analysed job buffers .answer)
-  unfolding programPrints
-  text-passed e = rw (e, programPrints)
-
   job-refused : (a : Answer) (l : Leaves) → first analysisTests call ≡ refused a l → Small a
       → jobPrinted job (analysed job buffers .answer) ≡ refusalLine a
   unfolding analysed
   job-refused a untouched e s =
-      ap (λ (o : Outcome Lent). jobPrinted job (o .answer)) (outcome-untouched analysisTests analysisDone allZero call buffers e) ∙ line job a s
+      ap (λ (o : Outcome Lent). jobPrinted job (o .answer)) (outcome-untouched analysisTests analysisDone allZero call buffers e)
+      ∙ refusal-printed job a (s .0)
   job-refused a zeroed e s =
-      ap (λ (o : Outcome Lent). jobPrinted job (o .answer)) (outcome-zeroed analysisTests analysisDone allZero call buffers e) ∙ line job a s
+      ap (λ (o : Outcome Lent). jobPrinted job (o .answer)) (outcome-zeroed analysisTests analysisDone allZero call buffers e)
+      ∙ refusal-printed job a (s .0)
 
   job-passed : first analysisTests call ≡ passed → jobPrinted job (analysed job buffers .answer) ≡ listingOf job (planOf job .peak)
   unfolding analysed analysisDone jobPrinted
@@ -70,12 +56,8 @@ module _ (input : Input) where
   -- ---- the sizes of a job that is listed
 
   columns-few : first textTests input ≡ passed → textHead (input .text) .n ≤ programColumns
-  unfolding textTests headTest
-  columns-few e = go (test (textHead (input .text) .fine)) (first-passed-iff textTests input .0 e .1 .0)
-    where
-      go : Test (textHead (input .text) .fine) → headTest input ≡ passed → textHead (input .text) .n ≤ programColumns
-      go (passes f) p = over-passes-iff programColumns (textHead (input .text) .n) (answer 26 1 0) untouched .0 (rw (f, headTest) at p)
-      go (fails f) p = absurd (refused-passed refl (rw (f, headTest) at p))
+  unfolding textTests
+  columns-few e = head-columns input (first-passed-iff textTests input .0 e .1 .0)
 
   module _ (e : first analysisTests call ≡ passed) where
     job-passes-all : first jobTests job ≡ passed

@@ -1,9 +1,10 @@
 -- What is printed of an analysis that is done lies in the parts of its slices that hold the steps and the lists of the job's plan.
 -- Assumes nothing.
-use Prim.Native.Nat.{ℕ, zero, suc, _+_}
-use mathlib.Core.Path.{_≡_, refl, sym, ap, _∙_}
+use Prim.Native.Nat.{ℕ, _+_}
+use mathlib.Core.Path.{_≡_, sym, ap, _∙_}
 use mathlib.Core.Logic.{_≢_}
-use mathlib.Core.List.{List, [], _∷_, map}
+use mathlib.Core.List.{List, map}
+use native.Mathlib.Omega.{arith}
 use lib.ListN.{length, getD, take}
 use lib.Seq.{length-take-le}
 use Rattle.papers.specs.declared.Answer.{Answer}
@@ -12,38 +13,30 @@ use Rattle.papers.specs.Job.{Job, Below, pattern}
 use Rattle.papers.specs.Fill.{R}
 use Rattle.papers.specs.Order.{popsOf, orderOf}
 use Rattle.papers.specs.Key.{listsOf}
-use Rattle.papers.specs.Plan.{columnsIn, popsIn, planOf}
+use Rattle.papers.specs.Plan.{planOf}
 use Rattle.papers.specs.Refusals.{answer, passed, first, Outcome, jobTests, Lent}
 use Rattle.papers.specs.Analysis.{analysed}
 use Rattle.papers.specs.Text.{refusalLine, listingOf, jobPrinted}
+use Rattle.text_laws.proofs.Printed.{refusal-printed}
 use Rattle.job_laws.specs.Parts.{Parts}
 use Rattle.job_laws.proofs.Passed.{Passed, passes-iff, passed-below}
+use Rattle.plan_laws.proofs.Steps.{columns-made, pops-made}
 use Rattle.plan_laws.proofs.Analysed.{done-valid, done-parts}
 use Rattle.order.proofs.Ties.{startsOf}
 use Rattle.listing_steps.specs.Steps.{Printable}
 use Rattle.listing_plan.specs.PlanLines.{planLines}
 use Rattle.listing_plan.proofs.Steps.{lines-same, steps-printable}
 
--- ---- the steps of a plan: their columns, and the pops of each
-
-columns-of : (f : ℕ → ℕ) (order : List ℕ) → columnsIn (map (λ j. (j, f j)) order) ≡ order
-columns-of f [] = refl
-columns-of f (j ∷ order) = ap (λ (l : List ℕ). j ∷ l) (columns-of f order)
-
-pops-of : (f : ℕ → ℕ) (order : List ℕ) → popsIn (map (λ j. (j, f j)) order) ≡ map f order
-pops-of f [] = refl
-pops-of f (j ∷ order) = ap (λ (l : List ℕ). f j ∷ l) (pops-of f order)
-
 -- ---- the parts that hold the plan of a job
 
 module _ (job : Job) {order pops starts rows : List ℕ} (parts : Parts (job .n) (planOf job) order pops starts rows) where
   order-is : take (job .n) order ≡ orderOf (job .mark) (job .n) (pattern job)
   unfolding planOf
-  order-is = parts .columns ∙ columns-of (popsOf (job .n) (pattern job)) (orderOf (job .mark) (job .n) (pattern job))
+  order-is = parts .columns ∙ columns-made (popsOf (job .n) (pattern job)) (orderOf (job .mark) (job .n) (pattern job))
 
   pops-is : take (job .n) pops ≡ map (popsOf (job .n) (pattern job)) (orderOf (job .mark) (job .n) (pattern job))
   unfolding planOf
-  pops-is = parts .popped ∙ pops-of (popsOf (job .n) (pattern job)) (orderOf (job .mark) (job .n) (pattern job))
+  pops-is = parts .popped ∙ pops-made (popsOf (job .n) (pattern job)) (orderOf (job .mark) (job .n) (pattern job))
 
   starts-is : take (job .n + 1) starts ≡ startsOf (job .n) (pattern job)
   unfolding planOf
@@ -78,12 +71,7 @@ module _ (job : Job) (lent : Lent) {r : Answer} {after : Lent} (e : _≡_ {A = O
 
     -- its refusal's line
     pub refused-printed : r .number ≢ 0 → jobPrinted job (analysed job lent .answer) ≡ refusalLine r
-    unfolding jobPrinted
-    refused-printed z = ap (jobPrinted job) answer-is ∙ go (r .number) refl
-      where
-        go : (m : ℕ) → r .number ≡ m → jobPrinted job r ≡ refusalLine r
-        go zero q = absurd (z q)
-        go (suc m) q = let w : r ≡ answer (suc m) (r .place) (r .count) = λ i. record { number = q i; place = r .place; count = r .count } in rw w
+    refused-printed z = ap (jobPrinted job) answer-is ∙ refusal-printed job r (omega arith)
 
     listing-printed : r .number ≡ 0 → jobPrinted job r ≡ listingOf job (r .count)
     unfolding jobPrinted

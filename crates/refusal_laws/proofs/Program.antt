@@ -1,7 +1,7 @@
 -- The listing program prints the line of a refusal exactly where its conditions give that refusal, and else the listing: text and analysis are tested
 -- one after the other, and no two of these outcomes print the same.
 -- Assumes nothing.
-use Prim.Native.Nat.{ℕ, zero, suc, _<_}
+use Prim.Native.Nat.{_<_}
 use mathlib.Core.Path.{_≡_, refl, sym, ap, _∙_}
 use mathlib.Core.Logic.{_↔_}
 use mathlib.Core.List.{List, [], _∷_, _++_, map}
@@ -10,13 +10,13 @@ use lib.ListN.{length}
 use Rattle.papers.specs.declared.Answer.{Answer}
 use Rattle.papers.specs.Bounds.{listingBytes}
 use Rattle.papers.specs.Lists.{zeros}
-use Rattle.papers.specs.Job.{Job}
 use Rattle.papers.specs.Refusals.{answer, Leaves, untouched, zeroed, Verdict, passed, refused, first, Outcome, Lent}
-use Rattle.papers.specs.Analysis.{analysisTests, analysisDone, analysed}
-use Rattle.papers.specs.Text.{Input, textJob, textTests, refusalLine, buffers, jobPrinted, programPrints, ListingCall}
+use Rattle.papers.specs.Analysis.{analysisTests, analysisDone}
+use Rattle.papers.specs.Text.{Input, textJob, textTests, refusalLine, jobPrinted, programPrints, ListingCall}
 use Rattle.papers.specs.Text.{listingTests, listingDone, listed}
 use Rattle.papers.specs.Conditions.{Answered, Unrefused, analysisConditions, textConditions, programAnalysis}
 use Rattle.papers.specs.Conditions.{programConditions, programListing, ListingShort}
+use Rattle.text_laws.proofs.Printed.{refusal-printed, text-refused, text-passed}
 use Rattle.job_laws.proofs.Firsts.{refused-passed, first-append-passed, first-append-refused, first-map, first-each}
 use Rattle.refusal_laws.specs.Exactly.{Exactly}
 use Rattle.refusal_laws.proofs.Agreements.{Refuses, one-answer, AgreeEach, _▸_, answered-iff, passed-iff}
@@ -33,14 +33,6 @@ numbered : (a : Answer) (l : Leaves) → Leaving (refused a l) → 0 < a .number
 numbered a untouched h = h .0
 numbered a zeroed h = omega arith
 
-job-refusal : (job : Job) (a : Answer) → 0 < a .number → jobPrinted job a ≡ refusalLine a
-unfolding jobPrinted
-job-refusal job a h = go (a .number) refl
-  where
-    go : (m : ℕ) → a .number ≡ m → jobPrinted job a ≡ refusalLine a
-    go zero e = absurd (omega arith)
-    go (suc m) e = let q : a ≡ answer (suc m) (a .place) (a .count) = λ i. record { number = e i; place = a .place; count = a .count } in rw q
-
 module _ (input : Input) where
   -- the tests of the program, one after the other
   programTests : List (Input → Verdict)
@@ -52,15 +44,6 @@ module _ (input : Input) where
       append-agree textTests _ textConditions _ input (text-agree input) (λ p. part-agree programAnalysis analysisTests analysisConditions input
       (analysis-agree (programAnalysis input)))
 
-  text-refused : {a : Answer} {l : Leaves} → first textTests input ≡ refused a l → programPrints input ≡ refusalLine a
-  unfolding programPrints
-  text-refused e = rw (e, programPrints)
-
-  text-passed : first textTests input ≡ passed
-      → programPrints input ≡ jobPrinted (textJob (input .text)) (analysed (textJob (input .text)) buffers .answer)
-  unfolding programPrints
-  text-passed e = rw (e, programPrints)
-
   prints-refusal : {a : Answer} {l : Leaves} → first programTests input ≡ refused a l → programPrints input ≡ refusalLine a
   unfolding programTests
   prints-refusal {a} {l} e = go (first textTests input) refl
@@ -70,9 +53,10 @@ module _ (input : Input) where
           let r = sym (first-map programAnalysis analysisTests input) ∙ sym (first-append-passed textTests _ input q) ∙ e in
           let n = numbered a l (rw r at (analysis-leaving (programAnalysis input))) in
           let given = answered-iff analysisTests analysisConditions (programAnalysis input) (analysis-agree (programAnalysis input)) a .0 (l, r) in
-          text-passed q ∙ ap (jobPrinted (textJob (input .text))) (analyse-exactly (programAnalysis input) .refused-iff a n .1 given) ∙ job-refusal
-          (textJob (input .text)) a n
-      go (refused b m) q = text-refused q ∙ ap refusalLine (one-answer (first-append-refused textTests _ input q) e)
+          text-passed input q
+          ∙ ap (jobPrinted (textJob (input .text))) (analyse-exactly (programAnalysis input) .refused-iff a n .1 given)
+          ∙ refusal-printed (textJob (input .text)) a n
+      go (refused b m) q = text-refused input q ∙ ap refusalLine (one-answer (first-append-refused textTests _ input q) e)
 
   prints-listing : first programTests input ≡ passed → programPrints input ≡ programListing input
   unfolding programTests analysisDone jobPrinted
@@ -83,7 +67,7 @@ module _ (input : Input) where
           let r = sym (first-map programAnalysis analysisTests input) ∙ sym (first-append-passed textTests _ input q) ∙ p in
           let exact = analyse-exactly (programAnalysis input) in
           let none = passed-iff analysisTests analysisConditions (programAnalysis input) (analysis-agree (programAnalysis input)) .0 r in
-          text-passed q ∙ ap (λ (o : Outcome Lent). jobPrinted (textJob (input .text)) (o .answer)) (exact .when-done (exact .done-iff .1 none))
+          text-passed input q ∙ ap (λ (o : Outcome Lent). jobPrinted (textJob (input .text)) (o .answer)) (exact .when-done (exact .done-iff .1 none))
       go (refused b m) q = absurd (refused-passed (first-append-refused textTests _ input q) p)
 
   -- a line of refusal is printed exactly where the conditions give that refusal

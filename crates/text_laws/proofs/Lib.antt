@@ -5,3 +5,5 @@ pub mod Lines
 pub mod Words
 pub mod Numbers
 pub mod ByWords
+pub mod LineTests
+pub mod Printed

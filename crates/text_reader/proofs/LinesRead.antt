@@ -23,7 +23,8 @@ use Rattle.text_lines.specs.declared.Line.the-variants.{Rows}
 use Rattle.text_reader.specs.declared.Lines.{Lines}
 use Rattle.text_reader.specs.declared.Lines.the-variants as lines
 use Rattle.text_reader.specs.Reading.{columnLists, LinesTold, all-lines, bad-lines}
-use Rattle.text_reader.proofs.Tests.{lists-none, lists-more, length-lists, line-bad, line-over, line-fine, lines-refuse}
+use Rattle.text_laws.proofs.LineTests.{line-bad, line-over, line-fine}
+use Rattle.text_reader.proofs.Tests.{lists-none, lists-more, length-lists, lines-refuse}
 use Rattle.text_reader.proofs.Tests.{end-refuses, end-passes}
 use Rattle.text_reader.proofs.RowLines.{RowLine}
 

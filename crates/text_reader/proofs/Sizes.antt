@@ -9,23 +9,15 @@ use lib.ListN.{length}
 use borrow.Author.Tests.{ltb-false}
 use Rattle.papers.specs.Bounds.{programColumns, programRows}
 use Rattle.papers.specs.Lists.{least, flat}
-use Rattle.papers.specs.Refusals.{answer, untouched, passed, first}
-use Rattle.papers.specs.Text.{Input, numbersAt, isRowLine, textHead, textLists, textJob, lineFault, headTest, rowLinesTest, textTests}
+use Rattle.papers.specs.Refusals.{passed, first}
+use Rattle.papers.specs.Text.{Input, numbersAt, isRowLine, textHead, textLists, textJob, lineFault, rowLinesTest, textTests}
 use Rattle.list_laws.proofs.Leasts.{least-zero-iff}
 use Rattle.list_laws.proofs.Stores.{length-starts}
 use Rattle.list_laws.proofs.Tests.{below-or, Test, passes, fails, test}
 use Rattle.job_laws.proofs.Faults.{faulty}
-use Rattle.job_laws.proofs.Firsts.{refused-passed, first-passed-iff, over-passes-iff}
-use Rattle.text_reader.proofs.Tests.{lists-none, length-lists, line-bad, line-over}
-
--- a head that passes
-columns-fit : (input : Input) → headTest input ≡ passed → textHead (input .text) .n ≤ programColumns
-unfolding headTest
-columns-fit input e = go (test (textHead (input .text) .fine))
-  where
-    go : Test (textHead (input .text) .fine) → textHead (input .text) .n ≤ programColumns
-    go (passes f) = over-passes-iff programColumns (textHead (input .text) .n) (answer 26 1 0) untouched .0 (rw (f, headTest) at e)
-    go (fails f) = absurd (refused-passed refl (rw (f, headTest) at e))
+use Rattle.job_laws.proofs.Firsts.{refused-passed, first-passed-iff}
+use Rattle.text_laws.proofs.LineTests.{head-columns, line-bad, line-over}
+use Rattle.text_reader.proofs.Tests.{lists-none, length-lists}
 
 -- lines of rows that pass
 lines-fine : (input : Input) → rowLinesTest input ≡ passed → least (faulty (lineFault (input .text))) (textHead (input .text) .n) ≡ 0
@@ -63,7 +55,7 @@ passed-sizes input e =
     let each = first-passed-iff textTests input .0 e in
     let n = textHead (input .text) .n in
     record {
-      columns = columns-fit input (each .1 .0);
+      columns = head-columns input (each .1 .0);
       starts = length-starts 0 (textLists (input .text) n) ∙ ap (λ (m : ℕ). m + 1) (length-lists (input .text) n);
       rows = rows-fit (input .text) n (lines-fine input (each .1 .1 .0));
     }

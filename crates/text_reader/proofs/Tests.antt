@@ -1,18 +1,16 @@
--- The tests of a text's lines, one by one: the line of a column by its numbers and the rows so far, the lines by the first at fault, the end by what
--- is left.
+-- The lists that a text's lines name, one column more by one line more; and the tests of its lines by the first at fault, and of its end by what is
+-- left.
 -- Assumes nothing.
 use Prim.Native.Nat.{ℕ, suc, _+_, _<_, _≤_}
 use mathlib.Core.Path.{_≡_, refl, _∙_}
-use mathlib.Core.Bool.{true, false}
 use mathlib.Core.List.{List, [], _∷_, _++_, map-append}
 use native.Mathlib.Omega.{arith}
 use native.Mathlib.Numerals.{add-two}
 use lib.ListN.{length, length-map}
-use borrow.Author.Tests.{lt-ltb, le-ltb}
-use Rattle.papers.specs.Bounds.{programRows}
-use Rattle.papers.specs.Lists.{least, upTo, flat}
+use borrow.Author.Tests.{lt-ltb}
+use Rattle.papers.specs.Lists.{least, upTo}
 use Rattle.papers.specs.Refusals.{answer, untouched, passed, refused, first}
-use Rattle.papers.specs.Text.{numbersAt, isRowLine, rowsOfLine, afterLines, textHead, textLists, lineFault, rowLinesTest, endTest}
+use Rattle.papers.specs.Text.{numbersAt, rowsOfLine, afterLines, textHead, textLists, lineFault, rowLinesTest, endTest}
 use Rattle.list_laws.proofs.Leasts.{least-here}
 use Rattle.list_laws.proofs.UpTo.{length-upTo}
 use Rattle.job_laws.proofs.Faults.{faulty}
@@ -34,22 +32,6 @@ module _ (text : List ℕ) where
   pub length-lists : (j : ℕ) → length (textLists text j) ≡ j
   unfolding textLists
   length-lists j = length-map (upTo j) (λ i. rowsOfLine (numbersAt text (suc i))) ∙ length-upTo j
-
-  -- ---- the line of column j
-
-  module _ (j : ℕ) where
-    pub line-bad : isRowLine (numbersAt text (suc j)) ≡ false → lineFault text j ≡ 25
-    unfolding lineFault
-    line-bad e = rw (e, lineFault)
-
-    module _ (e : isRowLine (numbersAt text (suc j)) ≡ true) where
-      pub line-over : programRows < length (flat (textLists text j)) → lineFault text j ≡ 26
-      unfolding lineFault
-      line-over h = rw (e, lt-ltb programRows (length (flat (textLists text j))) h, lineFault)
-
-      pub line-fine : length (flat (textLists text j)) ≤ programRows → lineFault text j ≡ 0
-      unfolding lineFault
-      line-fine h = rw (e, le-ltb programRows (length (flat (textLists text j))) h, lineFault)
 
   -- ---- the lines, and the end
 
