@@ -10,7 +10,7 @@ use native.Mathlib.Omega.{arith}
 use lib.Dec.{leb}
 use lib.ListN.{length, getD, take, drop, take-append-drop, length-take}
 use lib.Seq.{take-at, length-take-le, getD-take, ext-getD}
-use borrow.Author.Tests.{leb-true, le-leb, eqb-true, eq-eqb}
+use borrow.Author.Tests.{leb-true, le-leb, eqb-true, eq-eqb, not-false}
 use Rattle.papers.specs.Bounds.{maxGroups}
 use Rattle.papers.specs.Lists.{least}
 use Rattle.papers.specs.Numbers.{encode}
@@ -19,7 +19,7 @@ use Rattle.papers.specs.Plan.{Plan, planNumbers, planBytes, got}
 use Rattle.papers.specs.Refusals.{zeroed, passed, refusedAt}
 use Rattle.papers.specs.Check.{CheckCall, keyDiffers, keyTest, planRead}
 use Rattle.papers.specs.Conditions.{Agrees}
-use Rattle.list_laws.proofs.Tests.{Test, passes, fails, test, true-false, not-false}
+use Rattle.list_laws.proofs.Tests.{Test, passes, fails, test, true-false}
 use Rattle.list_laws.proofs.Leasts.{least-zero-iff}
 use Rattle.bytes_laws.proofs.Fields.{spans-end, spans-to-end}
 use Rattle.bytes_laws.proofs.Plans.{Fit, plan-back, plan-only}

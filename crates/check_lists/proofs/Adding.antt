@@ -11,7 +11,7 @@ use lib.Dec.{eqb}
 use lib.ListN.{length, getD, take, drop, take-append-drop}
 use borrow.Author.Tests.{eqb-true, eq-eqb}
 use Rattle.papers.specs.Lists.{_∈_, Asc, keep, every, same, merge}
-use Rattle.list_laws.proofs.Tests.{Test, passes, fails, test, true-false, and-both}
+use Rattle.list_laws.proofs.Tests.{Test, passes, fails, test, true-false, and-iff}
 use Rattle.list_laws.proofs.Ascending.{asc-above, asc-distinct, asc-ext}
 use Rattle.list_laws.proofs.Counts.{distinct-append}
 use Rattle.list_laws.proofs.Keeps.{keep-from, keep-into, keep-asc}
@@ -86,7 +86,7 @@ module _ (n j : ℕ) (w own more list : List ℕ) (marks : MarkedAre n j w own) 
       go (passes e) (passes q) = e ∙ sym q
       go (fails e) (fails q) = e ∙ sym q
       go (passes e) (fails q) =
-          let b = and-both (eqb (length (keep (isMarked n j w) list)) (length own)) (every (isMarked n j w) (drop (length more) list)) e in
+          let b = and-iff (eqb (length (keep (isMarked n j w) list)) (length own)) (every (isMarked n j w) (drop (length more) list)) .0 e in
           let is = joined-is (eqb-true (length (keep (isMarked n j w) list)) (length own) (b .0)) (b .1) sm in
           absurd (true-false (ap (λ (x : List ℕ). same x (merge own more)) is ∙ same-refl (merge own more)) q)
       go (fails e) (passes q) =

@@ -9,9 +9,9 @@ use mathlib.Core.List.{List·Memᴰ·cases-cons, List·Memᴰ·append-cases, Mem
 use native.Mathlib.Omega.{arith}
 use lib.ListN.{length, getD, set, length-set, length-append}
 use lib.Seq.{getD-set-same}
-use borrow.Author.Tests.{eqb-true}
+use borrow.Author.Tests.{eqb-true, not-false}
 use Rattle.papers.specs.Lists.{_∈_, Asc, merge}
-use Rattle.list_laws.proofs.Tests.{Test, passes, fails, test, true-false, not-false}
+use Rattle.list_laws.proofs.Tests.{Test, passes, fails, test, true-false}
 use Rattle.list_laws.proofs.Ascending.{asc-above, asc-distinct}
 use Rattle.list_laws.proofs.Counts.{same-length, distinct-join}
 use Rattle.list_laws.proofs.Keeps.{keep-from, keep-into, keep-distinct}

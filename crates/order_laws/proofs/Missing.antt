@@ -6,9 +6,9 @@ use mathlib.Core.Logic.{_≢_}
 use mathlib.Core.Bool.{true, false}
 use mathlib.Core.List.{List, _∷_}
 use native.Mathlib.Omega.{arith}
-use borrow.Author.Tests.{ne-eqb}
+use borrow.Author.Tests.{ne-eqb, not-true}
 use Rattle.papers.specs.Lists.{_∈_, member}
-use Rattle.list_laws.proofs.Tests.{true-false, not-true}
+use Rattle.list_laws.proofs.Tests.{true-false}
 use Rattle.list_laws.proofs.Members.{member-into, member-out}
 use Rattle.order_laws.specs.Stack.{missing}
 

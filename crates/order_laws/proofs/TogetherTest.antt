@@ -10,12 +10,12 @@ use native.Mathlib.Omega.{arith}
 use lib.Dec.{leb}
 use lib.ListN.{length}
 use lib.Seq.{slice, length-slice}
-use borrow.Author.Tests.{leb-true, le-leb}
+use borrow.Author.Tests.{leb-true, le-leb, not-false}
 use Rattle.papers.specs.Lists.{_∈_, Distinct, every}
 use Rattle.papers.specs.Tree.{Under, top, isUnder, subtreeOf}
 use Rattle.papers.specs.Order.{columnAt, Together}
 use Rattle.papers.specs.Check.{scattered}
-use Rattle.list_laws.proofs.Tests.{not-false, and-both}
+use Rattle.list_laws.proofs.Tests.{and-iff}
 use Rattle.list_laws.proofs.Every.{every-all}
 use Rattle.list_laws.proofs.Counts.{same-length, all-there}
 use Rattle.order_laws.specs.Parents.{Tree}
@@ -73,7 +73,7 @@ module _ {par : ℕ → ℕ} {n : ℕ} (tree : Tree par n) (order : List ℕ) (e
       (slice (s - length (subtreeOf par n (columnAt order s))) s order)) ≡ true) ↔ Together par order s
   unfolding j w
   together-test = (
-    λ e. let (a, b) = and-both (leb w s) (every (isUnder par n j) (slice (s - w) s order)) e in
+    λ e. let (a, b) = and-iff (leb w s) (every (isUnder par n j) (slice (s - w) s order)) .0 e in
         piece-together par order s l u once (test-piece (leb-true w s a) b),
     λ t. let (a, b) = piece-test (together-piece par order s l u (λ x v. each x .1 (under-range tree j x (range .0) (range .1) v)) t) in
         rw (le-leb w s a) b,

@@ -10,7 +10,7 @@ use native.Mathlib.Omega.{arith}
 use lib.Dec.{eqb, ltb}
 use lib.ListN.{length, getD, length-map}
 use lib.Seq.{ext-getD}
-use borrow.Author.Tests.{eqb-true, eq-eqb, ltb-false, le-ltb}
+use borrow.Author.Tests.{eqb-true, eq-eqb, ltb-false, le-ltb, not-false}
 use Rattle.papers.specs.Lists.{_∈_, Distinct, same, least}
 use Rattle.papers.specs.Job.{Job, Below, pattern}
 use Rattle.papers.specs.Fill.{R}
@@ -21,7 +21,6 @@ use Rattle.papers.specs.Plan.{Plan, columnsIn, popsIn}
 use Rattle.papers.specs.Refusals.{zeroed, passed, refusedAt, peakTest}
 use Rattle.papers.specs.Check.{repeatTest, listTest, scattered, subtreeTest, popsTest, truePeak, declaredTest}
 use Rattle.papers.specs.Sound.{Sound}
-use Rattle.list_laws.proofs.Tests.{not-false}
 use Rattle.list_laws.proofs.Leasts.{least-zero-iff}
 use Rattle.list_laws.proofs.Members.{same-true, same-refl}
 use Rattle.bytes_laws.proofs.Plans.{Fit}

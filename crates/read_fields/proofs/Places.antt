@@ -16,12 +16,6 @@ none-left h = omega arith
 pub fewer : (x y : ℕ) → 0 < x - y → x - y - 1 < x
 fewer x y h = omega arith
 
-pub one-less : {x : ℕ} → 0 < x → x - 1 < x
-one-less h = omega arith
-
-pub nearer : {i m : ℕ} → i < m → m - (i + 1) < m - i
-nearer h = omega arith
-
 -- a place inside a slice, and the one behind it
 module _ {l : ℕ} (machine : l < 2 ^ 64) where
   pub inside-fits : {k : ℕ} → k ≤ l → Fits w64 k

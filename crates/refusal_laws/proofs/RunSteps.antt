@@ -14,11 +14,10 @@ use Rattle.papers.specs.Order.{columnAt}
 use Rattle.papers.specs.Refusals.{answer, zeroed, refusedAt}
 use Rattle.papers.specs.Run.{RunCall, rowsIn, popsAt, roomIn, fits, stepFault, stateAfter, faultAt, stepsTest, stepColumn, heldAt}
 use Rattle.papers.specs.Conditions.{Known, AllFit, StepFault, unknown-column, too-many-pops, row-outside, over-room, BadStep}
-use Rattle.list_laws.proofs.Tests.{Test, passes, fails, test, and-both}
+use Rattle.list_laws.proofs.Tests.{Test, passes, fails, test, and-iff}
 use Rattle.list_laws.proofs.Members.{member-true, member-into}
 use Rattle.list_laws.proofs.Every.{every-all}
 use Rattle.refusal_laws.proofs.Agreements.{Agree}
-use Rattle.refusal_laws.proofs.Exactly.{_&_}
 use Rattle.refusal_laws.proofs.Tests.{below-iff, fails-iff, Faults, agree-faults}
 
 -- the fault by four tests in turn
@@ -48,7 +47,7 @@ module _ (call : RunCall) where
     known-iff : (known ≡ true) ↔ Known call s
     unfolding known
     known-iff = (
-      λ e. let (a, b) = and-both (leb 1 (stepColumn call s)) (leb (stepColumn call s) (call .n)) e in
+      λ e. let (a, b) = and-iff (leb 1 (stepColumn call s)) (leb (stepColumn call s) (call .n)) .0 e in
           (leb-true 1 (stepColumn call s) a, leb-true (stepColumn call s) (call .n) b),
       λ h. rw (le-leb 1 (stepColumn call s) (h .0)) (le-leb (stepColumn call s) (call .n) (h .1)),
     )

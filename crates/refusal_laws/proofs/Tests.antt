@@ -6,12 +6,12 @@ use mathlib.Core.Logic.{_↔_, _⊎_, inl, inr, _≢_}
 use mathlib.Core.Bool.{Bool, true, false, not, _||_}
 use native.Mathlib.Omega.{arith}
 use lib.Dec.{ltb, eqb}
-use borrow.Author.Tests.{ltb-true, lt-ltb, eqb-true, eq-eqb}
+use borrow.Author.Tests.{ltb-true, lt-ltb, eqb-true, eq-eqb, not-true}
 use Rattle.papers.specs.declared.Answer.{Answer}
 use Rattle.papers.specs.Lists.{least}
 use Rattle.papers.specs.Refusals.{answer, Leaves, Verdict, passed, refused, refusedIf, refusedAt}
 use Rattle.papers.specs.Conditions.{Least}
-use Rattle.list_laws.proofs.Tests.{Test, passes, fails, test, true-false, not-true}
+use Rattle.list_laws.proofs.Tests.{Test, passes, fails, test, true-false}
 use Rattle.list_laws.proofs.Leasts.{least-zero-iff, least-found-iff}
 use Rattle.job_laws.proofs.Firsts.{refused-passed, refused-if, passed-if}
 use Rattle.refusal_laws.proofs.Agreements.{Refuses, Agree, agree-same, agree-by}

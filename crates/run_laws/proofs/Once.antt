@@ -8,9 +8,9 @@ use mathlib.Core.List.{List, [], _∷_, List·Memᴰ·head, List·Memᴰ·tail, 
 use native.Mathlib.Omega.{arith}
 use lib.Dec.{eqb}
 use lib.ListN.{length}
-use borrow.Author.Tests.{eqb-true, eqb-false}
+use borrow.Author.Tests.{eqb-true, eqb-false, not-true}
 use Rattle.papers.specs.Lists.{_∈_, Distinct, keep}
-use Rattle.list_laws.proofs.Tests.{Test, passes, fails, test, not-true}
+use Rattle.list_laws.proofs.Tests.{Test, passes, fails, test}
 use Rattle.list_laws.proofs.Ascending.{drop-head}
 use Rattle.list_laws.proofs.Keeps.{keep-from, keep-into, keep-distinct}
 use Rattle.list_laws.proofs.Counts.{distinct-length}

@@ -8,12 +8,11 @@ use mathlib.Core.List.{List, [], _∷_, _++_}
 use native.Mathlib.Omega.{arith}
 use native.Mathlib.Nat.{pow-le-pow-right}
 use lib.ListN.{length, length-append}
-use borrow.Author.Tests.{le-leb, leb-true, eqb-false, ne-eqb}
+use borrow.Author.Tests.{le-leb, leb-true, eqb-false, ne-eqb, not-true}
 use Rattle.papers.specs.Bounds.{maxDigits}
 use Rattle.papers.specs.Text.{digit, isDecimal, valueOf, decimalOf}
-use Rattle.list_laws.proofs.Tests.{below-or, true-false, not-true}
+use Rattle.list_laws.proofs.Tests.{below-or, true-false, and-iff}
 use Rattle.text_laws.specs.Grammar.{Short, Decimal}
-use Rattle.text_laws.proofs.Parts.{and-iff}
 use Rattle.text_laws.proofs.Decimals.{decimal-small, decimal-more, decimal-each, digit-iff, digits-iff, decimal-digits}
 use Rattle.text_laws.proofs.Decimals.{decimal-value, digits-behind, value-below}
 

@@ -11,9 +11,9 @@ use lib.ListN.{length}
 use borrow.Author.Tests.{lt-ltb, le-ltb, le-leb, leb-true}
 use Rattle.papers.specs.Lists.{every}
 use Rattle.papers.specs.Text.{digit, isDigit, valueOf, digitsOf, decimalOf}
-use Rattle.list_laws.proofs.Tests.{below-or, strong}
+use Rattle.list_laws.proofs.Tests.{below-or, strong, and-iff}
 use Rattle.text_laws.specs.Grammar.{All, Digit}
-use Rattle.text_laws.proofs.Parts.{and-iff, all-append, all-map, every-iff}
+use Rattle.text_laws.proofs.Parts.{all-append, all-map, every-iff}
 
 -- ---- the digits of a number
 

@@ -9,9 +9,9 @@ use mathlib.Core.List.{List, [], _∷_, _++_, append-assoc, map}
 use native.Mathlib.Omega.{arith}
 use Rattle.papers.specs.Text.{newline, Cut, line, unended, cut, afterLines, wordsOf, isDecimal, allDecimal, valueOf}
 use Rattle.papers.specs.Text.{numbersOf, numbersAt, decimalOf, printed}
-use Rattle.list_laws.proofs.Tests.{Test, passes, fails, test}
+use Rattle.list_laws.proofs.Tests.{Test, passes, fails, test, and-iff}
 use Rattle.text_laws.specs.Grammar.{All, Digit, InWord, InLine, Short, spaced}
-use Rattle.text_laws.proofs.Parts.{and-iff, all-append, all-map}
+use Rattle.text_laws.proofs.Parts.{all-append, all-map}
 use Rattle.text_laws.proofs.Decimals.{decimal-digits}
 use Rattle.text_laws.proofs.DecimalWords.{decimal-iff}
 use Rattle.text_laws.proofs.Lines.{cut-iff}

@@ -3,16 +3,11 @@
 use Prim.Native.Nat.{ℕ}
 use mathlib.Core.Path.{_≡_, refl}
 use mathlib.Core.Logic.{_↔_}
-use mathlib.Core.Bool.{Bool, true, false, _&&_}
+use mathlib.Core.Bool.{Bool, true}
 use mathlib.Core.List.{List, [], _∷_, _++_}
 use Rattle.papers.specs.Lists.{every}
 use Rattle.text_laws.specs.Grammar.{All}
 use Rattle.list_laws.proofs.Tests.{Test, passes, fails, test, true-false}
-
--- both tests pass
-pub and-iff : (a b : Bool) → ((a && b) ≡ true) ↔ ((a ≡ true) × (b ≡ true))
-and-iff true b = (λ e. (refl, e), λ h. h .1)
-and-iff false b = (λ e. absurd (true-false e refl), λ h. absurd (true-false (h .0) refl))
 
 pub all-append : {A : Type 0} (P : A → Type 0) (xs ys : List A) → All P xs → All P ys → All P (xs ++ ys)
 all-append P [] ys p q = q

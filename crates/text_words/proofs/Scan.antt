@@ -12,10 +12,10 @@ use native.Mathlib.Numerals.{add-one}
 use lib.Dec.{leb, eqb}
 use lib.ListN.{length, getD, take, drop, length-drop}
 use lib.Seq.{take-suc, getD-take, getD-drop, length-take-le}
-use borrow.Author.Tests.{le-leb, lt-leb, eqb-true, eqb-false}
+use borrow.Author.Tests.{le-leb, lt-leb, eqb-true, eqb-false, not-true, not-false}
 use Rattle.papers.specs.Bounds.{maxDigits}
 use Rattle.papers.specs.Text.{isDigit, isDecimal, valueOf}
-use Rattle.list_laws.proofs.Tests.{below-or, Test, passes, fails, test, true-false, not-true, not-false}
+use Rattle.list_laws.proofs.Tests.{below-or, Test, passes, fails, test, true-false}
 use Rattle.text_laws.specs.Grammar.{Digit, Decimal}
 use Rattle.text_laws.proofs.Parts.{all-append}
 use Rattle.text_laws.proofs.Decimals.{value-append, value-below, digit-iff}

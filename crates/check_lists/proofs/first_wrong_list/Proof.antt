@@ -4,8 +4,8 @@ use Prim.Native.Nat.{_-_}
 use mathlib.Core.Path.{sym, _∙_}
 use native.Mathlib.Omega.{arith}
 use denote.Ref.{now}
+use borrow.Author.Tests.{not-true, not-false}
 use Rattle.papers.specs.Job.{columnOf}
-use Rattle.list_laws.proofs.Tests.{not-true, not-false}
 use Rattle.column_laws.proofs.Columns.{tested-below}
 use Rattle.check_lists.proofs.Plans.{plan-part, plan-fits}
 use Rattle.check_lists.proofs.Passing.{Passing, pass-begin, long-p, pass-all, pass-wrong, pass-hangable, pass-on}

@@ -2,13 +2,14 @@
 -- Assumes nothing.
 use mathlib.Core.Path.{refl}
 use native.Mathlib.Nat.{lt-of-le-of-lt, lt-of-lt-of-le}
+use borrow.Author.Count.{falls-down}
 use borrow.Author.Needs.{needs}
 use mir.Facts.{fits-bits}
 use native.Mathlib.Omega.{arith}
 use Rattle.read_fields.specs.Reading.{refuses}
 use Rattle.read_rows.specs.Rows.{RowsRead}
 use Rattle.read_fields.proofs.Answers.{field-refused, field-found}
-use Rattle.read_fields.proofs.Places.{next-fits, none-left, one-less}
+use Rattle.read_fields.proofs.Places.{next-fits, none-left}
 use Rattle.read_rows.proofs.Rows.{rows-start, rows-one, rows-both, rows-long, rows-paced, row-narrow}
 use Rattle.read_lists.proofs.Lists.{rows-fault, rows-stop}
 use Rattle.read_lists.proofs.read_rows.Statement.{statement}
@@ -76,7 +77,7 @@ sub-left : tie.Need-sub-left Inv-loop μ-loop
 sub-left c = in-loop (search) .loop-test .taken
 
 loop-less : tie.Need-loop-less Inv-loop μ-loop
-loop-less c = one-less (in-loop (search) .loop-test .taken)
+loop-less c = falls-down _ (in-loop (search) .loop-test .taken)
 
 loop-again : tie.Need-loop-again Inv-loop μ-loop
 loop-again c =

@@ -3,10 +3,11 @@
 -- Assumes nothing.
 use Prim.Native.Nat.{_-_}
 use native.Mathlib.Nat.{le-of-lt, lt-of-lt-of-le, pos-of-ne-zero}
+use borrow.Author.Count.{falls}
 use borrow.Author.Needs.{needs}
 use mir.Facts.{fits-bits}
 use native.Mathlib.Omega.{arith}
-use Rattle.read_fields.proofs.Places.{before-end, bytes-fit, count-fits, inside-fits, nearer}
+use Rattle.read_fields.proofs.Places.{before-end, bytes-fit, count-fits, inside-fits}
 use Rattle.read_rows.specs.Rows.{ShortRead}
 use Rattle.read_rows.proofs.Short.{short-start, short-long, short-narrow, short-place, short-gap, short-turn}
 use Rattle.read_rows.proofs.short_rows.Statement.{statement}
@@ -83,7 +84,7 @@ add-i : tie.Need-add-i Inv-loop μ-loop
 add-i c = count-fits _ (in-loop (search) .loop-test .taken) (after-most-short (search) .most-short .ensures .1) (omega (arith, entry (search) .good))
 
 loop-less : tie.Need-loop-less Inv-loop μ-loop
-loop-less c = nearer (in-loop (search) .loop-test .taken)
+loop-less c = falls _ _ (in-loop (search) .loop-test .taken)
 
 loop-again : tie.Need-loop-again Inv-loop μ-loop
 loop-again c =

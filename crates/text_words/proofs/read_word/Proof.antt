@@ -2,7 +2,7 @@
 -- Assumes nothing.
 use mathlib.Core.Path.{refl, sym, _∙_}
 use borrow.Author.Needs.{needs}
-use Rattle.list_laws.proofs.Tests.{not-true, not-false}
+use borrow.Author.Tests.{not-true, not-false}
 use Rattle.text_words.specs.Words.{more, last, bad}
 use Rattle.text_words.proofs.Numbers.{number-here, none-ended, none-bad, none-other}
 use Rattle.text_words.proofs.read_word.Statement.{statement}
