@@ -11,7 +11,7 @@ use Rattle.papers.specs.Job.{Pattern, Below}
 use Rattle.papers.specs.Fill.{R}
 use Rattle.list_laws.proofs.Ascending.{asc-above, asc-distinct}
 use Rattle.list_laws.proofs.Merges.{nil-merge}
-use Rattle.fill_laws.proofs.Fill.{R-range, R-pattern}
+use Rattle.fill_laws.proofs.Fill.{R-range}
 use Rattle.column_laws.proofs.Chains.{chain-end}
 use Rattle.linked_children.specs.Children.{Child, handedOn, Siblings}
 use Rattle.linked_children.proofs.Picking.{Further, further, siblings-ext}
@@ -20,8 +20,9 @@ use Rattle.child_lists.specs.Joining.{Makes}
 use Rattle.child_lists.proofs.Marks.{changed-none, changed-more, changed-marked}
 use Rattle.child_lists.proofs.Making.{makes-join, makes-end, makes-few}
 use Rattle.column_list.specs.Hung.{hung}
-use Rattle.column_list.specs.Stored.{Stored, Next}
-use Rattle.column_list.proofs.Gathering.{siblings, found-child, makes}
+use Rattle.column_list.specs.Stored.{Stored}
+use Rattle.column_list.proofs.Gathering.{siblings, found-child}
+use Rattle.column_list.proofs.Owns.{own-asc, own-makes, own-markable, own-change}
 use Rattle.check_marks.specs.Marked.{newRows, MarkedAre, Counted}
 use Rattle.check_marks.proofs.Marked.{marked-none, marked-more, marked-count}
 
@@ -46,34 +47,22 @@ pub record Counting (n m : ℕ) (A : Pattern) (fs fr w₀ w : List ℕ) (c count
 
 module _ {n m : ℕ} {A : Pattern} {fs fr w : List ℕ} (good : Below n A) (l : m < n) (st : Stored n m A fs fr w) (own : List ℕ) (o : own ≡ A (m + 1))
   where
-    next : Next n m A fs fr w w w
-    next = record { column = l; stored = st; room-x = omega (arith, st .work-long); room-y = omega (arith, st .work-long) }
-
-    own-asc : Asc (m + 1) own
-    own-asc = rw o (good .ascending (m + 1))
-
     pub own-once : Distinct own
-    own-once = asc-distinct (m + 1) own own-asc
-
-    pub own-markable : Markable n own w
-    own-markable = record { most = λ i t. good .within i (m + 1) (rw o at t); long = st .work-long }
-
-    pub own-change : (w₁ : List ℕ) → w₁ ≡ marked n (m + 1) own w → Changed n (m + 1) w w₁
-    own-change w₁ e = marks-change own w₁ own-asc e
+    own-once = asc-distinct (m + 1) own (own-asc good l st own o)
 
     pub count-begin : (w₁ : List ℕ) (count : ℕ) → (count ≡ length (newRows n (m + 1) w own)) × (w₁ ≡ marked n (m + 1) own w) → length w₁ ≡ length w
         → Counting n m A fs fr w₁ w₁ (getD w₁ (m + 1) 0) count
     count-begin w₁ count e lw =
-        let change = own-change w₁ (e .1) in
+        let change = own-change good l st own o w₁ (e .1) in
         let none = marked-none n (m + 1) w (λ i h. omega (arith, st .fresh (n + n + i) (omega arith))) in
-        let are : MarkedAre n (m + 1) w₁ own = rw (e .1) (rw (nil-merge own) at (marked-more none own own-markable)) in
-        let many : length own ≡ 0 + length (newRows n (m + 1) w own) = rw (nil-merge own) at (marked-count none own tt own-asc) in
+        let are : MarkedAre n (m + 1) w₁ own = rw (e .1) (rw (nil-merge own) at (marked-more none own (own-markable good l st own o))) in
+        let many : length own ≡ 0 + length (newRows n (m + 1) w own) = rw (nil-merge own) at (marked-count none own tt (own-asc good l st own o)) in
         record {
           left = hung A m (m + 1);
-          siblings = rw (change .links (m + 1) (omega arith)) (siblings-ext w₁ (siblings good next) (change .links) lw);
-          ends = λ d t. found-child good next d t .ends;
+          siblings = rw (change .links (m + 1) (omega arith)) (siblings-ext w₁ (siblings good l st) (change .links) lw);
+          ends = λ d t. found-child good l st d t .ends;
           acc = own;
-          makes = makes good next own own-asc (λ i t. rw o t) (λ i t. R-pattern good (m + 1) i (rw o at t));
+          makes = own-makes good l st own o;
           marks = are;
           counted = omega (arith, e .0, many);
           changed = changed-none n (m + 1) w₁;

@@ -3,7 +3,7 @@
 use Prim.Native.Nat.{ℕ, _+_, _<_, _≤_}
 use mathlib.Core.Path.{_≡_, refl, ap, _∙_}
 use mathlib.Core.Logic.{⊎-elim, _≢_}
-use mathlib.Core.List.{List, [], _∷_, List·Memᴰ·head, List·Memᴰ·not-nil, List·Memᴰ·cases-cons}
+use mathlib.Core.List.{List, [], _∷_, List·Memᴰ·not-nil, List·Memᴰ·cases-cons}
 use native.Mathlib.Omega.{arith}
 use lib.ListN.{length, getD, take}
 use lib.Seq.{sets, length-sets}
@@ -13,10 +13,9 @@ use Rattle.papers.specs.Fill.{R}
 use Rattle.list_laws.proofs.Ascending.{asc-length}
 use Rattle.list_laws.proofs.Merges.{merge-asc, merge-left, merge-right, merge-from}
 use Rattle.list_laws.proofs.Stores.{front-stored}
-use Rattle.fill_laws.proofs.Fill.{R-range, R-pattern}
+use Rattle.fill_laws.proofs.Fill.{R-range}
 use Rattle.column_laws.specs.Tested.{Tested}
 use Rattle.column_laws.proofs.Columns.{starts-long, starts-rise, starts-fit}
-use Rattle.column_laws.proofs.Chains.{chain-end, chain-on}
 use Rattle.linked_children.specs.Children.{handedOn, Linked, Longest}
 use Rattle.linked_children.proofs.Picking.{siblings-ext}
 use Rattle.child_lists.specs.Marks.{marked, Markable, Sound, Changed}
@@ -27,6 +26,7 @@ use Rattle.child_lists.proofs.Making.{makes-skip, makes-end}
 use Rattle.column_list.specs.Hung.{hung}
 use Rattle.column_list.specs.Stored.{Part, Next, Gathers}
 use Rattle.column_list.proofs.Gathering.{Found, found-child, chain, siblings, makes}
+use Rattle.column_list.proofs.Owns.{linked-first, only-child, own-asc, own-in, own-makes, own-alone}
 
 -- the rows of a tested job's column have their part
 pub part-of : {n m : ℕ} {starts rows : List ℕ} → Tested n starts rows → m < n → Part m starts rows
@@ -36,15 +36,15 @@ module _ {n m : ℕ} {A : Pattern} {fs fr w x y : List ℕ} (good : Below n A) (
   few : (l : List ℕ) → Asc (m + 1) l → ((i : ℕ) → i ∈ l → i ∈ R A (m + 1)) → length l ≤ n
   few l s f = omega (arith, asc-length n (m + 1) l s (λ i t. R-range good (m + 1) i (f i t) .1))
 
-  own-asc : Asc (m + 1) own
-  own-asc = rw o (good .ascending (m + 1))
+  in-own : (i : ℕ) → i ∈ own → i ∈ R A (m + 1)
+  in-own = own-in good (g .column) (g .stored) own o
 
-  own-in : (i : ℕ) → i ∈ own → i ∈ R A (m + 1)
-  own-in i t = R-pattern good (m + 1) i (rw o at t)
+  asc-own : Asc (m + 1) own
+  asc-own = own-asc good (g .column) (g .stored) own o
 
   -- the pattern rows have room
   pub own-fits : length own ≤ length x
-  own-fits = omega (arith, few own own-asc own-in, g .room-x)
+  own-fits = omega (arith, few own asc-own in-own, g .room-x)
 
   -- a list at the front of x that is R(m + 1)
   holds : (l x′ w′ : List ℕ) → x′ ≡ sets x 0 l → length l ≤ length x → l ≡ R A (m + 1) → Changed n (m + 1) w w′ → Gathers n m A w w′ x′ y 0 (length l)
@@ -53,39 +53,33 @@ module _ {n m : ℕ} {A : Pattern} {fs fr w x y : List ℕ} (good : Below n A) (
 
   -- no child
   pub alone : getD w (m + 1) 0 ≡ 0 → (x′ : List ℕ) → x′ ≡ sets x 0 own → Gathers n m A w w x′ y 0 (length own)
-  alone z x′ e =
-      let none = chain-end w n (getD w (m + 1) 0) (hung A m (m + 1)) (chain good g) z in
-      let made = makes-end (rw none at (makes good g own own-asc (λ i t. rw o t) own-in)) in
-      holds own x′ w e own-fits made (changed-none n (m + 1) w)
+  alone z x′ e = holds own x′ w e own-fits (own-alone good (g .column) (g .stored) own o z) (changed-none n (m + 1) w)
 
   -- ---- with children
 
   pub linked : Linked n (getD w (m + 1) 0) fs w
-  linked = record { children = hung A m (m + 1); siblings = siblings good g }
+  linked = record { children = hung A m (m + 1); siblings = siblings good (g .column) (g .stored) }
 
   module _ (z : getD w (m + 1) 0 ≢ 0) (d : ℕ) (best : Longest n (getD w (m + 1) 0) fs w d) where
     member : d ∈ hung A m (m + 1)
-    member = best (hung A m (m + 1)) (chain good g) z .0
+    member = best (hung A m (m + 1)) (chain good (g .column) (g .stored)) z .0
 
     pub first-found : Found (g .stored) d
-    first-found = found-child good g d member
+    first-found = found-child good (g .column) (g .stored) d member
 
     pub first-link : n + getD w (m + 1) 0 < length w
-    first-link =
-        let l = chain-on w n (getD w (m + 1) 0) (hung A m (m + 1)) (chain good g) z in
-        let s = siblings good g in
-        omega (arith, s .most (getD w (m + 1) 0) (rw (l .is) (List·Memᴰ·head refl)), s .links)
+    first-link = linked-first good (g .column) (g .stored) z
 
     module _ (more : List ℕ) (h : more ≡ handedOn fs fr d) where
-      own-makes : Makes (m + 1) (handedOn fs fr) (hung A m (m + 1)) own (R A (m + 1))
-      own-makes = makes good g own own-asc (λ i t. rw o t) own-in
+      hands : Makes (m + 1) (handedOn fs fr) (hung A m (m + 1)) own (R A (m + 1))
+      hands = own-makes good (g .column) (g .stored) own o
 
       begun : Makes (m + 1) (handedOn fs fr) (hung A m (m + 1)) (merge own more) (R A (m + 1))
       begun =
-          makes good g (merge own more)
-          (merge-asc (m + 1) own more own-asc (rw h (own-makes .asc-hands d member)))
+          makes good (g .column) (g .stored) (merge own more)
+          (merge-asc (m + 1) own more asc-own (rw h (hands .asc-hands d member)))
           (λ i t. merge-left own more (rw o t))
-          (λ i t. ⊎-elim (λ (u : i ∈ own). own-in i u) (λ (u : i ∈ more). own-makes .hands-in d i member (rw h at u)) (merge-from own more t))
+          (λ i t. ⊎-elim (λ (u : i ∈ own). in-own i u) (λ (u : i ∈ more). hands .hands-in d i member (rw h at u)) (merge-from own more t))
 
       pub first-fits : length (merge own more) ≤ length x
       first-fits = omega (arith, few (merge own more) (begun .asc) (begun .acc-in), g .room-x)
@@ -107,9 +101,7 @@ module _ {n m : ℕ} {A : Pattern} {fs fr w x y : List ℕ} (good : Below n A) (
           where
             whole : merge own more ≡ R A (m + 1)
             whole =
-                let l = chain-on w n (getD w (m + 1) 0) (hung A m (m + 1)) (chain good g) z in
-                let r = chain-end w n (getD w (n + getD w (m + 1) 0) 0) (l .rest) (l .chain) q in
-                let is : hung A m (m + 1) ≡ getD w (m + 1) 0 ∷ [] = rw r at (l .is) in
+                let is = only-child good (g .column) (g .stored) z q in
                 let same : d ≡ getD w (m + 1) 0 = only (rw is at member) in
                 makes-end (makes-skip (rw is at begun) (λ i t. merge-right own more (rw (h, same) t)))
               where
@@ -127,8 +119,8 @@ module _ {n m : ℕ} {A : Pattern} {fs fr w x y : List ℕ} (good : Below n A) (
           ready : Begun n (m + 1) (getD w (m + 1) 0) len fs fr w₁ x₁ y (hung A m (m + 1)) (R A (m + 1))
           ready =
               record {
-                siblings = siblings-ext w₁ (siblings good g) (change .links) lw;
-                ends = λ c t. found-child good g c t .ends;
+                siblings = siblings-ext w₁ (siblings good (g .column) (g .stored)) (change .links) lw;
+                ends = λ c t. found-child good (g .column) (g .stored) c t .ends;
                 makes = rw front begun;
                 most = λ i t. R-range good (m + 1) i t .1;
                 few = first-len;

@@ -22,7 +22,7 @@ use Rattle.column_laws.proofs.Families.{length-more, length-grows, list-at}
 use Rattle.linked_children.specs.Children.{handedOn, Child, Siblings}
 use Rattle.child_lists.specs.Joining.{Makes}
 use Rattle.column_list.specs.Hung.{hung}
-use Rattle.column_list.specs.Stored.{rowsTo, Stored, Next}
+use Rattle.column_list.specs.Stored.{rowsTo, Stored}
 use Rattle.column_list.proofs.Hung.{hung-from, hung-into, hung-desc}
 
 -- ---- the list of a column in what is stored
@@ -59,18 +59,18 @@ no-parent A = refl
 
 -- ---- the children of column m + 1
 
-module _ {n m : ℕ} {A : Pattern} {fs fr w x y : List ℕ} (good : Below n A) (g : Next n m A fs fr w x y) where
+module _ {n m : ℕ} {A : Pattern} {fs fr w : List ℕ} (good : Below n A) (l : m < n) (st : Stored n m A fs fr w) where
   pub chain : Chain w n (getD w (m + 1) 0) (hung A m (m + 1))
-  chain = g .stored .chains (m + 1) (omega arith) (omega (arith, g .column))
+  chain = st .chains (m + 1) (omega arith) (omega arith)
 
   cons : (d : ℕ) → parent A d ≡ m + 1 → R A d ≡ (m + 1) ∷ drop 1 (R A d)
   cons d e = child-cons A (m + 1) d (omega arith) e
 
-  pub found-child : (d : ℕ) → d ∈ hung A m (m + 1) → Found (g .stored) d
+  pub found-child : (d : ℕ) → d ∈ hung A m (m + 1) → Found st d
   found-child d t =
       let h = hung-from A m (m + 1) d t in
-      let l = ap length (cons d (h .parent-is)) in
-      found (g .stored) d (h .first) (h .most) (g .column) (omega arith)
+      let many = ap length (cons d (h .parent-is)) in
+      found st d (h .first) (h .most) l (omega arith)
 
   pub siblings : Siblings n (getD w (m + 1) 0) fs w (hung A m (m + 1))
   siblings =
@@ -78,8 +78,8 @@ module _ {n m : ℕ} {A : Pattern} {fs fr w x y : List ℕ} (good : Below n A) (
         chain = chain;
         desc = desc-first w n (getD w (m + 1) 0) (suc m) (hung A m (m + 1)) chain (hung-desc A m (m + 1)) (omega arith) .1;
         each = λ d t. found-child d t .child;
-        most = λ d t. omega (arith, hung-from A m (m + 1) d t .most, g .column);
-        links = omega (arith, g .stored .work-long);
+        most = λ d t. omega (arith, hung-from A m (m + 1) d t .most);
+        links = omega (arith, st .work-long);
       }
 
   -- pattern rows and what the children hand on make R(m + 1), begun with any list between the two

@@ -5,7 +5,8 @@ use borrow.Author.Needs.{needs}
 use Rattle.column_laws.proofs.Columns.{tested-below}
 use Rattle.child_lists.proofs.Marks.{changed-none}
 use Rattle.column_list.proofs.Begins.{part-of}
-use Rattle.check_lists.proofs.OneChild.{own-markable, own-changes, no-child, child-link, child-found, one-child, list-markable}
+use Rattle.column_list.proofs.Owns.{own-markable, own-change}
+use Rattle.check_lists.proofs.OneChild.{no-child, child-link, child-found, one-child, list-markable}
 use Rattle.check_lists.proofs.is_right.Statement.{statement}
 use Rattle.check_lists.proofs.is_right.Tie as tie
 
@@ -82,7 +83,7 @@ returns-2 c = (
       (after-pattern-rows (search) .pattern-rows .ensures) (else1 (search) .if1 .left) (then2 (search) .if2 .taken) _
       (after-handed-on (search) .handed-on .ensures) _ _ _ (entry (search) .pre .1 .1 .1) (after-begins-with (search) .begins-with .ensures
       (then3 (search) .if3 .taken) .1) (after-adds-own (search) .adds-own .ensures .1) (after-adds-own (search) .adds-own .ensures .0),
-  own-changes (tested-below (entry (search) .pre .0)) (entry (search) .pre .1 .0) (entry (search) .pre .1 .1 .0) _
+  own-change (tested-below (entry (search) .pre .0)) (entry (search) .pre .1 .0) (entry (search) .pre .1 .1 .0) _
       (after-pattern-rows (search) .pattern-rows .ensures) _ (after-adds-own (search) .adds-own .ensures .1),
 )
 

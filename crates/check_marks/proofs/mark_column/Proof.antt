@@ -5,7 +5,8 @@ use native.Mathlib.Omega.{arith}
 use Rattle.papers.specs.Job.{columnOf}
 use Rattle.column_laws.proofs.Columns.{tested-below}
 use Rattle.column_list.proofs.Begins.{part-of}
-use Rattle.check_marks.proofs.Counting.{Counting, own-once, own-markable, own-change, count-begin, count-few, child-at, link}
+use Rattle.column_list.proofs.Owns.{own-markable, own-change}
+use Rattle.check_marks.proofs.Counting.{Counting, own-once, count-begin, count-few, child-at, link}
 use Rattle.check_marks.proofs.Counting.{more-once, more-markable, falls, count-turn, count-stop}
 use Rattle.check_marks.proofs.mark_column.Statement.{statement}
 use Rattle.check_marks.proofs.mark_column.Tie as tie
