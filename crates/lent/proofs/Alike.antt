@@ -3,9 +3,8 @@
 use Prim.Native.Nat.{ℕ, _≤_}
 use mathlib.Core.Path.{_≡_, sym, ap, _∙_}
 use mathlib.Core.List.{List}
-use lib.ListN.{length, take, replicate, length-replicate}
+use lib.ListN.{length, take, replicate}
 use lib.Seq.{length-take-le}
-use Rattle.papers.specs.Lists.{zeros}
 use Rattle.papers.specs.Refusals.{Lent, allZero}
 use Rattle.lent.specs.Six.{LongEnough}
 use Rattle.lent.proofs.Sixes.{sixes}
@@ -13,10 +12,6 @@ use Rattle.lent.proofs.Sixes.{sixes}
 -- a part of n places has n places
 pub part-long : (n : ℕ) (l : List ℕ) → n ≤ length l → n ≡ length (take n l)
 part-long n l h = sym (length-take-le n l h)
-
--- clearing leaves the lengths
-pub zero-long : (l₀ : List ℕ) {l : List ℕ} → l ≡ zeros l₀ → length l ≡ length l₀
-zero-long l₀ e = ap length e ∙ length-replicate (length l₀) 0
 
 -- ---- slices of the same lengths
 

@@ -5,16 +5,14 @@ use mathlib.Core.Path.{_≡_, refl, ap, _∙_}
 use mathlib.Core.Logic.{_↔_}
 use mathlib.Core.List.{[], _∷_, _++_, flatMap, List·Memᴰ·not-nil}
 use native.Mathlib.Omega.{arith}
-use lib.ListN.{length}
 use Rattle.papers.specs.Lists.{_∈_, Distinct}
 use Rattle.papers.specs.Job.{Pattern, Below}
-use Rattle.papers.specs.Tree.{t, parent, rowCount, Under, subtreeOf}
+use Rattle.papers.specs.Tree.{t, parent, rowCount, Under}
 use Rattle.papers.specs.Room.{peakOf}
 use Rattle.papers.specs.Order.{alone, arranged, stepsOf, childrenOf, popsOf, W, orderOf}
-use Rattle.list_laws.proofs.Counts.{same-length}
 use Rattle.order_laws.specs.Subtrees.{Kin, inTurn, butLast, subtreeSteps, siblingsOf}
 use Rattle.order_laws.proofs.Triangles.{t-suc}
-use Rattle.order_laws.proofs.Subtrees.{children-are, subtree-is, subtree-distinct}
+use Rattle.order_laws.proofs.Subtrees.{children-are}
 use Rattle.order_laws.proofs.Forests.{SubtreeOrder}
 use Rattle.order_laws.proofs.Ordering.{valid-distinct}
 use Rattle.order_laws.proofs.Arranged.{steps-suc, steps-enough}
@@ -76,10 +74,3 @@ module _ {n : ℕ} {A : Pattern} (below : Below n A) where
     unfolding subtreeSteps
     subtree-once =
         valid-distinct (parent A) (stepsOf mark (rowCount A) (childrenOf n A) n j) [] (order-of .valid [] (λ x s m. List·Memᴰ·not-nil m)) .0
-
-    -- so there are as many under every mark
-    pub subtree-count : length (subtreeSteps mark n A j) ≡ length (subtreeOf (parent A) n j)
-    subtree-count =
-        same-length (subtreeSteps mark n A j) (subtreeOf (parent A) n j) subtree-once (subtree-distinct (parent A) n j)
-        (λ i m. subtree-is (tree-of below) j i l u .1 (subtree-columns i .0 m))
-        (λ i m. subtree-columns i .1 (subtree-is (tree-of below) j i l u .0 m))
