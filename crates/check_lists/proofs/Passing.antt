@@ -17,9 +17,8 @@ use Rattle.papers.specs.Tree.{parent}
 use Rattle.list_laws.proofs.Leasts.{least-none, least-here, least-same}
 use Rattle.list_laws.proofs.Members.{same-true}
 use Rattle.list_laws.proofs.Stores.{sets-more}
-use Rattle.list_laws.proofs.UpTo.{length-upTo}
+use Rattle.list_laws.proofs.UpTo.{length-upTo, map-upTo}
 use Rattle.fill_laws.proofs.Parents.{parent-within}
-use Rattle.column_laws.proofs.Families.{map-upTo}
 use Rattle.child_lists.specs.Marks.{Changed}
 use Rattle.column_list.specs.Stored.{Stored}
 use Rattle.structure.specs.Hanging.{hanging, Hangable}

@@ -3,24 +3,16 @@
 use Prim.Native.Nat.{ℕ, zero, suc, _+_, _-_, _<_, _≤_}
 use mathlib.Core.Path.{_≡_, refl, sym, ap, _∙_}
 use mathlib.Core.Logic.{⊎-elim}
-use mathlib.Core.List.{List, [], _∷_, _++_, map, append-nil}
+use mathlib.Core.List.{List, [], _∷_, _++_, append-nil}
 use native.Mathlib.Omega.{arith}
 use native.Mathlib.Nat.{le-suc-iff}
 use lib.ListN.{length, take, drop, length-append}
 use lib.Seq.{take-all, take-append-le, take-take, take-add, drop-at}
-use Rattle.papers.specs.Lists.{upTo, flat, startsFrom}
+use Rattle.papers.specs.Lists.{flat, startsFrom}
 use Rattle.papers.specs.Key.{listsOf}
 use Rattle.list_laws.specs.Parts.{part}
 use Rattle.list_laws.proofs.Stores.{flat-append, starts-more}
 use Rattle.job_laws.proofs.Laid.{lists-more}
-
-pub map-upTo {ℓ} : {B : Type ℓ} (f : ℕ → B) (m : ℕ) → map f (upTo (suc m)) ≡ map f (upTo m) ++ (f (suc m) ∷ [])
-unfolding upTo
-map-upTo f m = go (upTo m)
-  where
-    go : (l : List ℕ) → map f (l ++ (suc m ∷ [])) ≡ map f l ++ (f (suc m) ∷ [])
-    go [] = refl
-    go (x ∷ xs) = ap (λ t. f x ∷ t) (go xs)
 
 module _ (B : ℕ → List ℕ) where
   pub flat-more : (m : ℕ) → flat (listsOf (suc m) B) ≡ flat (listsOf m B) ++ B (suc m)

@@ -3,15 +3,14 @@
 -- Assumes nothing.
 use Prim.Native.Nat.{ℕ, zero, suc, _+_, _-_, _<_, _≤_}
 use mathlib.Core.Path.{_≡_, refl, sym, ap, _∙_}
-use mathlib.Core.Logic.{_⊎_, inl, inr}
-use mathlib.Core.List.{List, [], _∷_, _++_, map-append, append-assoc, append-nil}
+use mathlib.Core.List.{List, [], _∷_, _++_, append-assoc, append-nil}
 use native.Mathlib.Omega.{arith}
-use native.Mathlib.Nat.{le-suc-iff}
-use lib.ListN.{length, getD, take, length-append, take-append-drop, List·getD-append}
-use lib.Seq.{slice, take-at, drop-at, getD-at, take-suc, take-take, take-all, length-slice, length-take-le, ext-getD}
+use lib.ListN.{length, getD, take, length-append, take-append-drop}
+use lib.Seq.{slice, take-at, drop-at, take-suc, take-take, take-all, length-slice, length-take-le, ext-getD}
 use Rattle.papers.specs.Lists.{upTo, flat, startsFrom}
 use Rattle.papers.specs.Job.{Pattern, start, columnOf}
 use Rattle.papers.specs.Key.{listsOf}
+use Rattle.list_laws.proofs.UpTo.{map-upTo, length-family, family-at}
 use Rattle.list_laws.proofs.Stores.{flat-append, starts-more, length-starts}
 use Rattle.job_laws.proofs.Starts.{Starts, start-at, column-at, start-within}
 
@@ -19,30 +18,21 @@ use Rattle.job_laws.proofs.Starts.{Starts, start-at, column-at, start-w
 
 module _ (A : Pattern) where
   pub lists-more : (n : ℕ) → listsOf (suc n) A ≡ listsOf n A ++ (A (suc n) ∷ [])
-  unfolding listsOf upTo
-  lists-more n = map-append A (upTo n) (suc n ∷ [])
+  unfolding listsOf
+  lists-more n = map-upTo A n
 
   pub lists-none : listsOf 0 A ≡ []
   unfolding listsOf upTo
   lists-none = refl
 
   pub length-lists : (n : ℕ) → length (listsOf n A) ≡ n
-  unfolding listsOf upTo
-  length-lists zero = refl
-  length-lists (suc n) = rw (lists-more n, length-append (listsOf n A) (A (suc n) ∷ []), length-lists n) (omega arith)
+  unfolding listsOf
+  length-lists n = length-family A n
 
   -- list j of them is that of column j
   pub lists-at : (n k : ℕ) → k < n → getD (listsOf n A) k [] ≡ A (suc k)
-  lists-at zero k h = absurd (omega arith)
-  lists-at (suc n) k h = go (le-suc-iff .0 h) (λ l. lists-at n k l)
-    where
-      go : (suc k ≤ n) ⊎ (suc k ≡ suc n) → (k < n → getD (listsOf n A) k [] ≡ A (suc k)) → getD (listsOf (suc n) A) k [] ≡ A (suc k)
-      go (inl l) ih =
-          let q = length-lists n in
-          rw (lists-more n, List·getD-append (listsOf n A) (A (suc n) ∷ []) [] k (omega arith)) (ih l)
-      go (inr e) ih =
-          let q = length-lists n in
-          rw (lists-more n, getD-at (listsOf n A) (A (suc n)) [] [] k (omega arith)) (ap A (sym e))
+  unfolding listsOf
+  lists-at n k h = family-at A n k [] h
 
 -- ---- lists laid and taken out again
 

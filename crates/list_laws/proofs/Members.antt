@@ -5,7 +5,7 @@ use Prim.Native.Nat.{ℕ, zero, suc, _<_}
 use mathlib.Core.Path.{_≡_, refl}
 use mathlib.Core.Logic.{_⊎_, inl, inr}
 use mathlib.Core.Bool.{true, false}
-use mathlib.Core.List.{List, [], _∷_, flatMap, List·Memᴰ·head, List·Memᴰ·tail, List·Memᴰ·not-nil, List·Memᴰ·cases-cons}
+use mathlib.Core.List.{List, [], _∷_, map, flatMap, List·Memᴰ·head, List·Memᴰ·tail, List·Memᴰ·not-nil, List·Memᴰ·cases-cons}
 use native.Mathlib.Omega.{arith}
 use lib.Dec.{eqb}
 use lib.ListN.{length, getD}
@@ -60,6 +60,12 @@ pub at-place : (l : List ℕ) (k : ℕ) → k < length l → getD l k 0 ∈ l
 at-place [] k h = absurd (omega arith)
 at-place (y ∷ l) zero h = List·Memᴰ·head refl
 at-place (y ∷ l) (suc k) h = List·Memᴰ·tail (at-place l k (omega arith))
+
+-- and that of a list of images is an image
+pub map-at : {B C : Type 0} (f : B → C) (l : List B) (k : ℕ) (b : B) (c : C) → k < length l → getD (map f l) k c ≡ f (getD l k b)
+map-at f [] k b c h = absurd (omega arith)
+map-at f (x ∷ l) zero b c h = refl
+map-at f (x ∷ l) (suc k) b c h = map-at f l k b c (omega arith)
 
 -- lists that agree on the members of cs, one behind the other
 pub flatMap-same : (u v : ℕ → List ℕ) (cs : List ℕ) → ((c : ℕ) → c ∈ cs → u c ≡ v c) → flatMap u cs ≡ flatMap v cs

@@ -6,9 +6,7 @@ use mathlib.Core.Path.{_≡_, sym, ap, _∙_}
 use mathlib.Core.Logic.{_⊎_, inl, inr}
 use mathlib.Core.List.{List, map, flatMap}
 use native.Mathlib.Omega.{arith}
-use native.Mathlib.Nat.{le-suc-iff}
-use lib.ListN.{length, getD, length-map, List·getD-eq-default, List·getD-append}
-use lib.Seq.{getD-at}
+use lib.ListN.{length, getD, List·getD-eq-default}
 use Rattle.papers.specs.Bounds.{maxColumns}
 use Rattle.papers.specs.Lists.{upTo, startsFrom}
 use Rattle.papers.specs.Job.{Pattern, Below}
@@ -18,27 +16,14 @@ use Rattle.papers.specs.Room.{peakOf}
 use Rattle.papers.specs.Order.{stepsOf, childrenOf, popsOf, orderOf, peak}
 use Rattle.papers.specs.Key.{listsOf}
 use Rattle.list_laws.proofs.Tests.{below-or}
-use Rattle.list_laws.proofs.UpTo.{length-upTo}
+use Rattle.list_laws.proofs.UpTo.{length-family, family-at}
 use Rattle.list_laws.proofs.Stores.{length-starts}
 use Rattle.job_laws.proofs.Starts.{start-at}
 use Rattle.job_laws.proofs.Laid.{length-lists, lists-at, laid-column, laid-starts, column-length}
-use Rattle.column_laws.proofs.Families.{map-upTo}
 use Rattle.order_laws.proofs.Patterns.{tree-of, root-rows, rows-fit}
 use Rattle.tree.specs.Parents.{parentIn, kidsIn}
 use Rattle.room.specs.Rows.{rowsIn}
 use Rattle.order.specs.Given.{Rowed, popsIn, orderIn}
-
--- what a family has for column k + 1 stands at place k of its list
-family-at : (f : ℕ → ℕ) (n k : ℕ) → k < n → getD (map f (upTo n)) k 0 ≡ f (suc k)
-family-at f zero k h = absurd (omega arith)
-family-at f (suc n) k h = go (le-suc-iff .0 (let q : suc k ≤ suc n = omega arith in q)) (λ l. family-at f n k l)
-  where
-    long : length (map f (upTo n)) ≡ n
-    long = length-map (upTo n) f ∙ length-upTo n
-
-    go : (suc k ≤ n) ⊎ (suc k ≡ suc n) → (k < n → getD (map f (upTo n)) k 0 ≡ f (suc k)) → getD (map f (upTo (suc n))) k 0 ≡ f (suc k)
-    go (inl l) ih = rw (map-upTo f n, List·getD-append (map f (upTo n)) _ 0 k (omega (arith, long))) (ih (omega arith))
-    go (inr e) ih = rw (map-upTo f n) (getD-at (map f (upTo n)) (f (suc n)) _ 0 k (omega (arith, long)) ∙ ap f (sym e))
 
 -- the parents of the columns 1 to n, and the starts of their lists, as the slices hold them
 abbrev pub parentsOf : ℕ → Pattern → List ℕ
@@ -49,7 +34,7 @@ startsOf n A = startsFrom 0 (listsOf n (R A))
 
 module _ {n : ℕ} {A : Pattern} (good : Below n A) where
   pub length-parents : length (parentsOf n A) ≡ n
-  length-parents = length-map (upTo n) (parent A) ∙ length-upTo n
+  length-parents = length-family (parent A) n
 
   none-over : (j : ℕ) → n < j → rowCount A j ≡ 0
   none-over j h = omega (arith, rows-fit good j)
@@ -60,7 +45,7 @@ module _ {n : ℕ} {A : Pattern} (good : Below n A) where
   parents-tie (suc k) = go (below-or k n)
     where
       go : (k < n) ⊎ (n ≤ k) → getD (parentsOf n A) k 0 ≡ parent A (suc k)
-      go (inl h) = family-at (parent A) n k h
+      go (inl h) = family-at (parent A) n k 0 h
       go (inr h) =
           List·getD-eq-default (parentsOf n A) 0 {n = k} (omega (arith, length-parents)) ∙ sym
           (root-rows good (suc k) .0 (none-over (suc k) (omega arith)))

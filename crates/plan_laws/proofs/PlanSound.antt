@@ -22,7 +22,7 @@ use Rattle.papers.specs.Refusals.{zeroed, passed, refusedAt, peakTest}
 use Rattle.papers.specs.Check.{repeatTest, listTest, scattered, subtreeTest, popsTest, truePeak, declaredTest}
 use Rattle.papers.specs.Sound.{Sound}
 use Rattle.list_laws.proofs.Leasts.{least-zero-iff}
-use Rattle.list_laws.proofs.Members.{same-true, same-refl}
+use Rattle.list_laws.proofs.Members.{same-true, same-refl, map-at}
 use Rattle.bytes_laws.proofs.Plans.{Fit}
 use Rattle.job_laws.proofs.Firsts.{passed-if-iff}
 use Rattle.job_laws.proofs.Laid.{length-lists, lists-at}
@@ -33,7 +33,7 @@ use Rattle.refusal_laws.proofs.Agreements.{agree-passed-iff}
 use Rattle.refusal_laws.proofs.Tests.{fails-iff, at-passed}
 use Rattle.refusal_laws.proofs.PlanSteps.{Steps}
 use Rattle.refusal_laws.proofs.PlanTests.{repeat-agree, once, all}
-use Rattle.plan_laws.proofs.Steps.{map-at, columns-within}
+use Rattle.plan_laws.proofs.Steps.{columns-within}
 
 -- a plan passes 16, 17, 18, 19, 20 and 9
 abbrev pub PlanPasses : Job → Plan → Type 0

@@ -1,20 +1,13 @@
 -- The steps of a plan, taken apart into their columns and their pops, and put together again.
 -- Assumes nothing.
-use Prim.Native.Nat.{ℕ, zero, suc, _-_, _<_, _≤_}
+use Prim.Native.Nat.{ℕ, _-_, _≤_}
 use mathlib.Core.Path.{_≡_, refl, ap}
 use mathlib.Core.Logic.{_⊎_, inl, inr}
 use mathlib.Core.List.{List, [], _∷_, map, List·Memᴰ·head, List·Memᴰ·tail, List·Memᴰ·not-nil, List·Memᴰ·cases-cons}
 use native.Mathlib.Omega.{arith}
-use lib.ListN.{length, getD}
 use Rattle.papers.specs.Lists.{_∈_}
 use Rattle.papers.specs.Plan.{columnsIn, popsIn}
 use Rattle.bytes_laws.proofs.Plans.{StepsFit}
-
--- what stands at a place of a list of images
-pub map-at : {B C : Type 0} (f : B → C) (l : List B) (k : ℕ) (b : B) (c : C) → k < length l → getD (map f l) k c ≡ f (getD l k b)
-map-at f [] k b c h = absurd (omega arith)
-map-at f (x ∷ l) zero b c h = refl
-map-at f (x ∷ l) (suc k) b c h = map-at f l k b c (omega arith)
 
 -- steps made of columns, each with its pops
 pub columns-made : (pops : ℕ → ℕ) (order : List ℕ) → columnsIn (map (λ j. (j, pops j)) order) ≡ order

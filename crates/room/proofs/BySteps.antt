@@ -1,6 +1,6 @@
 -- Rooms step by step, the pops read from a list, are those of the columns, each with its own pops.
 -- Assumes nothing.
-use Prim.Native.Nat.{ℕ, zero, suc, _+_, _<_, _≤_}
+use Prim.Native.Nat.{ℕ, zero, suc, _<_, _≤_}
 use mathlib.Core.Path.{_≡_, refl, ap, _∙_}
 use mathlib.Core.List.{List, [], _∷_, _++_, map}
 use native.Mathlib.Omega.{arith}
@@ -9,14 +9,10 @@ use lib.Seq.{take-suc, take-length}
 use Rattle.papers.specs.Lists.{greatest, upTo}
 use Rattle.papers.specs.Room.{rooms, peakOf}
 use Rattle.papers.specs.Order.{columnAt}
+use Rattle.list_laws.proofs.Members.{map-at}
 use Rattle.order_laws.specs.Held.{heldAfterAll}
 use Rattle.order_laws.proofs.Rooms.{rooms-nil, rooms-cons, rooms-append, held-append}
 use Rattle.order_laws.proofs.Steps.{column-at}
-
-getD-map : (f : ℕ → ℕ) (l : List ℕ) (k : ℕ) → k < length l → getD (map f l) k 0 ≡ f (getD l k 0)
-getD-map f [] k h = absurd (omega arith)
-getD-map f (x ∷ l) zero h = refl
-getD-map f (x ∷ l) (suc k) h = getD-map f l k (omega arith)
 
 module _ (size pops : ℕ → ℕ) (order : List ℕ) where
   abbrev sizeAt : ℕ → ℕ
@@ -26,7 +22,7 @@ module _ (size pops : ℕ → ℕ) (order : List ℕ) where
   popsAt s = columnAt (map pops order) s
 
   pub pops-here : (k : ℕ) → k < length order → popsAt (suc k) ≡ pops (getD order k 0)
-  pops-here k h = column-at (map pops order) k ∙ getD-map pops order k h
+  pops-here k h = column-at (map pops order) k ∙ map-at pops order k 0 0 h
 
   size-here : (k : ℕ) → sizeAt (suc k) ≡ size (getD order k 0)
   size-here k = ap size (column-at order k)

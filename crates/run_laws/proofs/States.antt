@@ -14,6 +14,7 @@ use Rattle.papers.specs.Tree.{t, parent, rowCount}
 use Rattle.papers.specs.Room.{roomAt, rooms, peakOf}
 use Rattle.papers.specs.Order.{columnAt, popsOf}
 use Rattle.papers.specs.Run.{RunCall, popsAt, entries, roomIn, pushed, stepped, stateAfter}
+use Rattle.list_laws.proofs.Members.{map-at}
 use Rattle.fill_laws.proofs.Fill.{R-range}
 use Rattle.order_laws.specs.Held.{heldAfterAll}
 use Rattle.order_laws.specs.Stack.{pushedOn, heldColumns}
@@ -22,7 +23,6 @@ use Rattle.order_laws.proofs.Steps.{column-at}
 use Rattle.order_laws.proofs.Waiting.{pushed-root, pushed-update}
 use Rattle.order_laws.proofs.Entries.{held-entries}
 use Rattle.order_laws.proofs.Peaks.{peak-next}
-use Rattle.plan_laws.proofs.Steps.{map-at}
 use Rattle.run_laws.specs.Follows.{Follows}
 use Rattle.run_laws.proofs.Factor.{rows-in, columns-long}
 

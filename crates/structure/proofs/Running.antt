@@ -13,11 +13,11 @@ use Rattle.papers.specs.Key.{listsOf}
 use Rattle.papers.specs.Fill.{R}
 use Rattle.papers.specs.Tree.{parent}
 use Rattle.list_laws.proofs.Ascending.{asc-length}
-use Rattle.list_laws.proofs.UpTo.{length-upTo}
+use Rattle.list_laws.proofs.UpTo.{length-upTo, map-upTo}
 use Rattle.list_laws.proofs.Stores.{sets-append, length-starts, starts-again}
 use Rattle.job_laws.proofs.Laid.{length-lists, lists-none}
 use Rattle.fill_laws.proofs.Fill.{R-asc, R-range}
-use Rattle.column_laws.proofs.Families.{map-upTo, flat-more, length-more, starts-next}
+use Rattle.column_laws.proofs.Families.{flat-more, length-more, starts-next}
 use Rattle.child_lists.specs.Buffers.{held}
 use Rattle.column_list.specs.Stored.{rowsTo, Stored, Next, Gathers}
 use Rattle.structure.specs.Listed.{Storable, Stores, Lengths, Listed}

@@ -3,16 +3,16 @@
 -- Assumes nothing.
 use Prim.Native.Nat.{ℕ, suc, _+_, _<_, _≤_}
 use mathlib.Core.Path.{_≡_, refl, _∙_}
-use mathlib.Core.List.{List, [], _∷_, _++_, map-append}
+use mathlib.Core.List.{List, [], _∷_, _++_}
 use native.Mathlib.Omega.{arith}
 use native.Mathlib.Numerals.{add-two}
-use lib.ListN.{length, length-map}
+use lib.ListN.{length}
 use borrow.Author.Tests.{lt-ltb}
 use Rattle.papers.specs.Lists.{least, upTo}
 use Rattle.papers.specs.Refusals.{answer, untouched, passed, refused, first}
 use Rattle.papers.specs.Text.{numbersAt, rowsOfLine, afterLines, textHead, textLists, lineFault, rowLinesTest, endTest}
 use Rattle.list_laws.proofs.Leasts.{least-here}
-use Rattle.list_laws.proofs.UpTo.{length-upTo}
+use Rattle.list_laws.proofs.UpTo.{map-upTo, length-family}
 use Rattle.job_laws.proofs.Faults.{faulty}
 use Rattle.job_laws.proofs.Firsts.{first-passes, first-refuses, first-last, over-refuses, over-passes-iff}
 use Rattle.text_reader.specs.Reading.{whole}
@@ -26,12 +26,12 @@ module _ (text : List ℕ) where
 
   -- one column more
   pub lists-more : (j : ℕ) → textLists text (suc j) ≡ textLists text j ++ (rowsOfLine (numbersAt text (suc (suc j))) ∷ [])
-  unfolding textLists upTo
-  lists-more j = map-append (λ i. rowsOfLine (numbersAt text (suc i))) (upTo j) (suc j ∷ [])
+  unfolding textLists
+  lists-more j = map-upTo (λ i. rowsOfLine (numbersAt text (suc i))) j
 
   pub length-lists : (j : ℕ) → length (textLists text j) ≡ j
   unfolding textLists
-  length-lists j = length-map (upTo j) (λ i. rowsOfLine (numbersAt text (suc i))) ∙ length-upTo j
+  length-lists j = length-family (λ i. rowsOfLine (numbersAt text (suc i))) j
 
   -- ---- the lines, and the end
 
