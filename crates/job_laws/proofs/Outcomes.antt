@@ -7,7 +7,7 @@ use mathlib.Core.List.{List, _++_, map}
 use Rattle.papers.specs.declared.Answer.{Answer}
 use Rattle.papers.specs.Job.{Job}
 use Rattle.papers.specs.Refusals.{untouched, zeroed, Verdict, passed, refused, answerOf, first, Outcome, outcome, jobTests}
-use Rattle.job_laws.proofs.Firsts.{first-append-passed, first-append-refused, first-map}
+use Rattle.job_laws.proofs.Firsts.{refused-passed, first-append-passed, first-append-refused, first-map}
 use Rattle.job_laws.proofs.Untouched.{job-untouched, answer-zero}
 
 module _ {C S : Type 0} (tests : List (C → Verdict)) (done : C → Outcome S) (zeroing : S → S) (call : C) (lent : S) where
@@ -50,3 +50,13 @@ module _ {C : Type 0} (part : C → Job) (others : List (C → Verdict)) (call :
   -- one that passes leaves it to the other tests
   pub job-passes : first jobTests (part call) ≡ passed → first (map (λ test call. test (part call)) jobTests ++ others) call ≡ first others call
   job-passes e = first-append-passed (map (λ test call. test (part call)) jobTests) others call (first-map part jobTests call ∙ e)
+
+  -- and where none of all the tests refuses, it passes
+  pub passed-job : first (map (λ test call. test (part call)) jobTests ++ others) call ≡ passed → first jobTests (part call) ≡ passed
+  passed-job e = go (first jobTests (part call)) refl
+    where
+      go : (v : Verdict) → first jobTests (part call) ≡ v → first jobTests (part call) ≡ passed
+      go passed q = q
+      go (refused a l) q =
+          absurd (refused-passed (first-append-refused (map (λ test call. test (part call)) jobTests) others call (first-map part jobTests call ∙ q))
+          e)

@@ -3,7 +3,6 @@
 -- Assumes nothing.
 use Prim.Native.Nat.{ℕ, _≤_}
 use mathlib.Core.Path.{_≡_, refl, sym, ap, _∙_}
-use mathlib.Core.List.{map}
 use native.Mathlib.Omega.{arith}
 use lib.ListN.{length, length-replicate}
 use Rattle.papers.specs.declared.Answer.{Answer}
@@ -19,9 +18,9 @@ use Rattle.papers.specs.Analysis.{AnalysisCall, analysisTests, analysisDone, an
 use Rattle.papers.specs.Text.{textHead, textJob, Input, textTests, refusalLine, listingOf, buffers, jobPrinted, programPrints}
 use Rattle.text_laws.proofs.LineTests.{head-columns}
 use Rattle.text_laws.proofs.Printed.{refusal-printed, text-refused, text-passed}
-use Rattle.job_laws.proofs.Firsts.{refused-passed, first-passed-iff, first-append-refused, first-map, over-passes-iff}
+use Rattle.job_laws.proofs.Firsts.{first-passed-iff, over-passes-iff}
 use Rattle.job_laws.proofs.Passed.{passes-iff, passed-below}
-use Rattle.job_laws.proofs.Outcomes.{outcome-untouched, outcome-zeroed, outcome-done, job-passes}
+use Rattle.job_laws.proofs.Outcomes.{outcome-untouched, outcome-zeroed, outcome-done, job-passes, passed-job}
 use Rattle.listing_laws.proofs.Lengths.{refusal-short}
 use Rattle.listing_laws.proofs.Fits.{listing-fits}
 use Rattle.listing_laws.proofs.Answers.{Small, SmallIn, analysis-small}
@@ -62,13 +61,7 @@ module _ (input : Input) where
   module _ (e : first analysisTests call ≡ passed) where
     job-passes-all : first jobTests job ≡ passed
     unfolding analysisTests
-    job-passes-all = go (first jobTests job) refl
-      where
-        go : (v : Verdict) → first jobTests job ≡ v → first jobTests job ≡ passed
-        go passed q = q
-        go (refused a l) q =
-            absurd (refused-passed (first-append-refused (map (λ test (c : AnalysisCall). test (c .job)) jobTests) _ call
-            (first-map (λ (c : AnalysisCall). c .job) jobTests call ∙ q)) e)
+    job-passes-all = passed-job (λ (c : AnalysisCall). c .job) _ call e
 
     rows-few : length (flat (listsOf (job .n) (R (pattern job)))) ≤ programFactorRows
     unfolding analysisTests factorRowsTest planOf buffers

@@ -15,11 +15,11 @@ use Rattle.bytes_laws.proofs.Plans.{Fit}
 use Rattle.job_laws.specs.Parts.{Parts}
 use Rattle.job_laws.proofs.Firsts.{first-passed-iff, over-passes-iff}
 use Rattle.job_laws.proofs.Passed.{passes-iff}
-use Rattle.job_laws.proofs.Outcomes.{outcome-untouched, outcome-zeroed, outcome-done}
+use Rattle.job_laws.proofs.Outcomes.{outcome-untouched, outcome-zeroed, outcome-done, passed-job}
 use Rattle.job_laws.proofs.Parts.{holding-in-slices, parts-held}
 use Rattle.refusal_laws.proofs.Agreements.{agree-passed-iff}
 use Rattle.refusal_laws.proofs.Slices.{lengths-agree, factor-rows-agree}
-use Rattle.refusal_laws.proofs.Exactly.{_&_, Leaving}
+use Rattle.refusal_laws.proofs.Exactly.{Leaving}
 use Rattle.refusal_laws.proofs.Analysis.{analysis-leaving}
 use Rattle.plan_laws.specs.Passing.{Long}
 use Rattle.plan_laws.proofs.Slices.{long-iff}
@@ -47,10 +47,8 @@ module _ (job : Job) (lent : Lent) where
 
   module _ (p : first analysisTests (record { job = job; lent = lent }) ≡ passed) where
     valid : first jobTests job ≡ passed
-    unfolding analysisTests jobTests
-    valid =
-        let t = first-passed-iff analysisTests call .0 p in
-        first-passed-iff jobTests job .1 (t .0 & t .1 .0 & t .1 .1 .0 & t .1 .1 .1 .0 & t .1 .1 .1 .1 .0 & tt)
+    unfolding analysisTests
+    valid = passed-job (λ (c : AnalysisCall). c .job) _ call p
 
     long : Long (job .n) (length (flat (planOf job .lists))) lent
     unfolding analysisTests jobTests
