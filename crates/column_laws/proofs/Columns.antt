@@ -1,31 +1,23 @@
 -- The pattern of a tested job: its rows stand strictly below the diagonal, and the rows of a column are the part between its two starts.
 -- Assumes nothing.
 use Prim.Native.Nat.{ℕ, suc, _+_, _-_, _<_, _≤_}
-use mathlib.Core.Path.{_≡_, ap}
+use mathlib.Core.Path.{_≡_}
 use mathlib.Core.List.{List}
 use native.Mathlib.Omega.{arith}
 use native.Mathlib.Numerals.{add-one}
 use lib.ListN.{length, getD}
-use lib.Seq.{slice}
 use Rattle.papers.specs.Lists.{_∈_}
-use Rattle.papers.specs.Job.{start, columnOf, Below}
+use Rattle.papers.specs.Job.{columnOf, Below}
 use Rattle.list_laws.specs.Parts.{part}
 use Rattle.list_laws.proofs.Ascending.{asc-above}
-use Rattle.list_laws.proofs.Parts.{part-slice}
 use Rattle.list_laws.proofs.Slices.{At, in-slice, slice-into, slice-rises}
-use Rattle.job_laws.proofs.Starts.{start-at, start-within}
+use Rattle.job_laws.proofs.Starts.{start-at, start-within, column-slice, part-column}
 use Rattle.job_laws.proofs.Passed.{PassedLists, lists-iff, lists-below}
 use Rattle.column_laws.specs.Tested.{Tested}
 
 -- the rows of column m + 1 are the part between its two starts
 pub column-part : (starts rows : List ℕ) (m : ℕ) → part (getD starts m 0) (getD starts (m + 1) 0) rows ≡ columnOf starts rows (m + 1)
-unfolding columnOf
-column-part starts rows m = rw (add-one m, start-at starts m, start-at starts (suc m)) (part-slice (getD starts m 0) (getD starts (suc m) 0) rows)
-
--- the rows of column j are a slice
-column-slice : (starts rows : List ℕ) (j : ℕ) → columnOf starts rows j ≡ slice (getD starts (j - 1) 0) (getD starts j 0) rows
-unfolding columnOf start
-column-slice starts rows j = ap (λ e. slice (getD starts (j - 1) 0) e rows) (start-at starts j)
+column-part starts rows m = let e : m + 1 - 1 ≡ m = omega arith in rw e at (part-column starts rows (m + 1))
 
 module _ {n : ℕ} {starts rows : List ℕ} (t : Tested n starts rows) where
   lists : PassedLists n starts rows

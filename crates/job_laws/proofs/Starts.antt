@@ -2,7 +2,7 @@
 -- the row count, none below the one before.
 -- Assumes nothing.
 use Prim.Native.Nat.{ℕ, zero, suc, _+_, _-_, _≤_}
-use mathlib.Core.Path.{_≡_, refl}
+use mathlib.Core.Path.{_≡_, refl, sym, ap, _∙_}
 use mathlib.Core.Logic.{_↔_, _≢_}
 use mathlib.Core.Bool.{false}
 use mathlib.Core.List.{List}
@@ -14,8 +14,10 @@ use borrow.Author.Tests.{ltb-false, le-ltb, eqb-true, eqb-false, eq-eqb, ne-eqb}
 use Rattle.papers.specs.Lists.{least}
 use Rattle.papers.specs.Job.{start, columnOf}
 use Rattle.papers.specs.Refusals.{answer, untouched, passed, refused, refusedIf, falls, startsTest}
+use Rattle.list_laws.specs.Parts.{part}
 use Rattle.list_laws.proofs.Tests.{Test, passes, fails, test}
 use Rattle.list_laws.proofs.Leasts.{least-zero-iff}
+use Rattle.list_laws.proofs.Parts.{part-slice}
 use Rattle.job_laws.proofs.Firsts.{refused-passed}
 
 -- Starts that pass: n + 1 of them, from 0 up to the row count.
@@ -34,6 +36,14 @@ start-at starts j = let e : suc j - 1 ≡ j = omega arith in rw e
 pub column-at : (starts rows : List ℕ) (j : ℕ) → columnOf starts rows (suc j) ≡ slice (getD starts j 0) (getD starts (suc j) 0) rows
 unfolding columnOf
 column-at starts rows j = rw (start-at starts j, start-at starts (suc j))
+
+-- and those of column j are the part between its start and the one behind it
+pub column-slice : (starts rows : List ℕ) (j : ℕ) → columnOf starts rows j ≡ slice (getD starts (j - 1) 0) (getD starts j 0) rows
+unfolding columnOf start
+column-slice starts rows j = ap (λ e. slice (getD starts (j - 1) 0) e rows) (start-at starts j)
+
+pub part-column : (starts rows : List ℕ) (j : ℕ) → part (getD starts (j - 1) 0) (getD starts j 0) rows ≡ columnOf starts rows j
+part-column starts rows j = part-slice (getD starts (j - 1) 0) (getD starts j 0) rows ∙ sym (column-slice starts rows j)
 
 pub falls-at : (starts : List ℕ) (j : ℕ) → falls starts (suc j) ≡ ltb (getD starts (suc j) 0) (getD starts j 0)
 unfolding falls

@@ -1,25 +1,17 @@
 -- Where a column's rows lie in a factor: between two starts, inside the rows. They ascend above the column, so they are fewer than the columns.
 -- Assumes nothing.
-use Prim.Native.Nat.{ℕ, zero, suc, _+_, _-_, _<_, _≤_}
+use Prim.Native.Nat.{ℕ, suc, _+_, _-_, _<_, _≤_}
 use mathlib.Core.Path.{_≡_}
-use mathlib.Core.List.{List, [], _∷_}
+use mathlib.Core.List.{List}
 use native.Mathlib.Omega.{arith}
-use lib.ListN.{length, getD, take, drop}
-use lib.Seq.{slice, take-nil}
+use lib.ListN.{length, getD}
 use Rattle.papers.specs.Lists.{Asc}
 use Rattle.papers.specs.Job.{start, columnOf}
+use Rattle.list_laws.specs.Parts.{part}
 use Rattle.list_laws.proofs.Ascending.{asc-weaken, asc-length}
-use Rattle.job_laws.proofs.Starts.{start-at, start-within}
+use Rattle.job_laws.proofs.Starts.{start-at, start-within, part-column}
 use Rattle.job_laws.proofs.Passed.{PassedLists, lists-iff}
 use Rattle.run_front.specs.Factor.{Factor, Column}
-
--- a part of a list, cut in front first
-slice-part : (a e : ℕ) (l : List ℕ) → slice a e l ≡ take (e - a) (drop a l)
-slice-part zero e l = let q : e - 0 ≡ e = omega arith in rw q
-slice-part (suc a) zero [] = let q : 0 - suc a ≡ 0 = omega arith in rw q
-slice-part (suc a) zero (x ∷ l) = let q : 0 - suc a ≡ 0 = omega arith in rw q
-slice-part (suc a) (suc e) [] = rw take-nil
-slice-part (suc a) (suc e) (x ∷ l) = let q : suc e - suc a ≡ e - a = omega arith in rw q (slice-part a e l)
 
 module _ {n : ℕ} {starts rows : List ℕ} (factor : Factor n starts rows) where
   pub passed-lists : PassedLists n starts rows
@@ -45,9 +37,8 @@ module _ {n : ℕ} {starts rows : List ℕ} (factor : Factor n starts rows) wher
         }
 
     -- the part between them is the column's rows
-    pub part-is-column : take (getD starts c 0 - getD starts (c - 1) 0) (drop (getD starts (c - 1) 0) rows) ≡ columnOf starts rows c
-    unfolding columnOf start
-    part-is-column = let q : suc c - 1 ≡ c = omega arith in rw (q, slice-part (getD starts (c - 1) 0) (getD starts c 0) rows)
+    pub part-is-column : part (getD starts (c - 1) 0) (getD starts c 0) rows ≡ columnOf starts rows c
+    part-is-column = part-column starts rows c
 
     -- they ascend above the column
     pub column-ascends : Asc 0 (columnOf starts rows c)
