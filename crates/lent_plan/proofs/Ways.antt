@@ -39,11 +39,11 @@ module _ (job : Job) (lent : Lent) where
 
   module _ (p : first jobTests job ≡ passed) where
     -- 7
-    pub way-short : short (job .n) lent ≡ true → record { answer = answer 7 0 0; lent = lent } ≡ analysed job lent
+    pub way-short : {r : Answer} → short (job .n) lent ≡ true → r ≡ answer 7 0 0 → record { answer = r; lent = lent } ≡ analysed job lent
     unfolding analysed analysisTests lengthsTest
-    way-short e =
-        sym (outcome-untouched analysisTests analysisDone allZero call lent
-        (job-passes (λ c. c .job) _ call p ∙ first-refuses _ _ call (refused-if _ (answer 7 0 0) untouched e)))
+    way-short e a =
+        rw a (sym (outcome-untouched analysisTests analysisDone allZero call lent
+        (job-passes (λ c. c .job) _ call p ∙ first-refuses _ _ call (refused-if _ (answer 7 0 0) untouched e))))
 
     module _ (long : LongEnough (job .n) lent) where
       from-8 : first analysisTests call ≡ first ((λ call. factorRowsTest (needed (call .job)) (call .lent)) ∷

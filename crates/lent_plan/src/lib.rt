@@ -110,23 +110,11 @@ pub fn planned(
     let done = list_columns(n, starts, rows, parents, order, pops, fstarts, frows, work);
     if done < n {
         let needed = rows_needed::rows_needed(n, starts, rows, parents, work);
-        return Answer {
-            number: 8,
-            place: 0,
-            count: needed,
-        };
+        return basics::answered(8, 0, needed);
     }
     let peak = order_columns(head.mark, n, parents, order, pops, fstarts, work);
     if head.limit < peak {
-        return Answer {
-            number: 9,
-            place: 0,
-            count: peak,
-        };
+        return basics::answered(9, 0, peak);
     }
-    Answer {
-        number: 0,
-        place: 0,
-        count: peak,
-    }
+    basics::answered(0, 0, peak)
 }

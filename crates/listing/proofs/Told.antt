@@ -7,6 +7,7 @@ use mathlib.Core.List.{List, map}
 use native.Mathlib.Omega.{arith}
 use lib.ListN.{length, take, replicate, length-map, length-replicate}
 use lib.Seq.{sets, length-sets}
+use Rattle.papers.specs.declared.Answer.{Answer}
 use Rattle.papers.specs.declared.JobHead.{JobHead}
 use Rattle.papers.specs.Bounds.{programColumns, programRows}
 use Rattle.papers.specs.Job.{Job, jobOf}
@@ -14,6 +15,7 @@ use Rattle.papers.specs.Refusals.{answer, passed, first}
 use Rattle.papers.specs.Analysis.{analysed}
 use Rattle.papers.specs.Text.{Input, textJob, textTests, refusalLine, buffers, jobPrinted, programPrints}
 use Rattle.list_laws.proofs.Stores.{front-stored}
+use Rattle.text_laws.proofs.Printed as printed
 use Rattle.lent.specs.Six.{zeroes}
 use Rattle.text_lines.specs.Narrowed.{narrowed}
 use Rattle.text_reader.specs.declared.JobRead.{JobRead}
@@ -34,14 +36,13 @@ same-job j a b c d e i = record { n = a i; starts = b i; rows = c i; mark = d i;
 
 module _ (input : Input) where
   pub told-refusal : {starts₀ rows₀ starts rows : List ℕ} {r : JobRead} {number place : ℕ} → JobTold input starts₀ rows₀ starts rows r
-      → r ≡ read.Refused number place
-      → programPrints input ≡ refusalLine (answer number place 0)
-  unfolding programPrints
-  told-refusal (job-read p e s k) g = absurd (let z : _≡_ {A = ℕ} 0 1 = cc in omega arith)
-  told-refusal {number = number} {place = place} (text-refused c q p e) g =
+      → r ≡ read.Refused number place → {a : Answer} → a ≡ answer number place 0
+      → programPrints input ≡ refusalLine a
+  told-refusal (job-read p e s k) g f = absurd (let z : _≡_ {A = ℕ} 0 1 = cc in omega arith)
+  told-refusal {number = number} {place = place} (text-refused c q p e) g f =
       let a : c ≡ number = cc in
       let b : q ≡ place = cc in
-      rw (p, programPrints, a, b)
+      rw (f, ← a, ← b) (printed.text-refused input p)
 
 -- ---- a text whose job was read
 

@@ -6,6 +6,7 @@ use mathlib.Core.List.{List}
 use native.Mathlib.Omega.{arith}
 use lib.ListN.{length, length-replicate}
 use lib.Seq.{sets}
+use Rattle.papers.specs.declared.Answer.{Answer}
 use Rattle.papers.specs.Bounds.{listingBytes}
 use Rattle.papers.specs.Lists.{zeros}
 use Rattle.papers.specs.Refusals.{answer, untouched, Outcome}
@@ -20,11 +21,11 @@ module _ (input : Input) (bytes : List ℕ) where
   call = record { input = input; bytes = bytes }
 
   -- 7
-  pub way-short : length bytes < listingBytes → record { answer = answer 7 0 0; lent = bytes } ≡ listed input bytes
+  pub way-short : {a : Answer} → length bytes < listingBytes → a ≡ answer 7 0 0 → record { answer = a; lent = bytes } ≡ listed input bytes
   unfolding listed listingTests
-  way-short h =
-      sym (outcome-untouched listingTests listingDone zeros call bytes (first-last _ call ∙ over-refuses (length bytes) listingBytes (answer 7 0 0)
-      untouched h))
+  way-short h e =
+      rw e (sym (outcome-untouched listingTests listingDone zeros call bytes (first-last _ call ∙ over-refuses (length bytes) listingBytes
+      (answer 7 0 0) untouched h)))
 
   module _ (h : listingBytes ≤ length bytes) {cleared : List ℕ} (z : cleared ≡ zeros bytes) where
     -- what is printed fits
@@ -32,11 +33,11 @@ module _ (input : Input) (bytes : List ℕ) where
     prints-fit = omega (arith, program-fits input, ap length z, length-replicate {A = ℕ} (length bytes) 0)
 
     -- done
-    pub way-printed : {r : ℕ} {after : List ℕ} → (r ≡ length (programPrints input)) × (after ≡ sets cleared 0 (programPrints input))
-        → _≡_ {A = Outcome (List ℕ)} (record { answer = answer 0 0 r; lent = after }) (listed input bytes)
+    pub way-printed : {r : ℕ} {after : List ℕ} {a : Answer} → (r ≡ length (programPrints input)) × (after ≡ sets cleared 0 (programPrints input))
+        → a ≡ answer 0 0 r → _≡_ {A = Outcome (List ℕ)} (record { answer = a; lent = after }) (listed input bytes)
     unfolding listed listingTests listingDone
-    way-printed w =
+    way-printed w e =
         let fits = program-fits input in
-        rw (w .0, w .1, z, sets-zeros (programPrints input) bytes (omega arith))
+        rw (e, w .0, w .1, z, sets-zeros (programPrints input) bytes (omega arith))
         (sym (outcome-done listingTests listingDone zeros call bytes (first-last _ call ∙ over-passes-iff (length bytes) listingBytes (answer 7 0 0)
         untouched .1 h)))

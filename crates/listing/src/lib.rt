@@ -63,11 +63,7 @@ fn print_text(text: &[u8], more: bool, bytes: &mut [u8]) -> usize
     let mut rows = [0u32; program_sizes::PATTERN_ROWS];
     match text_reader::read_job(text, more, &mut starts, &mut rows) {
         JobRead::Refused { number, place } => {
-            let refusal = Answer {
-                number,
-                place,
-                count: 0,
-            };
+            let refusal = basics::answered(number, place, 0);
             return listing_lines::write_refusal(refusal, bytes);
         }
         JobRead::Job { head, count } => {
@@ -83,17 +79,9 @@ pub fn listing(text: &[u8], more: bool, bytes: &mut [u8]) -> Answer
     ensures { λ r. ⌜ EndsAs r (now (bytes .exit)) (listed (record { text = now (text .entry); more = more }) (now (bytes .entry))) ⌝ }
 {
     if bytes.len() < program_sizes::LISTING_BYTES {
-        return Answer {
-            number: 7,
-            place: 0,
-            count: 0,
-        };
+        return basics::answered(7, 0, 0);
     }
     slices::clear8(bytes);
     let printed = print_text(text, more, bytes);
-    Answer {
-        number: 0,
-        place: 0,
-        count: printed as u64,
-    }
+    basics::answered(0, 0, printed as u64)
 }

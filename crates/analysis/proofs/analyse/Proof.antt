@@ -44,7 +44,7 @@ too-short-requires c κs = tested _ (job-answered _ (after-first-fault (search) 
 returns-2 : tie.Need-returns-2
 returns-2 c =
     way-short _ _ (job-answered _ (after-first-fault (search) .first-fault .ensures) (else1 (search) .if1 .left))
-    (sym (c .before .too-short .ensures) ∙ c .if2 .taken)
+    (sym (after-too-short (search) .too-short .ensures) ∙ c .before .if2 .taken) (c .answered .ensures)
 
 planned-requires : tie.Need-planned-requires
 planned-requires c κs = (
@@ -111,6 +111,7 @@ analyse-spec =
     (λ c κs. tt)
     returns
     too-short-requires
+    (λ c κs. tt)
     returns-2
     planned-requires
     (λ c κs. tt)

@@ -63,14 +63,14 @@ same-length-6 c = omega (arith, after-rows-needed (search) .rows-needed .kept, l
 returns : tie.Need-returns
 returns c =
     let k = listed (search) .list-columns .kept in
-    made-rows _ (entry₁ (search) .pre .0) (entry₁ (search) .pre .1) (listed (search) .list-columns .ensures) (record {
+    rw (c .answered .ensures) (made-rows _ (entry₁ (search) .pre .0) (entry₁ (search) .pre .1) (listed (search) .list-columns .ensures) (record {
       parents = k .1 .1 .1 .0;
       order = k .1 .1 .1 .1 .0;
       pops = k .1 .1 .1 .1 .1 .0;
       starts = k .1 .1 .1 .1 .1 .1 .0;
       rows = k .1 .1 .1 .1 .1 .1 .1 .0;
       work = k .1 .1 .1 .1 .1 .1 .1 .1 .0;
-    }) (then1 (search) .if1 .taken) (after-rows-needed (search) .rows-needed .ensures)
+    }) (then1 (search) .if1 .taken) (after-rows-needed (search) .rows-needed .ensures))
 
 order-columns-requires : tie.Need-order-columns-requires
 order-columns-requires c κs =
@@ -105,14 +105,14 @@ same-length-12 c = omega (arith, ordered (search) .order-columns .kept, listed (
 returns-2 : tie.Need-returns-2
 returns-2 c =
     let k = listed (search) .list-columns .kept in
-    made-peak _ (entry₁ (search) .pre .0) (entry₁ (search) .pre .1) (listed (search) .list-columns .ensures) (record {
+    rw (c .answered2 .ensures) (made-peak _ (entry₁ (search) .pre .0) (entry₁ (search) .pre .1) (listed (search) .list-columns .ensures) (record {
       parents = k .1 .1 .1 .0;
       order = k .1 .1 .1 .1 .0;
       pops = k .1 .1 .1 .1 .1 .0;
       starts = k .1 .1 .1 .1 .1 .1 .0;
       rows = k .1 .1 .1 .1 .1 .1 .1 .0;
       work = k .1 .1 .1 .1 .1 .1 .1 .1 .0;
-    }) (else1 (search) .if1 .left) (ordered (search) .order-columns .ensures) (c .if2 .taken)
+    }) (else1 (search) .if1 .left) (ordered (search) .order-columns .ensures) (c .before .if2 .taken))
 
 same-length-13 : tie.Need-same-length-13
 same-length-13 c = omega (arith, listed (search) .list-columns .kept)
@@ -135,14 +135,14 @@ same-length-18 c = omega (arith, ordered (search) .order-columns .kept, listed (
 returns-3 : tie.Need-returns-3
 returns-3 c =
     let k = listed (search) .list-columns .kept in
-    made-done _ (entry₁ (search) .pre .0) (entry₁ (search) .pre .1) (listed (search) .list-columns .ensures) (record {
+    rw (c .answered3 .ensures) (made-done _ (entry₁ (search) .pre .0) (entry₁ (search) .pre .1) (listed (search) .list-columns .ensures) (record {
       parents = k .1 .1 .1 .0;
       order = k .1 .1 .1 .1 .0;
       pops = k .1 .1 .1 .1 .1 .0;
       starts = k .1 .1 .1 .1 .1 .1 .0;
       rows = k .1 .1 .1 .1 .1 .1 .1 .0;
       work = k .1 .1 .1 .1 .1 .1 .1 .1 .0;
-    }) (else1 (search) .if1 .left) (ordered (search) .order-columns .ensures) (c .if2 .left)
+    }) (else1 (search) .if1 .left) (ordered (search) .order-columns .ensures) (c .before .if2 .left))
 
 pub planned-spec : {M : Type 1} → statement M
 planned-spec =
@@ -150,6 +150,7 @@ planned-spec =
     (tie.spec
     list-columns-requires
     rows-needed-requires
+    (λ c κs. tt)
     same-length
     same-length-2
     same-length-3
@@ -158,6 +159,7 @@ planned-spec =
     same-length-6
     returns
     order-columns-requires
+    (λ c κs. tt)
     same-length-7
     same-length-8
     same-length-9
@@ -165,6 +167,7 @@ planned-spec =
     same-length-11
     same-length-12
     returns-2
+    (λ c κs. tt)
     same-length-13
     same-length-14
     same-length-15

@@ -21,7 +21,7 @@ printed c = c
 returns : tie.Need-returns
 returns c =
     way-short (record { text = entry (search) .args .text .now; more = entry (search) .args .more }) (entry (search) .args .bytes .now)
-    (c .if1 .taken)
+    (c .before .if1 .taken) (c .answered .ensures)
 
 print-text-requires : tie.Need-print-text-requires
 print-text-requires c κs =
@@ -31,8 +31,8 @@ print-text-requires c κs =
 returns-2 : tie.Need-returns-2
 returns-2 c =
     way-printed (record { text = entry (search) .args .text .now; more = entry (search) .args .more }) (entry (search) .args .bytes .now)
-    (else1 (search) .if1 .left) (cleared (search) .clear8 .ensures) (printed (search) .print-text .ensures)
+    (else1 (search) .if1 .left) (cleared (search) .clear8 .ensures) (printed (search) .print-text .ensures) (c .answered2 .ensures)
 
 pub listing-spec : {M : Type 1} → statement M
 listing-spec =
-    tie.close (tie.spec returns (λ c κs. search needs) print-text-requires (λ c. search needs) returns-2)
+    tie.close (tie.spec (λ c κs. search needs) returns (λ c κs. search needs) print-text-requires (λ c κs. search needs) (λ c. search needs) returns-2)

@@ -24,6 +24,9 @@ after-head c = c
 abbrev after-number : tie.After-number → tie.After-number
 after-number c = c
 
+abbrev refusal : tie.After-answered → tie.After-answered
+refusal c = c
+
 abbrev written : tie.After-write-refusal → tie.After-write-refusal
 written c = c
 
@@ -32,12 +35,16 @@ printed c = c
 
 write-refusal-requires : tie.Need-write-refusal-requires
 write-refusal-requires c κs =
-    omega (arith, ap length (told-refusal _ (read (search) .read-job .ensures) (after-number (search) .number .given .1)), entry (search) .pre)
+    omega (
+      arith,
+      ap length (told-refusal _ (read (search) .read-job .ensures) (after-number (search) .number .given .1) (refusal (search) .answered .ensures)),
+      entry (search) .pre,
+    )
 
 returns : tie.Need-returns
 returns c =
-    written-as (told-refusal _ (read (search) .read-job .ensures) (after-number (search) .number .given .1)) (entry (search) .args .bytes .now)
-    (written (search) .write-refusal .ensures)
+    written-as (told-refusal _ (read (search) .read-job .ensures) (after-number (search) .number .given .1) (refusal (search) .answered .ensures))
+    (entry (search) .args .bytes .now) (written (search) .write-refusal .ensures)
 
 add-starts : tie.Need-add-starts
 add-starts c = omega (arith, found-columns (told-job (read (search) .read-job .ensures) (c .before .head .given .1)))
@@ -79,6 +86,7 @@ print-text-spec =
     (λ c. search needs)
     (λ c κs. search needs)
     (λ c. search needs)
+    (λ c κs. search needs)
     write-refusal-requires
     (λ c. search needs)
     returns
