@@ -17,21 +17,6 @@ struct Found {
     wrong: u64,
 }
 
-// How many of number, place and count differ.
-fn wrong_answer(found: Answer, right: Answer) -> u64 {
-    let mut wrong = 0;
-    if found.number != right.number {
-        wrong = plus(wrong, 1);
-    }
-    if found.place != right.place {
-        wrong = plus(wrong, 1);
-    }
-    if found.count != right.count {
-        wrong = plus(wrong, 1);
-    }
-    wrong
-}
-
 // How many places of parents, order, pops and factor rows are wrong.
 fn wrong_words(
     numbers: &Numbers,
@@ -80,7 +65,7 @@ fn call(numbers: &Numbers, starts: &[u64], rows: &[u32], plan: &[u8]) -> Found {
         &mut frows[..e],
         &mut work[..f],
     );
-    let x = wrong_answer(answer, line::right(numbers));
+    let x = trial_comparison::differences(answer, line::right(numbers)) as u64;
     let y = wrong_words(numbers, &parents, &order, &pops, &frows);
     let z = wrong_longs(numbers, &fstarts, &work);
     Found {
