@@ -35,4 +35,12 @@ returns-2 c =
 
 pub listing-spec : {M : Type 1} → statement M
 listing-spec =
-    tie.close (tie.spec (λ c κs. search needs) returns (λ c κs. search needs) print-text-requires (λ c κs. search needs) (λ c. search needs) returns-2)
+    tie.close
+    (tie.spec
+    (λ c κs. search needs)
+    returns
+    (λ c κs. search needs)
+    print-text-requires
+    (λ c κs. search needs)
+    (λ c. search needs)
+    returns-2)
