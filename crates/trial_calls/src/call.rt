@@ -6,8 +6,8 @@ use trial_lines::line::add;
 use trial_lines::line::at;
 use trial_lines::sheet;
 use trial_lines::sheet::BEFORE;
-use trial_lines::sheet::plus;
 use trial_tallies::Tally;
+use trial_tallies::plus;
 
 type Bytes = [u8; 4096];
 

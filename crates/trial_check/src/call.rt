@@ -6,10 +6,10 @@ use trial_lines::sheet;
 use trial_lines::sheet::BEFORE;
 use trial_lines::sheet::Longs;
 use trial_lines::sheet::Words;
-use trial_lines::sheet::plus;
 use trial_lines::sheet::wrong32;
 use trial_lines::sheet::wrong64;
 use trial_tallies::Tally;
+use trial_tallies::plus;
 
 // What a call answered, and in how many places the answer and the slices are wrong.
 struct Found {

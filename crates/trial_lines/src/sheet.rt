@@ -3,6 +3,7 @@ use super::line;
 use super::line::Numbers;
 use super::line::add;
 use super::line::at;
+use trial_tallies::plus;
 
 pub type Words = [u32; 512];
 
@@ -65,11 +66,6 @@ pub fn after(numbers: &Numbers, slice: usize, first: usize, i: usize) -> u64 {
         return at(numbers, add(first, i));
     }
     rest(at(numbers, line::RIGHT))
-}
-
-// The sum of two numbers below 2^40.
-pub fn plus(a: u64, b: u64) -> u64 {
-    a % 1099511627776 + b % 1099511627776
 }
 
 // Counts the places of a slice that do not hold what they must; looks at four places behind its lent length as well.
