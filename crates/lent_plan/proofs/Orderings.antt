@@ -16,9 +16,9 @@ module _ {mark n : ℕ} {parents order pops starts work : List ℕ} (h : Orderab
   pub order-given : Given mark (take n parents) (take (n + 1) starts) (length (take n order)) (length (take n pops)) (length work)
   order-given = rw (length-take-le n order (h .order-long), length-take-le n pops (h .pops-long)) (h .given)
 
-  pub ordering-made : (w₁ : List ℕ) {x y w : List ℕ} {peak : ℕ} → x ≡ orderIn mark (take n parents) (take (n + 1) starts)
+  pub ordering-made : {x y w : List ℕ} {peak : ℕ} → x ≡ orderIn mark (take n parents) (take (n + 1) starts)
       → y ≡ map (popsIn (take n parents)) (orderIn mark (take n parents) (take (n + 1) starts))
       → peak ≡ peakOf (rowsIn (take (n + 1) starts)) (popsIn (take n parents)) (orderIn mark (take n parents) (take (n + 1) starts))
-      → length w₁ ≡ length work → w ≡ zeros w₁
+      → w ≡ zeros work
       → Ordering mark n parents order pops starts work (x ++ drop n order) (y ++ drop n pops) w peak
-  ordering-made w₁ a b c d e = record { steps = rw a; counts = rw b; greatest = c; cleared = rw (← d) e }
+  ordering-made a b c d = record { steps = rw a; counts = rw b; greatest = c; cleared = d }

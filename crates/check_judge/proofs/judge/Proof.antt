@@ -51,18 +51,18 @@ returns c = (
 )
 
 first-wrong-list-requires : tie.Need-first-wrong-list-requires
-first-wrong-list-requires c κs = (
-  tested _ (entry (search) .pre .0),
-  (
-    lists-held _ (entry (search) .pre .0) _ (entry (search) .pre .1 .0 .front),
-    (entry (search) .pre .1 .1 .parents, omega (arith, entry (search) .pre .1 .1 .work, after-first-repeat (search) .first-repeat .kept)),
-  ),
-)
+first-wrong-list-requires c κs =
+    record {
+      tested = tested _ (entry (search) .pre .0);
+      listed = lists-held _ (entry (search) .pre .0) _ (entry (search) .pre .1 .0 .front);
+      parents-long = entry (search) .pre .1 .1 .parents;
+      work-long = omega (arith, entry (search) .pre .1 .1 .work, after-first-repeat (search) .first-repeat .kept);
+    }
 
 returns-2 : tie.Need-returns-2
 returns-2 c = (
   λ plan front. refuses-17 _ (entry (search) .pre .0) plan front (passes-16 _ plan (front .held) (after-first-repeat (search) .first-repeat .ensures)
-      (else1 (search) .if1 .left)) (after-first-wrong-list (search) .first-wrong-list .ensures .0) (c .before .if2 .taken) (c .answered2 .ensures),
+      (else1 (search) .if1 .left)) (after-first-wrong-list (search) .first-wrong-list .ensures .answers) (c .before .if2 .taken) (c .answered2 .ensures),
   λ z. absurd (omega (arith, number-of (c .answered2 .ensures), z)),
 )
 
@@ -80,10 +80,10 @@ judge-tree-requires : tie.Need-judge-tree-requires
 judge-tree-requires c κs =
     let front = entry (search) .pre .1 .0 .front in
     let unrepeated = passes-16 _ _ (front .held) (after-first-repeat (search) .first-repeat .ensures) (else1 (search) .if1 .left) in
-    let right = passes-17 _ (entry (search) .pre .0) _ front unrepeated (after-first-wrong-list (search) .first-wrong-list .ensures .0)
+    let right = passes-17 _ (entry (search) .pre .0) _ front unrepeated (after-first-wrong-list (search) .first-wrong-list .ensures .answers)
     (else2 (search) .if2 .left) in
     let parents = parents-in-front _ _ (now (entry (search) .args .parents)) (entry (search) .pre .1 .1 .parents)
-    (after-first-wrong-list (search) .first-wrong-list .ensures .1 (else2 (search) .if2 .left)) in (
+    (after-first-wrong-list (search) .first-wrong-list .ensures .stores (else2 (search) .if2 .left)) in (
       some-on-tree _ (entry (search) .pre .0) _ front unrepeated right refl parents,
       omega (
         arith,
@@ -98,13 +98,13 @@ returns-3 : tie.Need-returns-3
 returns-3 c = (
   λ plan front.
       let unrepeated = passes-16 _ plan (front .held) (after-first-repeat (search) .first-repeat .ensures) (else1 (search) .if1 .left) in
-      let right = passes-17 _ (entry₁ (search) .pre .0) plan front unrepeated (after-first-wrong-list (search) .first-wrong-list .ensures .0)
+      let right = passes-17 _ (entry₁ (search) .pre .0) plan front unrepeated (after-first-wrong-list (search) .first-wrong-list .ensures .answers)
       (else2 (search) .if2 .left) in
       let parents = parents-in-front _ _ (now (entry₁ (search) .args .parents)) (entry₁ (search) .pre .1 .1 .parents)
-      (after-first-wrong-list (search) .first-wrong-list .ensures .1 (else2 (search) .if2 .left)) in
+      (after-first-wrong-list (search) .first-wrong-list .ensures .stores (else2 (search) .if2 .left)) in
       left-to-tree _ (entry₁ (search) .pre .0) plan front unrepeated right (judged (search) .judge-tree .ensures _ plan
       (on-tree _ (entry₁ (search) .pre .0) plan front unrepeated right refl parents)),
-  λ z. after-first-wrong-list (search) .first-wrong-list .ensures .1 (else2 (search) .if2 .left),
+  λ z. after-first-wrong-list (search) .first-wrong-list .ensures .stores (else2 (search) .if2 .left),
 )
 
 pub judge-spec : {M : Type 1} → statement M

