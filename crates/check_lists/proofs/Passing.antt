@@ -127,8 +127,8 @@ module _ {n m : ℕ} {starts rows fs fr p₀ w₀ p w : List ℕ} (s : Passing n
                 tested = s .tested;
                 listed = s .listed;
                 most = omega arith;
-                stored = rw (add-one, k, first) (stored-on (tested-below (s .tested)) (s .stored) l list right (stands-fits t list is) w₁ (c .changed) lw
-                    (stands t list is p w₁));
+                stored = rw (add-one, k, first) (stored-on (tested-below (s .tested)) (s .stored) l list right (stands-fits t list is) w₁ (c .changed)
+                    lw (stands t list is p w₁));
                 none = rw add-one (least-none (wrongIn A fs fr) m (s .none) (ap not (rw (is, add-one) at (sym (c .answers) ∙ z))));
                 parents-are = rw (add-one, map-upTo (parent A) m) (sets-more (map (parent A) (upTo m)) p₀ 0 (parent A (suc m)) m (s .parents-are)
                     (rw (first, head)) (omega (arith, length-map (upTo m) (parent A), length-upTo m)));

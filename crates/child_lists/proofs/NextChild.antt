@@ -32,7 +32,7 @@ module _ {n j c len : ℕ} {fs fr w₀ x₀ y₀ w x y : List ℕ} {d turn count
   pub child-at : StoredChild d fs fr
   child-at = record { child = next .child; ends = s .begun .ends d (s .left-in d here) }
 
-  pub link : n + d < length w
+  link : n + d < length w
   link = omega (arith, s .siblings .links, next .most)
 
   pub link-first : n + d < length w₀

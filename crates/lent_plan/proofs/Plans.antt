@@ -135,7 +135,8 @@ module _ {job : Job} {before : Lent} (g : Plannable job before) where
         pub made-peak : job .limit < most
             → Made job before (six (mid .parents) steps counts (mid .factorStarts) (mid .factorRows) work) (answer 9 0 most)
         made-peak h =
-            made-refused (λ z. omega arith) (way-peak job before (g .passes) (g .long) (listed .fits) (omega (arith, peak-is)) (ap (answer 9 0) peak-is) refl)
+            made-refused (λ z. omega arith)
+            (way-peak job before (g .passes) (g .long) (listed .fits) (omega (arith, peak-is)) (ap (answer 9 0) peak-is) refl)
 
         -- done
         pub made-done : most ≤ job .limit

@@ -54,7 +54,8 @@ fn list_columns(
         ⌝ }
     ensures { λ r. ⌜
         Listing n r (columnOf (now (starts .entry)) (now (rows .entry)))
-        (six (now (parents .entry)) (now (order .entry)) (now (pops .entry)) (now (fstarts .entry)) (now (frows .entry)) (now (work .entry)))
+        (six (now (parents .entry)) (now (order .entry)) (now (pops .entry)) (now (fstarts .entry)) (now (frows .entry))
+        (now (work .entry)))
         (six (now (parents .exit)) (now (order .exit)) (now (pops .exit)) (now (fstarts .exit)) (now (frows .exit)) (now (work .exit)))
         ⌝ }
 {
@@ -99,7 +100,8 @@ pub fn planned(
         ⌝ }
     ensures { λ r. ⌜
         Made (jobOf head (now (starts .entry)) (now (rows .entry)))
-        (six (now (parents .entry)) (now (order .entry)) (now (pops .entry)) (now (fstarts .entry)) (now (frows .entry)) (now (work .entry)))
+        (six (now (parents .entry)) (now (order .entry)) (now (pops .entry)) (now (fstarts .entry)) (now (frows .entry))
+        (now (work .entry)))
         (six (now (parents .exit)) (now (order .exit)) (now (pops .exit)) (now (fstarts .exit)) (now (frows .exit)) (now (work .exit))) r
         ⌝ }
 {
