@@ -80,7 +80,13 @@ module _ {i k t₀ t c : ℕ} {p₀ w₀ p w : List ℕ} (s : Climbing i k p₀ 
         let lp = s .start .long-parents in
         let mp = r .long-p in
         let a = r .low in
-        record { below = q .0; in-p = omega (arith, row-small); in-w = in-work; small-i = row-small; small-t = count-few (s .start .good) (s .start .few) (v .0) }
+        record {
+          below = q .0;
+          in-p = omega (arith, row-small);
+          in-w = in-work;
+          small-i = row-small;
+          small-t = count-few (s .start .good) (s .start .few) (v .0);
+        }
 
     met-on : getD (set w c i) k 0 ≡ i
     met-on =
