@@ -81,6 +81,6 @@ module _ {n m : ℕ} {list starts rows fs fr w own : List ℕ} (c : Comparable n
             let are : MarkedAre n (m + 1) w₁ own = rw (a .marks) (rw (nil-merge own) at (marked-more none own own-markable)) in
             record {
               answers =
-                  a .answers ∙ adds-exactly n (m + 1) w₁ own more list are own-asc (c .fits .0) (b .front) more-asc ∙ ap (same list) one-joined;
+                  a .answers ∙ adds-exactly n (m + 1) w₁ own more list are own-asc (c .ascending) (b .front) more-asc ∙ ap (same list) one-joined;
               changed = rw (a .marks) (changed-marked n (m + 1) own w (λ i t. omega (arith, asc-above (m + 1) own own-asc t)));
             }

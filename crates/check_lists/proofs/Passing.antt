@@ -26,7 +26,7 @@ use Rattle.structure.specs.Hanging.{hanging, Hangable}
 use Rattle.structure.proofs.Storing.{parent-is, stored-none, stored-on}
 use Rattle.check_marks.specs.Marked.{Comparable, Compared}
 use Rattle.check_lists.specs.Lists.{HoldLists, wrong, FirstWrong, ListsComparable, ListsCompared}
-use Rattle.check_lists.proofs.Plans.{starts-long, first-start, plan-part, plan-list, plan-fits, stands-fits, stands}
+use Rattle.check_lists.proofs.Plans.{starts-long, first-start, plan-part, plan-list, plan-ascending, plan-within, stands-fits, stands}
 
 -- whether column j of two slices is another than R(j)
 abbrev wrongIn : Pattern → List ℕ → List ℕ → ℕ → Bool
@@ -90,7 +90,11 @@ module _ {n m : ℕ} {starts rows fs fr p₀ w₀ p w : List ℕ} (s : Passing n
       -- its list can be held against R(m + 1)
       pub pass-next : Comparable n m list starts rows fs fr w
       pass-next =
-          record { next = record { tested = s .tested; column = l; stored = s .stored }; fits = rw is (plan-fits (s .listed .are) m l) }
+          record {
+            next = record { tested = s .tested; column = l; stored = s .stored };
+            ascending = rw is (plan-ascending (s .listed .are) m l);
+            within = rw is (plan-within (s .listed .are) m l);
+          }
 
       -- it is wrong
       pub pass-wrong : {r : Bool} {w₁ : List ℕ} → Compared n m list A w w₁ r → r ≡ false → ListsCompared n A fs fr p₀ p (m + 1)

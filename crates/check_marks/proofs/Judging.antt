@@ -54,7 +54,7 @@ module _ {n m : ℕ} {l starts rows fs fr w₀ : List ℕ} (f : Comparable n m l
 
   -- its rows have their places in the marks
   pub list-markable : {w : List ℕ} → length w ≡ length w₀ → Markable n l w
-  list-markable e = record { most = f .fits .1; long = rw e (f .next .stored .work-long) }
+  list-markable e = record { most = f .within; long = rw e (f .next .stored .work-long) }
 
   -- with as many rows as are marked it is the column's just where all are marked
   pub as-many : {w : List ℕ} {count : ℕ} → Counted n m A w₀ w count → length l ≡ count → every (isMarked n (m + 1) w) l ≡ same l (R A (m + 1))
@@ -62,12 +62,12 @@ module _ {n m : ℕ} {l starts rows fs fr w₀ : List ℕ} (f : Comparable n m l
     where
       marked-in : every (isMarked n (m + 1) w) l ≡ true → (i : ℕ) → i ∈ l → i ∈ R A (m + 1)
       marked-in e i t =
-          c .marks .sound i (omega (arith, asc-above (m + 1) l (f .fits .0) t)) (eqb-true (getD w (n + n + i) 0) (m + 1)
+          c .marks .sound i (omega (arith, asc-above (m + 1) l (f .ascending) t)) (eqb-true (getD w (n + n + i) 0) (m + 1)
           (every-all (isMarked n (m + 1) w) l .0 e i t))
 
       go : Test (every (isMarked n (m + 1) w) l) → Test (same l (R A (m + 1))) → every (isMarked n (m + 1) w) l ≡ same l (R A (m + 1))
       go (passes e) t =
-          let is = asc-whole (m + 1) l (R A (m + 1)) (f .fits .0) (R-asc (below (f .next)) (m + 1)) (marked-in e) (h ∙ c .counts) in
+          let is = asc-whole (m + 1) l (R A (m + 1)) (f .ascending) (R-asc (below (f .next)) (m + 1)) (marked-in e) (h ∙ c .counts) in
           e ∙ sym (ap (λ x. same x (R A (m + 1))) is ∙ same-refl (R A (m + 1)))
       go (fails e) (passes q) =
           let is = same-true l (R A (m + 1)) q in

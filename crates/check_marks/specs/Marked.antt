@@ -1,15 +1,14 @@
 -- The rows of a list that are not marked yet; marks that are just those of a list; the rows of R(m + 1) marked and counted; and a list held
 -- against R(m + 1).
 -- Assumes nothing.
-use Prim.Native.Nat.{ℕ, _+_}
+use Prim.Native.Nat.{ℕ, _+_, _≤_}
 use mathlib.Core.Path.{_≡_}
 use mathlib.Core.Bool.{Bool, not}
 use mathlib.Core.List.{List}
 use lib.ListN.{length, getD}
-use Rattle.papers.specs.Lists.{_∈_, Distinct, keep, same}
+use Rattle.papers.specs.Lists.{_∈_, Asc, Distinct, keep, same}
 use Rattle.papers.specs.Job.{Pattern}
 use Rattle.papers.specs.Fill.{R}
-use Rattle.bytes_laws.proofs.Gaps.{RowsFit}
 use Rattle.child_lists.specs.Marks.{marked, isMarked, Markable, Sound, Changed}
 use Rattle.column_list.specs.Stored.{Next}
 
@@ -38,10 +37,11 @@ pub record Counted (n m : ℕ) (A : Pattern) (work₀ work : List ℕ) (count : 
   pub marks : MarkedAre n (m + 1) work (R A (m + 1))
   pub changed : Changed n (m + 1) work₀ work
 
--- column m + 1 comes next, and a list has only rows that its own may have
+-- column m + 1 comes next, and a list has rows that a column of its number may have
 pub record Comparable (n m : ℕ) (list starts rows fstarts frows work : List ℕ) : Type 0 where
   pub next : Next n m starts rows fstarts frows work
-  pub fits : RowsFit n (m + 1) list
+  pub ascending : Asc (m + 1) list
+  pub within : (i : ℕ) → i ∈ list → i ≤ n
 
 -- r says whether the list is R(m + 1); of work only marks have changed
 pub record Compared (n m : ℕ) (list : List ℕ) (A : Pattern) (work₀ work : List ℕ) (r : Bool) : Type 0 where
