@@ -77,15 +77,17 @@ returns-3 c =
 returns-4 : tie.Need-returns-4
 returns-4 c = made (search) .planned .ensures .done (c .if3 .left)
 
--- every call keeps the lengths of the six slices
 pub analyse-spec : {M : Type 1} → statement M
 analyse-spec =
     tie.close
     (tie.spec
+    -- 1 to 6
     (λ c κs. tt)
     returns
+    -- 7
     too-short-requires
     returns-2
+    -- 8 or 9, cleared; the six slices are as long as they were
     planned-requires
     (λ c κs. tt)
     (λ c. omega (arith, cleared (search) .clear-all .kept, made₁ (search) .planned .kept))
@@ -95,6 +97,7 @@ analyse-spec =
     (λ c. omega (arith, cleared (search) .clear-all .kept, made₁ (search) .planned .kept))
     (λ c. omega (arith, cleared (search) .clear-all .kept, made₁ (search) .planned .kept))
     returns-3
+    -- done, and again
     (λ c. omega (arith, made (search) .planned .kept))
     (λ c. omega (arith, made (search) .planned .kept))
     (λ c. omega (arith, made (search) .planned .kept))

@@ -1,5 +1,5 @@
--- `column_list::gather` meets its contract. R(m + 1) is made of the column's pattern rows and the rows that its children hand on: without a
--- child it is the pattern rows, with one child these two joined, with several what the other children hand on is joined to that.
+-- `column_list::gather` meets its contract. R(m + 1) is made of the column's pattern rows and of what its children hand on: without a child it is
+-- the pattern rows; else these are joined with what the longest child hands on, and, where there are more children, with what those hand on.
 -- Assumes nothing.
 use Prim.Native.Nat.{ℕ}
 use mathlib.Core.Path.{refl, sym}
@@ -24,6 +24,7 @@ given c = c
 abbrev childless : tie.Then1 → tie.Then1
 childless c = c
 
+-- its pattern rows are copied to x
 abbrev copied : tie.After-copy-at → tie.After-copy-at
 copied c = c
 
@@ -35,12 +36,15 @@ parental c = c
 abbrev picked : tie.After-longest → tie.After-longest
 picked c = c
 
+-- what it hands on and the pattern rows are joined in x
 abbrev united : tie.After-unite → tie.After-unite
 united c = c
 
+-- these rows are marked
 abbrev marked : tie.After-mark → tie.After-mark
 marked c = c
 
+-- the other children are joined
 abbrev joined : tie.After-join-children → tie.After-join-children
 joined c = c
 
@@ -50,7 +54,7 @@ start c = search
 abbrev own : tie.After-handed-on → List ℕ
 own c = now (given (search) .pattern-rows .result)
 
--- From here on the pattern rows and those that the longest child hands on are known: each answer below cites this with `first (search)`.
+-- Once the longest child has handed on its rows, what is known of these and the pattern rows: the answers below cite it with `first (search)`.
 first : (c : tie.After-handed-on) → First (start c .args .n) (start c .args .m) (now (start c .args .starts)) (now (start c .args .rows))
     (now (start c .args .fstarts)) (now (start c .args .frows)) (now (start c .args .work)) (now (start c .args .x)) (now (start c .args .y))
     (own c) (now (c .handed-on .result))
@@ -64,7 +68,7 @@ first c =
       more-is = c .handed-on .ensures;
     }
 
--- ---- no child
+-- ---- the pattern rows, and no child
 
 pattern-rows-requires : tie.Need-pattern-rows-requires
 pattern-rows-requires c κs = part-of (entry (search) .pre .next)
@@ -115,27 +119,34 @@ gather-spec =
     tie.close
     (tie.spec
     pattern-rows-requires
+    -- the first child's place in work
     (λ c. omega arith)
     (λ c. omega arith)
     (λ c. omega arith)
+    -- no child; x is as long as it was
     copy-at-requires
     (λ c. omega (arith, copied (search) .copy-at .kept))
     returns
+    -- the longest child
     longest-requires
     handed-on-requires
     unite-requires
+    -- the place of the first child's link, which says whether there are more
     (λ c. omega (arith, first-link (first (search)), entry (search) .good))
     (λ c. omega (arith, first-link (first (search)), entry (search) .good))
     (λ c. first-link (first (search)))
+    -- one child; work and x are as long as they were
     (λ c. refl)
     (λ c. omega (arith, united (search) .unite .kept))
     returns-2
+    -- several
     (λ c. omega arith)
     slice-reshare-prefix-mark
     slice-aggregate-mark
     mark-requires
     (λ c. omega arith)
     join-children-requires
+    -- work, x and y are as long as they were
     (λ c. omega (arith, joined (search) .join-children .kept, marked (search) .mark .kept))
     (λ c. omega (arith, joined (search) .join-children .kept, united (search) .unite .kept))
     (λ c. omega (arith, joined (search) .join-children .kept))
