@@ -41,7 +41,7 @@ refused c = c
 abbrev cleared : tie.After-clear-all → tie.After-clear-all
 cleared c = c
 
--- two of them from nearer places, for answers that are too far away for one search
+-- the entry, and `made` from behind the refusal, for answers that are too far away for one search
 abbrev start : tie.Else1 → tie.Start
 start c = search
 

@@ -22,9 +22,11 @@ abbrev μ-loop : tie.MeasureT-loop
 abbrev entry : tie.Start Inv-loop μ-loop → tie.Start Inv-loop μ-loop
 entry c = c
 
+-- the pattern rows are at hand
 abbrev given : tie.After-pattern-rows Inv-loop μ-loop → tie.After-pattern-rows Inv-loop μ-loop
 given c = c
 
+-- they are marked and counted
 abbrev begun : tie.After-mark-new Inv-loop μ-loop → tie.After-mark-new Inv-loop μ-loop
 begun c = c
 
@@ -34,18 +36,20 @@ at-loop c = c
 abbrev in-loop : tie.In-loop Inv-loop μ-loop → tie.In-loop Inv-loop μ-loop
 in-loop c = c
 
+-- what child c hands on is at hand
 abbrev handed : tie.After-handed-on Inv-loop μ-loop → tie.After-handed-on Inv-loop μ-loop
 handed c = c
 
+-- it is marked and counted
 abbrev counted : tie.After-mark-new2 Inv-loop μ-loop → tie.After-mark-new2 Inv-loop μ-loop
 counted c = c
 
 abbrev start : tie.In-loop Inv-loop μ-loop → tie.Start Inv-loop μ-loop
 start c = search
 
--- the link of child c has its place in work
-reach : (c : tie.In-loop Inv-loop μ-loop) → start c .args .n + c .before .loop .c < length (now (start c .args .work))
-reach c =
+-- In the loop the link of child c has its place in work: the answers below cite this with `place (search)`.
+place : (c : tie.In-loop Inv-loop μ-loop) → start c .args .n + c .before .loop .c < length (now (start c .args .work))
+place c =
     omega (arith, link (c .before .loop .inv) (c .loop-test .taken), c .before .loop .inv .long, begun (search) .mark-new .kept)
 
 pattern-rows-requires : tie.Need-pattern-rows-requires Inv-loop μ-loop
@@ -103,8 +107,8 @@ mark-column-spec =
     handed-on-requires
     mark-new-requires-2
     add-count
-    (λ c. omega (arith, reach (search), entry (search) .good))
-    (λ c. omega (arith, reach (search), entry (search) .good))
+    (λ c. omega (arith, place (search), entry (search) .good))
+    (λ c. omega (arith, place (search), entry (search) .good))
     (λ c. omega (arith, link (at-loop (search) .loop .inv) (in-loop (search) .loop-test .taken), counted (search) .mark-new2 .kept))
     loop-less
     loop-again

@@ -37,7 +37,7 @@ starts-cleared c = c
 abbrev rows-cleared : tie.After-clear32-from4 → tie.After-clear32-from4
 rows-cleared c = c
 
--- the first two from behind the lists, for answers that are too far away for one search
+-- `entry` and `listed` from behind the test, for answers that are too far away for one search
 abbrev entry₁ : tie.Else1 → tie.Start
 entry₁ c = search
 

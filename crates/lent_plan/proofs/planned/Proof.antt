@@ -29,38 +29,40 @@ done c = c
 abbrev ordered : tie.After-order-columns → tie.After-order-columns
 ordered c = c
 
--- the entry from behind the lists, for answers that are too far away for one search
+-- `entry` from behind the lists, for answers that are too far away for one search
 abbrev entry₁ : tie.After-list-columns → tie.Start
 entry₁ c = search
+
+-- That the six lengths are kept is found by `search needs` in `lengths`.
 
 list-columns-requires : tie.Need-list-columns-requires
 list-columns-requires c κs = listable-in (entry (search) .pre)
 
 rows-needed-requires : tie.Need-rows-needed-requires
 rows-needed-requires c κs =
-    let k = listed (search) .list-columns .kept in
+    let lengths = listed (search) .list-columns .kept in
     countable (entry₁ (search) .pre) (listed (search) .list-columns .ensures) (search needs)
 
 returns : tie.Need-returns
 returns c =
-    let k = listed (search) .list-columns .kept in
+    let lengths = listed (search) .list-columns .kept in
     made-rows (entry₁ (search) .pre) (listed (search) .list-columns .ensures) (search needs) (short (search) .if1 .taken)
     (counted (search) .rows-needed .ensures)
 
 order-columns-requires : tie.Need-order-columns-requires
 order-columns-requires c κs =
-    let k = listed (search) .list-columns .kept in
+    let lengths = listed (search) .list-columns .kept in
     orderable (entry₁ (search) .pre) (listed (search) .list-columns .ensures) (search needs) (done (search) .if1 .left)
 
 returns-2 : tie.Need-returns-2
 returns-2 c =
-    let k = listed (search) .list-columns .kept in
+    let lengths = listed (search) .list-columns .kept in
     made-peak (entry₁ (search) .pre) (listed (search) .list-columns .ensures) (search needs) (done (search) .if1 .left)
     (ordered (search) .order-columns .ensures) (c .if2 .taken)
 
 returns-3 : tie.Need-returns-3
 returns-3 c =
-    let k = listed (search) .list-columns .kept in
+    let lengths = listed (search) .list-columns .kept in
     made-done (entry₁ (search) .pre) (listed (search) .list-columns .ensures) (search needs) (done (search) .if1 .left)
     (ordered (search) .order-columns .ensures) (c .if2 .left)
 
@@ -69,6 +71,7 @@ planned-spec =
     tie.close
     (tie.spec
     list-columns-requires
+    -- 8; the six slices are as long as they were
     rows-needed-requires
     (λ c. omega (arith, counted (search) .rows-needed .kept, listed (search) .list-columns .kept))
     (λ c. omega (arith, listed (search) .list-columns .kept))
@@ -77,6 +80,7 @@ planned-spec =
     (λ c. omega (arith, listed (search) .list-columns .kept))
     (λ c. omega (arith, counted (search) .rows-needed .kept, listed (search) .list-columns .kept))
     returns
+    -- 9, and again
     order-columns-requires
     (λ c. omega (arith, listed (search) .list-columns .kept))
     (λ c. omega (arith, ordered (search) .order-columns .kept, listed (search) .list-columns .kept))
@@ -85,6 +89,7 @@ planned-spec =
     (λ c. omega (arith, listed (search) .list-columns .kept))
     (λ c. omega (arith, ordered (search) .order-columns .kept, listed (search) .list-columns .kept))
     returns-2
+    -- done, and again
     (λ c. omega (arith, listed (search) .list-columns .kept))
     (λ c. omega (arith, ordered (search) .order-columns .kept, listed (search) .list-columns .kept))
     (λ c. omega (arith, ordered (search) .order-columns .kept, listed (search) .list-columns .kept))

@@ -44,7 +44,7 @@ read c = c
 abbrev stored : tie.After-store Inv-loop μ-loop → tie.After-store Inv-loop μ-loop
 stored c = c
 
--- the last two from behind the gathering, for answers that are too far away for one search
+-- `at-loop` and `in-loop` from behind the gathering, for answers that are too far away for one search
 abbrev at-loop₁ : tie.After-gather Inv-loop μ-loop → tie.At-loop Inv-loop μ-loop
 at-loop₁ c = search
 
@@ -94,6 +94,7 @@ column-lists-spec =
     (λ c. omega (arith, at-loop (search) .loop .inv .tested .few))
     (λ c. omega (arith, run-end (at-loop (search) .loop .inv)))
     (λ c. omega (arith, run-end (at-loop (search) .loop .inv)))
+    -- the list has no room; the slices are as long as they were
     (λ c. long-p (at-loop (search) .loop .inv))
     (λ c. long-s (at-loop (search) .loop .inv) ∙ simp length-set)
     (λ c. long-f (at-loop (search) .loop .inv))
@@ -101,11 +102,13 @@ column-lists-spec =
     (λ c. omega (arith, gathered (search) .gather .kept, at-loop (search) .loop .inv .long-y))
     (λ c. omega (arith, gathered (search) .gather .kept, at-loop (search) .loop .inv .long-w, cleared (search) .clear64 .kept))
     returns
+    -- the list has room
     gathered-requires
     store-requires
     (λ c. omega (arith, at-loop₁ (search) .loop .inv .tested .few))
     (λ c. omega arith)
     loop-again
+    -- all columns are done, and again
     (λ c. long-p (c .before .loop .inv))
     (λ c. long-s (c .before .loop .inv) ∙ simp length-set)
     (λ c. long-f (c .before .loop .inv))
