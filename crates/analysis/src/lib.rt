@@ -23,7 +23,8 @@ pub fn analyse(
         EndsAs r
         (six (now (parents .exit)) (now (order .exit)) (now (pops .exit)) (now (fstarts .exit)) (now (frows .exit)) (now (work .exit)))
         (analysed (jobOf head (now (starts .entry)) (now (rows .entry)))
-        (six (now (parents .entry)) (now (order .entry)) (now (pops .entry)) (now (fstarts .entry)) (now (frows .entry)) (now (work .entry))))
+        (six (now (parents .entry)) (now (order .entry)) (now (pops .entry)) (now (fstarts .entry)) (now (frows .entry))
+        (now (work .entry))))
         ⌝ }
 {
     let fault = job::first_fault(head, starts, rows);

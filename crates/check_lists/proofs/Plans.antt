@@ -7,11 +7,10 @@ use native.Mathlib.Omega.{arith}
 use native.Mathlib.Numerals.{add-one}
 use lib.ListN.{length, getD, drop, set, length-take, length-drop, take-append-drop}
 use lib.Seq.{getD-take, take-take, take-add, length-take-le, sets, sets-eq, set-getD}
-use Rattle.papers.specs.Lists.{head0, flat, startsFrom}
+use Rattle.papers.specs.Lists.{_∈_, Asc, head0, flat, startsFrom}
 use Rattle.papers.specs.Job.{columnOf}
 use Rattle.list_laws.specs.Parts.{part}
 use Rattle.list_laws.proofs.Stores.{length-starts}
-use Rattle.bytes_laws.proofs.Gaps.{RowsFit}
 use Rattle.job_laws.proofs.Starts.{start-at, column-at, start-within}
 use Rattle.job_laws.proofs.Passed.{PassedLists}
 use Rattle.job_laws.proofs.Laid.{laid-column}
@@ -67,8 +66,12 @@ module _ {n : ℕ} {lists : List (List ℕ)} {fs fr : List ℕ} (p : PlanLists n
     pub plan-list : columnOf fs fr (m + 1) ≡ getD lists m []
     plan-list = laid-there ∙ laid-column lists m (omega (arith, p .count))
 
-    pub plan-fits : RowsFit n (m + 1) (columnOf fs fr (m + 1))
-    plan-fits = rw (laid-there, add-one) (laid .ascending (suc m) (omega arith) h, laid .within (suc m) (omega arith) h)
+    -- in its range
+    pub plan-ascending : Asc (m + 1) (columnOf fs fr (m + 1))
+    plan-ascending = rw (laid-there, add-one) (laid .ascending (suc m) (omega arith) h)
+
+    pub plan-within : (i : ℕ) → i ∈ columnOf fs fr (m + 1) → i ≤ n
+    plan-within = rw laid-there (laid .within (suc m) (omega arith) h)
 
 -- ---- a part stored where it stands changes nothing
 

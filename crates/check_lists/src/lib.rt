@@ -1,20 +1,8 @@
 // Test 17: finds the first column whose list in a plan is not R(j). It takes the columns in ascending order, so each list is compared with
 // lists that were found right before.
-ghost use mathlib.Core.Path.{_≡_};
-ghost use Prim.Native.Nat.{_+_, _<_, _≤_};
-ghost use mathlib.Core.List.{map};
-ghost use lib.ListN.{length};
-ghost use lib.Seq.{sets};
-ghost use Rattle.papers.specs.Bounds.{workLength};
-ghost use Rattle.papers.specs.Lists.{same, upTo};
 ghost use Rattle.papers.specs.Job.{columnOf};
-ghost use Rattle.papers.specs.Fill.{R};
-ghost use Rattle.papers.specs.Tree.{parent};
-ghost use Rattle.bytes_laws.proofs.Gaps.{RowsFit};
-ghost use Rattle.column_laws.specs.Tested.{Tested};
-ghost use Rattle.child_lists.specs.Marks.{Changed};
-ghost use Rattle.column_list.specs.Stored.{Stored};
-ghost use Rattle.check_lists.specs.Lists.{HoldLists, FirstWrong};
+ghost use Rattle.check_marks.specs.Marked.{Comparable, Compared};
+ghost use Rattle.check_lists.specs.Lists.{ListsComparable, ListsCompared};
 
 // Tests whether a list is R(m + 1), if the lists of the columns before are right. Most columns have one child, and their list is mostly the
 // child's rows with new pattern rows behind them: such a list is compared with the child's, and only pattern rows are marked. For any other
@@ -29,12 +17,10 @@ fn is_right(
     frows: &[u32],
     work: &mut [u64],
 ) -> bool
-    requires tested { ⌜ Tested n (now starts) (now rows) ⌝ }
-    requires column { ⌜ m < n ⌝ }
-    requires before { ⌜ Stored n m (columnOf (now starts) (now rows)) (now fstarts) (now frows) (now work) ⌝ }
-    requires fits { ⌜ RowsFit n (m + 1) (now list) ⌝ }
-    ensures answers { λ r. ⌜ r ≡ same (now (list .entry)) (R (columnOf (now (starts .entry)) (now (rows .entry))) (m + 1)) ⌝ }
-    ensures changes { λ _. ⌜ Changed n (m + 1) (now (work .entry)) (now (work .exit)) ⌝ }
+    requires { ⌜ Comparable n m (now list) (now starts) (now rows) (now fstarts) (now frows) (now work) ⌝ }
+    ensures { λ r. ⌜
+        Compared n m (now (list .entry)) (columnOf (now (starts .entry)) (now (rows .entry))) (now (work .entry)) (now (work .exit)) r
+        ⌝ }
 {
     let own = column_list::pattern_rows(m, starts, rows);
     let c = work[m + 1] as usize;
@@ -61,15 +47,10 @@ pub fn first_wrong_list(
     parents: &mut [u32],
     work: &mut [u64],
 ) -> u64
-    requires tested { ⌜ Tested n (now starts) (now rows) ⌝ }
-    requires listed { ⌜ HoldLists n (now fstarts) (now frows) ⌝ }
-    requires long { ⌜ (n ≤ length (now parents)) × (workLength n ≤ length (now work)) ⌝ }
-    ensures answers { λ r. ⌜
-        FirstWrong n (columnOf (now (starts .entry)) (now (rows .entry))) (now (fstarts .entry)) (now (frows .entry)) r
-        ⌝ }
-    ensures stores { λ r. ⌜
-        (r ≡ 0 → now (parents .exit)
-        ≡ sets (now (parents .entry)) 0 (map (parent (columnOf (now (starts .entry)) (now (rows .entry)))) (upTo n)))
+    requires { ⌜ ListsComparable n (now starts) (now rows) (now fstarts) (now frows) (now parents) (now work) ⌝ }
+    ensures { λ r. ⌜
+        ListsCompared n (columnOf (now (starts .entry)) (now (rows .entry))) (now (fstarts .entry)) (now (frows .entry))
+        (now (parents .entry)) (now (parents .exit)) r
         ⌝ }
 {
     slices::clear64(work);

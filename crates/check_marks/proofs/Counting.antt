@@ -6,24 +6,23 @@ use mathlib.Core.Logic.{_≢_}
 use mathlib.Core.List.{List, List·Memᴰ·head, List·Memᴰ·tail}
 use native.Mathlib.Omega.{arith}
 use lib.ListN.{length, getD}
-use Rattle.papers.specs.Lists.{_∈_, Asc, Distinct, merge}
-use Rattle.papers.specs.Job.{Pattern, Below}
+use Rattle.papers.specs.Lists.{_∈_, Asc, merge}
+use Rattle.papers.specs.Job.{Pattern, Below, columnOf}
 use Rattle.papers.specs.Fill.{R}
 use Rattle.list_laws.proofs.Ascending.{asc-above, asc-distinct}
 use Rattle.list_laws.proofs.Merges.{nil-merge}
-use Rattle.fill_laws.proofs.Fill.{R-range}
+use Rattle.fill_laws.proofs.Fill.{R-range, R-pattern}
 use Rattle.column_laws.proofs.Chains.{chain-end}
-use Rattle.linked_children.specs.Children.{Child, handedOn, Siblings}
+use Rattle.linked_children.specs.Children.{StoredChild, handedOn, Siblings}
 use Rattle.linked_children.proofs.Picking.{Further, further, siblings-ext}
-use Rattle.child_lists.specs.Marks.{marked, Markable, Changed}
+use Rattle.child_lists.specs.Marks.{marked, Changed}
 use Rattle.child_lists.specs.Joining.{Makes}
 use Rattle.child_lists.proofs.Marks.{changed-none, changed-more, changed-marked}
 use Rattle.child_lists.proofs.Making.{makes-join, makes-end, makes-few}
 use Rattle.column_list.specs.Hung.{hung}
-use Rattle.column_list.specs.Stored.{Stored}
-use Rattle.column_list.proofs.Gathering.{siblings, found-child}
-use Rattle.column_list.proofs.Owns.{own-asc, own-makes, own-markable, own-change}
-use Rattle.check_marks.specs.Marked.{newRows, MarkedAre, Counted}
+use Rattle.column_list.specs.Stored.{Next}
+use Rattle.column_list.proofs.Gathering.{below, siblings, found-child, makes}
+use Rattle.check_marks.specs.Marked.{newRows, MarkableOnce, MarkedNew, MarkedAre, Counted}
 use Rattle.check_marks.proofs.Marked.{marked-none, marked-more, marked-count}
 
 -- a list above j that is marked
@@ -32,6 +31,7 @@ marks-change {n} {j} {w} l w′ a e = rw e (changed-marked n j l w (λ i t. omeg
 
 -- the children from c on are left; acc is marked
 pub record Counting (n m : ℕ) (A : Pattern) (fs fr w₀ w : List ℕ) (c count : ℕ) : Type 0 where
+  pub good : Below n A
   pub left : List ℕ
   pub siblings : Siblings n c fs w left
   pub ends : (d : ℕ) → d ∈ left → getD fs d 0 ≤ length fr
@@ -45,36 +45,49 @@ pub record Counting (n m : ℕ) (A : Pattern) (fs fr w₀ w : List ℕ) (c count
 
 -- ---- the pattern rows
 
-module _ {n m : ℕ} {A : Pattern} {fs fr w : List ℕ} (good : Below n A) (l : m < n) (st : Stored n m A fs fr w) (own : List ℕ) (o : own ≡ A (m + 1))
-  where
-    pub own-once : Distinct own
-    own-once = asc-distinct (m + 1) own (own-asc good l st own o)
+module _ {n m : ℕ} {starts rows fs fr w own : List ℕ} (g : Next n m starts rows fs fr w) (o : own ≡ columnOf starts rows (m + 1)) where
+  abbrev A : Pattern
+  A = columnOf starts rows
 
-    pub count-begin : (w₁ : List ℕ) (count : ℕ) → (count ≡ length (newRows n (m + 1) w own)) × (w₁ ≡ marked n (m + 1) own w) → length w₁ ≡ length w
-        → Counting n m A fs fr w₁ w₁ (getD w₁ (m + 1) 0) count
-    count-begin w₁ count e lw =
-        let change = own-change good l st own o w₁ (e .1) in
-        let none = marked-none n (m + 1) w (λ i h. omega (arith, st .fresh (n + n + i) (omega arith))) in
-        let are : MarkedAre n (m + 1) w₁ own = rw (e .1) (rw (nil-merge own) at (marked-more none own (own-markable good l st own o))) in
-        let many : length own ≡ 0 + length (newRows n (m + 1) w own) = rw (nil-merge own) at (marked-count none own tt (own-asc good l st own o)) in
+  own-asc : Asc (m + 1) own
+  own-asc = rw o (below g .ascending (m + 1))
+
+  pub own-once : MarkableOnce n own w
+  own-once =
+      record {
+        once = asc-distinct (m + 1) own own-asc;
+        markable = record { most = λ i t. below g .within i (m + 1) (rw o at t); long = g .stored .work-long };
+      }
+
+  -- they are marked and counted
+  module _ {w₁ : List ℕ} {count : ℕ} (e : MarkedNew n (m + 1) own w w₁ count) where
+    pub own-change : Changed n (m + 1) w w₁
+    own-change = marks-change own w₁ own-asc (e .marks)
+
+    pub count-begin : length w₁ ≡ length w → Counting n m A fs fr w₁ w₁ (getD w₁ (m + 1) 0) count
+    count-begin lw =
+        let none = marked-none n (m + 1) w (λ i h. omega (arith, g .stored .fresh (n + n + i) (omega arith))) in
+        let are : MarkedAre n (m + 1) w₁ own = rw (e .marks) (rw (nil-merge own) at (marked-more none own (own-once .markable))) in
+        let many : length own ≡ 0 + length (newRows n (m + 1) w own) = rw (nil-merge own) at (marked-count none own tt own-asc) in
         record {
+          good = below g;
           left = hung A m (m + 1);
-          siblings = rw (change .links (m + 1) (omega arith)) (siblings-ext w₁ (siblings good l st) (change .links) lw);
-          ends = λ d t. found-child good l st d t .ends;
+          siblings = rw (own-change .links (m + 1) (omega (arith, g .column))) (siblings-ext w₁ (siblings g) (own-change .links) lw);
+          ends = λ d t. found-child g d t .stands .ends;
           acc = own;
-          makes = own-makes good l st own o;
+          makes = makes g own own-asc (λ i t. rw o t) (λ i t. R-pattern (below g) (m + 1) i (rw o at t));
           marks = are;
-          counted = omega (arith, e .0, many);
+          counted = omega (arith, e .counts, many);
           changed = changed-none n (m + 1) w₁;
           long = refl;
-          room = rw lw (st .work-long);
+          room = rw lw (g .stored .work-long);
         }
 
 -- ---- a child
 
-module _ {n m : ℕ} {A : Pattern} {fs fr w₀ w : List ℕ} {c count : ℕ} (good : Below n A) (s : Counting n m A fs fr w₀ w c count) where
+module _ {n m : ℕ} {A : Pattern} {fs fr w₀ w : List ℕ} {c count : ℕ} (s : Counting n m A fs fr w₀ w c count) where
   pub count-few : count ≤ n
-  count-few = rw (s .counted) (makes-few (λ i t. R-range good (m + 1) i t .1) (s .makes))
+  count-few = rw (s .counted) (makes-few (λ i t. R-range (s .good) (m + 1) i t .1) (s .makes))
 
   module _ (h : c ≢ 0) where
     on : Further n c fs w (s .left)
@@ -83,25 +96,26 @@ module _ {n m : ℕ} {A : Pattern} {fs fr w₀ w : List ℕ} {c count : ℕ} (go
     here : c ∈ s .left
     here = rw (on .is) (List·Memᴰ·head refl)
 
-    pub child-at : Child fs c × (getD fs c 0 ≤ length fr)
-    child-at = (on .child, s .ends c here)
+    pub child-at : StoredChild c fs fr
+    child-at = record { child = on .child; ends = s .ends c here }
 
     pub link : n + c < length w
     link = omega (arith, s .siblings .links, on .most)
 
-    module _ (more : List ℕ) (e : more ≡ handedOn fs fr c) where
+    module _ {more : List ℕ} (e : more ≡ handedOn fs fr c) where
       more-asc : Asc (m + 1) more
       more-asc = rw e (s .makes .asc-hands c here)
 
-      pub more-once : Distinct more
-      more-once = asc-distinct (m + 1) more more-asc
+      pub more-once : MarkableOnce n more w
+      more-once =
+          record {
+            once = asc-distinct (m + 1) more more-asc;
+            markable = record { most = λ i t. R-range (s .good) (m + 1) i (s .makes .hands-in c i here (rw e at t)) .1; long = s .room };
+          }
 
-      pub more-markable : Markable n more w
-      more-markable = record { most = λ i t. R-range good (m + 1) i (s .makes .hands-in c i here (rw e at t)) .1; long = s .room }
-
-      module _ (w₁ : List ℕ) (k : ℕ) (q : (k ≡ length (newRows n (m + 1) w more)) × (w₁ ≡ marked n (m + 1) more w)) (lw : length w₁ ≡ length w) where
+      module _ {w₁ : List ℕ} {k : ℕ} (q : MarkedNew n (m + 1) more w w₁ k) where
         change : Changed n (m + 1) w w₁
-        change = marks-change more w₁ more-asc (q .1)
+        change = marks-change more w₁ more-asc (q .marks)
 
         same-link : getD w₁ (n + c) 0 ≡ getD w (n + c) 0
         same-link = change .links (n + c) (omega (arith, on .most))
@@ -112,16 +126,17 @@ module _ {n m : ℕ} {A : Pattern} {fs fr w₀ w : List ℕ} {c count : ℕ} (go
         joined : Makes (m + 1) (handedOn fs fr) (on .rest) (merge (s .acc) more) (R A (m + 1))
         joined = rw e (makes-join (rw (on .is) at (s .makes)))
 
-        pub count-turn : Counting n m A fs fr w₀ w₁ (getD w₁ (n + c) 0) (count + k)
-        count-turn =
+        pub count-turn : length w₁ ≡ length w → Counting n m A fs fr w₀ w₁ (getD w₁ (n + c) 0) (count + k)
+        count-turn lw =
             record {
+              good = s .good;
               left = on .rest;
               siblings = rw same-link (siblings-ext w₁ (on .siblings) (change .links) lw);
               ends = λ d t. s .ends d (rw (on .is) (List·Memᴰ·tail t));
               acc = merge (s .acc) more;
               makes = joined;
-              marks = rw (q .1) (marked-more (s .marks) more more-markable);
-              counted = omega (arith, s .counted, q .0, marked-count (s .marks) more (s .makes .asc) more-asc);
+              marks = rw (q .marks) (marked-more (s .marks) more (more-once .markable));
+              counted = omega (arith, s .counted, q .counts, marked-count (s .marks) more (s .makes .asc) more-asc);
               changed = changed-more w₁ (s .changed) change;
               long = lw ∙ s .long;
               room = rw lw (s .room);

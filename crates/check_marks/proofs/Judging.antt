@@ -9,17 +9,17 @@ use native.Mathlib.Omega.{arith}
 use lib.ListN.{length, getD}
 use borrow.Author.Tests.{eqb-true, eq-eqb}
 use Rattle.papers.specs.Lists.{_∈_, Asc, member, same, every}
-use Rattle.papers.specs.Job.{Pattern, Below}
+use Rattle.papers.specs.Job.{Pattern, columnOf}
 use Rattle.papers.specs.Fill.{R}
 use Rattle.list_laws.proofs.Tests.{Test, passes, fails, test, true-false}
 use Rattle.list_laws.proofs.Ascending.{asc-above, asc-distinct, asc-ext}
 use Rattle.list_laws.proofs.Counts.{distinct-length}
 use Rattle.list_laws.proofs.Members.{member-true, member-into, same-true, same-refl}
-use Rattle.list_laws.proofs.Every.{every-all}
-use Rattle.bytes_laws.proofs.Gaps.{RowsFit}
 use Rattle.fill_laws.proofs.Fill.{R-asc}
-use Rattle.child_lists.specs.Marks.{isMarked}
-use Rattle.check_marks.specs.Marked.{Counted}
+use Rattle.list_laws.proofs.Every.{every-all}
+use Rattle.child_lists.specs.Marks.{isMarked, Markable}
+use Rattle.column_list.proofs.Gathering.{below}
+use Rattle.check_marks.specs.Marked.{Counted, Comparable}
 
 -- as many rows of an ascending list as it has, ascending, are all of it
 pub asc-whole : (b : ℕ) (xs ys : List ℕ) → Asc b xs → Asc b ys → ((i : ℕ) → i ∈ xs → i ∈ ys) → length xs ≡ length ys → xs ≡ ys
@@ -47,18 +47,27 @@ module _ {n m : ℕ} {A : Pattern} {w₀ w : List ℕ} {count : ℕ} (c : Counte
       go (passes e) = absurd (h (ap length (same-true l (R A (m + 1)) e) ∙ sym (c .counts)))
       go (fails e) = sym e
 
-  -- one with as many: just where all are marked
-  pub as-many : Below n A → RowsFit n (m + 1) l → length l ≡ count → every (isMarked n (m + 1) w) l ≡ same l (R A (m + 1))
-  as-many good f h = go (test (every (isMarked n (m + 1) w) l)) (test (same l (R A (m + 1))))
+-- one that may be the column's
+module _ {n m : ℕ} {l starts rows fs fr w₀ : List ℕ} (f : Comparable n m l starts rows fs fr w₀) where
+  abbrev A : Pattern
+  A = columnOf starts rows
+
+  -- its rows have their places in the marks
+  pub list-markable : {w : List ℕ} → length w ≡ length w₀ → Markable n l w
+  list-markable e = record { most = f .within; long = rw e (f .next .stored .work-long) }
+
+  -- with as many rows as are marked it is the column's just where all are marked
+  pub as-many : {w : List ℕ} {count : ℕ} → Counted n m A w₀ w count → length l ≡ count → every (isMarked n (m + 1) w) l ≡ same l (R A (m + 1))
+  as-many {w} c h = go (test (every (isMarked n (m + 1) w) l)) (test (same l (R A (m + 1))))
     where
       marked-in : every (isMarked n (m + 1) w) l ≡ true → (i : ℕ) → i ∈ l → i ∈ R A (m + 1)
       marked-in e i t =
-          c .marks .sound i (omega (arith, asc-above (m + 1) l (f .0) t)) (eqb-true (getD w (n + n + i) 0) (m + 1)
+          c .marks .sound i (omega (arith, asc-above (m + 1) l (f .ascending) t)) (eqb-true (getD w (n + n + i) 0) (m + 1)
           (every-all (isMarked n (m + 1) w) l .0 e i t))
 
       go : Test (every (isMarked n (m + 1) w) l) → Test (same l (R A (m + 1))) → every (isMarked n (m + 1) w) l ≡ same l (R A (m + 1))
       go (passes e) t =
-          let is = asc-whole (m + 1) l (R A (m + 1)) (f .0) (R-asc good (m + 1)) (marked-in e) (h ∙ c .counts) in
+          let is = asc-whole (m + 1) l (R A (m + 1)) (f .ascending) (R-asc (below (f .next)) (m + 1)) (marked-in e) (h ∙ c .counts) in
           e ∙ sym (ap (λ x. same x (R A (m + 1))) is ∙ same-refl (R A (m + 1)))
       go (fails e) (passes q) =
           let is = same-true l (R A (m + 1)) q in

@@ -12,9 +12,9 @@ use lib.Seq.{drop-cons, getD-set-other, set-getD}
 use borrow.Author.Tests.{eq-eqb, ne-eqb}
 use Rattle.papers.specs.Lists.{_∈_, Distinct}
 use Rattle.list_laws.proofs.Keeps.{keep-nil, keep-yes, keep-no}
-use Rattle.child_lists.specs.Marks.{marked, isMarked}
+use Rattle.child_lists.specs.Marks.{isMarked}
 use Rattle.child_lists.proofs.Marks.{Marking, mark-begin, mark-turn, mark-stop}
-use Rattle.check_marks.specs.Marked.{newRows}
+use Rattle.check_marks.specs.Marked.{newRows, MarkableOnce, MarkedNew}
 
 -- whether a row is not marked
 abbrev pub isNew : ℕ → ℕ → List ℕ → ℕ → Bool
@@ -34,8 +34,9 @@ pub record Newly (n j : ℕ) (l w₀ w : List ℕ) (count k : ℕ) : Type 0 wher
   pub once : Distinct (drop k l)
   pub ahead : (i : ℕ) → i ∈ drop k l → getD w (n + n + i) 0 ≡ getD w₀ (n + n + i) 0
 
-pub new-begin : (n j : ℕ) (l w : List ℕ) → Distinct l → Newly n j l w w 0 0
-new-begin n j l w d = record { marking = mark-begin n j l w; counted = omega arith; few = omega arith; once = d; ahead = λ i m. refl }
+pub new-begin : (j : ℕ) {n : ℕ} {l w : List ℕ} → MarkableOnce n l w → Newly n j l w w 0 0
+new-begin j {n} {l} {w} m =
+    record { marking = mark-begin n j l w; counted = omega arith; few = omega arith; once = m .once; ahead = λ i t. refl }
 
 module _ {n j : ℕ} {l w₀ w : List ℕ} {count k : ℕ} (m : Newly n j l w₀ w count k) (h : k < length l) where
   split : drop k l ≡ getD l k 0 ∷ drop (suc k) l
@@ -80,8 +81,7 @@ module _ {n j : ℕ} {l w₀ w : List ℕ} {count k : ℕ} (m : Newly n j l w₀
       differs : (i : ℕ) → i ∈ drop (suc k) l → i ≡ getD l k 0 → ⊥
       differs i t q = apart .0 (Memᴰ·cast (sym q) t)
 
-pub new-stop : {n j : ℕ} {l w₀ w : List ℕ} {count k : ℕ} → Newly n j l w₀ w count k → length l ≤ k
-    → (count ≡ length (newRows n j w₀ l)) × (w ≡ marked n j l w₀)
+pub new-stop : {n j : ℕ} {l w₀ w : List ℕ} {count k : ℕ} → Newly n j l w₀ w count k → length l ≤ k → MarkedNew n j l w₀ w count
 new-stop {n} {j} {l} {w₀} {count = count} m h =
     let none : count + length (newRows n j w₀ []) ≡ length (newRows n j w₀ l) = rw (drop-of-length-le l h) at (m .counted) in
-    (omega (arith, none, ap length (keep-nil (isNew n j w₀))), mark-stop (m .marking) h)
+    record { counts = omega (arith, none, ap length (keep-nil (isNew n j w₀))); marks = mark-stop (m .marking) h }

@@ -1,18 +1,30 @@
--- The rows of a list that are not marked yet; marks that are just those of a list; and the rows of R(m + 1) marked and counted.
+-- The rows of a list that are not marked yet; marks that are just those of a list; the rows of R(m + 1) marked and counted; and a list held
+-- against R(m + 1).
 -- Assumes nothing.
-use Prim.Native.Nat.{ℕ, _+_}
+use Prim.Native.Nat.{ℕ, _+_, _≤_}
 use mathlib.Core.Path.{_≡_}
-use mathlib.Core.Bool.{not}
+use mathlib.Core.Bool.{Bool, not}
 use mathlib.Core.List.{List}
 use lib.ListN.{length, getD}
-use Rattle.papers.specs.Lists.{_∈_, keep}
+use Rattle.papers.specs.Lists.{_∈_, Asc, Distinct, keep, same}
 use Rattle.papers.specs.Job.{Pattern}
 use Rattle.papers.specs.Fill.{R}
-use Rattle.child_lists.specs.Marks.{isMarked, Sound, Changed}
+use Rattle.child_lists.specs.Marks.{marked, isMarked, Markable, Sound, Changed}
+use Rattle.column_list.specs.Stored.{Next}
 
 -- the rows of a list that are not marked for column j
 abbrev pub newRows : ℕ → ℕ → List ℕ → List ℕ → List ℕ
 newRows n j work l = keep (λ i. not (isMarked n j work i)) l
+
+-- a list without repeats, whose rows have their places in the marks
+pub record MarkableOnce (n : ℕ) (list work : List ℕ) : Type 0 where
+  pub once : Distinct list
+  pub markable : Markable n list work
+
+-- its rows are marked, and r of them were not
+pub record MarkedNew (n j : ℕ) (list work₀ work : List ℕ) (r : ℕ) : Type 0 where
+  pub counts : r ≡ length (newRows n j work₀ list)
+  pub marks : work ≡ marked n j list work₀
 
 -- the rows marked for column j are those of a list
 pub record MarkedAre (n j : ℕ) (work l : List ℕ) : Type 0 where
@@ -23,4 +35,15 @@ pub record MarkedAre (n j : ℕ) (work l : List ℕ) : Type 0 where
 pub record Counted (n m : ℕ) (A : Pattern) (work₀ work : List ℕ) (count : ℕ) : Type 0 where
   pub counts : count ≡ length (R A (m + 1))
   pub marks : MarkedAre n (m + 1) work (R A (m + 1))
+  pub changed : Changed n (m + 1) work₀ work
+
+-- column m + 1 comes next, and a list has rows that a column of its number may have
+pub record Comparable (n m : ℕ) (list starts rows fstarts frows work : List ℕ) : Type 0 where
+  pub next : Next n m starts rows fstarts frows work
+  pub ascending : Asc (m + 1) list
+  pub within : (i : ℕ) → i ∈ list → i ≤ n
+
+-- r says whether the list is R(m + 1); of work only marks have changed
+pub record Compared (n m : ℕ) (list : List ℕ) (A : Pattern) (work₀ work : List ℕ) (r : Bool) : Type 0 where
+  pub answers : r ≡ same list (R A (m + 1))
   pub changed : Changed n (m + 1) work₀ work

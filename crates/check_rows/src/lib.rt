@@ -2,11 +2,10 @@
 // work, place n + n + i holds the mark of row i.
 ghost use mathlib.Core.Path.{_≡_};
 ghost use mathlib.Core.Bool.{true};
-ghost use Prim.Native.Nat.{_≤_};
-ghost use lib.ListN.{length, take};
+ghost use lib.ListN.{length};
 ghost use Rattle.papers.specs.Lists.{keep, same};
-ghost use Rattle.child_lists.specs.Marks.{marked, isMarked, Markable};
-ghost use Rattle.check_rows.specs.Added.{addsOwn};
+ghost use Rattle.child_lists.specs.Marks.{isMarked, Markable};
+ghost use Rattle.check_rows.specs.Added.{Begins, Addable, Adds};
 
 // Tests whether two lists are equal. In the loop those before k are equal, or a difference was seen; the loop goes on anyway, so that the
 // machine compares many rows at once.
@@ -31,10 +30,7 @@ pub fn same_rows(a: &[u32], b: &[u32]) -> bool
 
 // Tests whether a list begins with the rows of another.
 pub fn begins_with(list: &[u32], more: &[u32]) -> bool
-    ensures { λ r. ⌜
-        (r ≡ true → (length (now (more .entry)) ≤ length (now (list .entry)))
-        × (take (length (now (more .entry))) (now (list .entry)) ≡ now (more .entry)))
-        ⌝ }
+    ensures { λ r. ⌜ (r ≡ true → Begins (now (list .entry)) (now (more .entry))) ⌝ }
 {
     if list.len() < more.len() {
         return false;
@@ -63,10 +59,8 @@ fn count_marked(n: usize, j: usize, list: &[u32], work: &[u64]) -> usize
 // Tests whether a list, of which the first p rows are known, contains the pattern rows too, and behind place p nothing else. Marks the
 // pattern rows.
 pub fn adds_own(n: usize, j: usize, list: &[u32], p: usize, own: &[u32], work: &mut [u64]) -> bool
-    requires own { ⌜ Markable n (now own) (now work) ⌝ }
-    requires list { ⌜ Markable n (now list) (now work) × (p ≤ length (now list)) ⌝ }
-    ensures answers { λ r. ⌜ r ≡ addsOwn n j (now (list .entry)) p (now (own .entry)) (now (work .exit)) ⌝ }
-    ensures marks { λ _. ⌜ now (work .exit) ≡ marked n j (now (own .entry)) (now (work .entry)) ⌝ }
+    requires { ⌜ Addable n (now list) p (now own) (now work) ⌝ }
+    ensures { λ r. ⌜ Adds n j (now (list .entry)) p (now (own .entry)) (now (work .entry)) (now (work .exit)) r ⌝ }
 {
     child_lists::mark(n, j, own, work);
     if count_marked(n, j, list, work) != own.len() {

@@ -6,10 +6,10 @@ use mathlib.Core.Logic.{_≢_}
 use mathlib.Core.List.{List}
 use native.Mathlib.Omega.{arith}
 use lib.ListN.{length, take}
-use lib.Seq.{sets}
 use Rattle.papers.specs.Lists.{merge}
+use Rattle.joiner.specs.Join.{United}
 use Rattle.list_laws.proofs.Stores.{front-stored}
-use Rattle.child_lists.specs.Buffers.{buffer, held, Roomy}
+use Rattle.child_lists.specs.Buffers.{buffer, held, Holds, Roomy}
 
 pub first-buffer : (t : ℕ) (x y : List ℕ) → t ≡ 0 → buffer t x y ≡ x
 unfolding buffer
@@ -20,7 +20,7 @@ unfolding buffer
 second-buffer zero x y e = absurd (e refl)
 second-buffer (suc t) x y e = refl
 
-module _ (t len : ℕ) (more x y : List ℕ) (r : Roomy t len more x y) where
+module _ {t len : ℕ} {more x y : List ℕ} (r : Roomy t len more x y) where
   pub fits-y : t ≡ 0 → length (merge (take len x) more) ≤ length y
   fits-y e = rw (first-buffer t x y e) at (r .joined-y)
 
@@ -28,15 +28,21 @@ module _ (t len : ℕ) (more x y : List ℕ) (r : Roomy t len more x y) where
   fits-x e = rw (second-buffer t x y e) at (r .joined-x)
 
   -- joined from x into y
-  pub joined-in-y : (k : ℕ) (y′ : List ℕ) → t ≡ 0 → (k ≡ length (merge (take len x) more)) × (y′ ≡ sets y 0 (merge (take len x) more))
-      → (k ≡ length (merge (held t len x y) more)) × (held (1 - t) k x y′ ≡ merge (held t len x y) more)
-  joined-in-y k y′ e u =
+  pub joined-in-y : {k : ℕ} {y′ : List ℕ} → t ≡ 0 → United (take len x) more y y′ k → Holds (1 - t) k x y′ (merge (held t len x y) more)
+  joined-in-y {k} {y′} e u =
       let z : 1 - t ≢ 0 = λ q. omega arith in
-      rw (first-buffer t x y e, second-buffer (1 - t) x y′ z) (u .0, rw (u .1, u .0) (front-stored y (merge (take len x) more) (fits-y e)))
+      rw (first-buffer t x y e)
+      (record {
+        count = u .counts;
+        list = rw (second-buffer (1 - t) x y′ z, u .joins, u .counts) (front-stored y (merge (take len x) more) (fits-y e));
+      })
 
   -- joined from y into x
-  pub joined-in-x : (k : ℕ) (x′ : List ℕ) → t ≢ 0 → (k ≡ length (merge (take len y) more)) × (x′ ≡ sets x 0 (merge (take len y) more))
-      → (k ≡ length (merge (held t len x y) more)) × (held (1 - t) k x′ y ≡ merge (held t len x y) more)
-  joined-in-x k x′ e u =
+  pub joined-in-x : {k : ℕ} {x′ : List ℕ} → t ≢ 0 → United (take len y) more x x′ k → Holds (1 - t) k x′ y (merge (held t len x y) more)
+  joined-in-x {k} {x′} e u =
       let z : 1 - t ≡ 0 = omega arith in
-      rw (second-buffer t x y e, first-buffer (1 - t) x′ y z) (u .0, rw (u .1, u .0) (front-stored x (merge (take len y) more) (fits-x e)))
+      rw (second-buffer t x y e)
+      (record {
+        count = u .counts;
+        list = rw (first-buffer (1 - t) x′ y z, u .joins, u .counts) (front-stored x (merge (take len y) more) (fits-x e));
+      })

@@ -11,7 +11,7 @@ use Rattle.papers.specs.Lists.{_∈_}
 use Rattle.column_laws.proofs.Chains.{chain-end, chain-only}
 use Rattle.linked_children.specs.Children.{handedOn, Siblings}
 use Rattle.child_lists.specs.Marks.{Sound, Changed}
-use Rattle.child_lists.specs.Buffers.{held}
+use Rattle.child_lists.specs.Buffers.{held, Holds}
 use Rattle.child_lists.specs.Joining.{Makes, Begun, Joining, Joined}
 use Rattle.child_lists.proofs.Marks.{changed-none}
 use Rattle.child_lists.proofs.Buffers.{first-buffer}
@@ -62,9 +62,9 @@ module _ {n j c len : ℕ} {fs fr w₀ x₀ y₀ w x y : List ℕ} {d turn count
       done : held turn count x y ≡ s .whole
       done = makes-end (rw (chain-end w n d (s .left) (s .siblings .chain) z) at (s .makes))
 
-      same : (children whole : List ℕ) → Begun n j c len fs fr w₀ x₀ y₀ children whole → (count ≡ length whole) × (held turn count x y ≡ whole)
+      same : (children whole : List ℕ) → Begun n j c len fs fr w₀ x₀ y₀ children whole → Holds turn count x y whole
       same children whole b =
           let k = chain-only w₀ n c (s .children) children (s .begun .siblings .chain) (b .siblings .chain) in
           let m : Makes j (handedOn fs fr) children (take len x₀) (s .whole) = rw k at (s .begun .makes) in
           let q = makes-only m (b .makes) in
-          (sym (s .size) ∙ ap length (done ∙ q), done ∙ q)
+          record { count = sym (s .size) ∙ ap length (done ∙ q); list = done ∙ q }

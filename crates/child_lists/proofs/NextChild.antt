@@ -10,10 +10,10 @@ use lib.ListN.{length, getD}
 use Rattle.papers.specs.Lists.{_∈_, merge, every}
 use Rattle.list_laws.proofs.Ascending.{asc-above}
 use Rattle.list_laws.proofs.Merges.{merge-left, merge-right}
-use Rattle.linked_children.specs.Children.{handedOn, Child}
+use Rattle.linked_children.specs.Children.{handedOn, StoredChild}
 use Rattle.linked_children.proofs.Picking.{Further, further, siblings-ext}
 use Rattle.child_lists.specs.Marks.{marked, isMarked, Markable, Changed}
-use Rattle.child_lists.specs.Buffers.{held, Roomy}
+use Rattle.child_lists.specs.Buffers.{held, Holds, Roomy}
 use Rattle.child_lists.specs.Joining.{Makes}
 use Rattle.child_lists.proofs.Marks.{marks-sound, changed-more, changed-marked, covered-in}
 use Rattle.child_lists.proofs.Making.{makes-join, makes-skip, makes-few}
@@ -23,19 +23,16 @@ module _ {n j c len : ℕ} {fs fr w₀ x₀ y₀ w x y : List ℕ} {d turn count
   next : Further n d fs w (s .left)
   next = further (s .siblings) h
 
-  pub child-at : Child fs d
-  child-at = next .child
-
   pub falls : getD w (n + d) 0 < d
   falls = next .falls
 
   here : d ∈ s .left
   here = rw (next .is) (List·Memᴰ·head refl)
 
-  pub ends : getD fs d 0 ≤ length fr
-  ends = s .begun .ends d (s .left-in d here)
+  pub child-at : StoredChild d fs fr
+  child-at = record { child = next .child; ends = s .begun .ends d (s .left-in d here) }
 
-  pub link : n + d < length w
+  link : n + d < length w
   link = omega (arith, s .siblings .links, next .most)
 
   pub link-first : n + d < length w₀
@@ -48,7 +45,7 @@ module _ {n j c len : ℕ} {fs fr w₀ x₀ y₀ w x y : List ℕ} {d turn count
   makes = rw (next .is) at (s .makes)
 
   -- what d hands on
-  module _ (more : List ℕ) (e : more ≡ handedOn fs fr d) where
+  module _ {more : List ℕ} (e : more ≡ handedOn fs fr d) where
     new-row : (i : ℕ) → i ∈ more → i ∈ s .whole
     new-row i m = s .makes .hands-in d i here (rw e at m)
 
@@ -86,35 +83,36 @@ module _ {n j c len : ℕ} {fs fr w₀ x₀ y₀ w x y : List ℕ} {d turn count
           long-y = s .long-y;
         }
 
-    change : (w′ : List ℕ) → w′ ≡ marked n j more w → Changed n j w w′
-    change w′ f = rw f (changed-marked n j more w (λ i m. positive i (rw e at m)))
+    -- its rows are marked
+    module _ {w′ : List ℕ} (f : w′ ≡ marked n j more w) where
+      change : Changed n j w w′
+      change = rw f (changed-marked n j more w (λ i m. positive i (rw e at m)))
 
-    next-link : (w′ : List ℕ) → w′ ≡ marked n j more w → getD w′ (n + d) 0 ≡ getD w (n + d) 0
-    next-link w′ f = change w′ f .links (n + d) (omega (arith, next .most))
+      next-link : getD w′ (n + d) 0 ≡ getD w (n + d) 0
+      next-link = change .links (n + d) (omega (arith, next .most))
 
-    pub falls-marked : (w′ : List ℕ) → w′ ≡ marked n j more w → getD w′ (n + d) 0 < d
-    falls-marked w′ f = rw (next-link w′ f) falls
+      pub falls-marked : getD w′ (n + d) 0 < d
+      falls-marked = rw next-link falls
 
-    -- it is joined and its rows are marked
-    pub joins : (x′ y′ w′ : List ℕ) (count′ : ℕ)
-        → (count′ ≡ length (merge (held turn count x y) more)) × (held (1 - turn) count′ x′ y′ ≡ merge (held turn count x y) more)
-        → w′ ≡ marked n j more w → length x′ ≡ length x → length y′ ≡ length y → length w′ ≡ length w
-        → State n j c len fs fr w₀ x₀ y₀ w′ x′ y′ (getD w′ (n + d) 0) (1 - turn) count′
-    joins x′ y′ w′ count′ q f lx ly lw =
-        record {
-          children = s .children;
-          whole = s .whole;
-          begun = s .begun;
-          left = next .rest;
-          left-in = λ k m. s .left-in k (rw (next .is) (List·Memᴰ·tail m));
-          siblings = rw (next-link w′ f) (siblings-ext w′ (next .siblings) (change w′ f .links) lw);
-          makes = rw (q .1, e) (makes-join makes);
-          size = ap length (q .1) ∙ sym (q .0);
-          sound = rw (q .1, f) (marks-sound n j more w (held turn count x y) (merge (held turn count x y) more) (s .sound)
-              (λ i m. merge-left (held turn count x y) more m) (λ i m. merge-right (held turn count x y) more m));
-          turns = omega arith;
-          changed = changed-more w′ (s .changed) (change w′ f);
-          long-w = lw ∙ s .long-w;
-          long-x = lx ∙ s .long-x;
-          long-y = ly ∙ s .long-y;
-        }
+      -- and joined
+      pub joins : {x′ y′ : List ℕ} {count′ : ℕ} → Holds (1 - turn) count′ x′ y′ (merge (held turn count x y) more)
+          → length x′ ≡ length x → length y′ ≡ length y → length w′ ≡ length w
+          → State n j c len fs fr w₀ x₀ y₀ w′ x′ y′ (getD w′ (n + d) 0) (1 - turn) count′
+      joins q lx ly lw =
+          record {
+            children = s .children;
+            whole = s .whole;
+            begun = s .begun;
+            left = next .rest;
+            left-in = λ k m. s .left-in k (rw (next .is) (List·Memᴰ·tail m));
+            siblings = rw next-link (siblings-ext w′ (next .siblings) (change .links) lw);
+            makes = rw (q .list, e) (makes-join makes);
+            size = ap length (q .list) ∙ sym (q .count);
+            sound = rw (q .list, f) (marks-sound n j more w (held turn count x y) (merge (held turn count x y) more) (s .sound)
+                (λ i m. merge-left (held turn count x y) more m) (λ i m. merge-right (held turn count x y) more m));
+            turns = omega arith;
+            changed = changed-more w′ (s .changed) change;
+            long-w = lw ∙ s .long-w;
+            long-x = lx ∙ s .long-x;
+            long-y = ly ∙ s .long-y;
+          }

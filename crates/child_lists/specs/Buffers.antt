@@ -1,6 +1,7 @@
 -- Two buffers that take turns: a list is held in one of them, and joining writes into the other.
 -- Assumes nothing.
 use Prim.Native.Nat.{ℕ, zero, suc, _≤_}
+use mathlib.Core.Path.{_≡_}
 use mathlib.Core.List.{List}
 use lib.ListN.{length, take}
 use Rattle.papers.specs.Lists.{merge}
@@ -13,6 +14,11 @@ buffer (suc turn) x y = y
 -- the first len numbers of it
 abbrev pub held : ℕ → ℕ → List ℕ → List ℕ → List ℕ
 held turn len x y = take len (buffer turn x y)
+
+-- these are the list l
+pub record Holds (turn len : ℕ) (x y l : List ℕ) : Type 0 where
+  pub count : len ≡ length l
+  pub list : held turn len x y ≡ l
 
 -- either buffer has room for the list held and for more joined to it
 pub record Roomy (turn len : ℕ) (more x y : List ℕ) : Type 0 where

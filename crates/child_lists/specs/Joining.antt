@@ -1,14 +1,13 @@
 -- The list that a column's rows and those its children hand on make, and the state before and after the children are joined.
 -- Assumes nothing.
 use Prim.Native.Nat.{ℕ, _+_, _<_, _≤_}
-use mathlib.Core.Path.{_≡_}
 use mathlib.Core.Logic.{_⊎_}
 use mathlib.Core.List.{List}
 use lib.ListN.{length, getD, take}
 use Rattle.papers.specs.Lists.{_∈_, Asc}
 use Rattle.linked_children.specs.Children.{handedOn, Siblings}
 use Rattle.child_lists.specs.Marks.{Sound, Changed}
-use Rattle.child_lists.specs.Buffers.{held}
+use Rattle.child_lists.specs.Buffers.{Holds}
 
 -- acc and what the children hand on make the ascending list whole
 pub record Makes (j : ℕ) (hands : ℕ → List ℕ) (children acc whole : List ℕ) : Type 0 where
@@ -39,5 +38,5 @@ pub record Joining (n j c len : ℕ) (fstarts frows work x y : List ℕ) : Type 
 -- the list of column j is held in the buffers; of work only marks have changed, to j
 pub record Joined (n j c len₀ : ℕ) (fstarts frows work₀ x₀ y₀ : List ℕ) (turn len : ℕ) (work x y : List ℕ) : Type 0 where
   pub list : (children whole : List ℕ) → Begun n j c len₀ fstarts frows work₀ x₀ y₀ children whole
-      → (len ≡ length whole) × (held turn len x y ≡ whole)
+      → Holds turn len x y whole
   pub changed : Changed n j work₀ work

@@ -2,10 +2,9 @@
 // place j holds the first child of column j, place n + c the sibling behind column c, and place n + n + i the mark of row i.
 ghost use mathlib.Core.Path.{_≡_};
 ghost use Prim.Native.Nat.{_-_};
-ghost use lib.ListN.{length};
 ghost use Rattle.papers.specs.Lists.{merge, every};
 ghost use Rattle.child_lists.specs.Marks.{marked, isMarked, Markable};
-ghost use Rattle.child_lists.specs.Buffers.{held, Roomy};
+ghost use Rattle.child_lists.specs.Buffers.{held, Holds, Roomy};
 ghost use Rattle.child_lists.specs.Joining.{Joining, Joined};
 
 // Where a gathered list is: the first len rows of the first buffer if turn is 0, else of the second.
@@ -45,9 +44,8 @@ pub fn covered(n: usize, j: usize, list: &[u32], work: &[u64]) -> bool
 // has.
 pub fn join_rows(turn: usize, len: usize, more: &[u32], x: &mut [u32], y: &mut [u32]) -> usize
     requires { ⌜ Roomy turn len (now more) (now x) (now y) ⌝ }
-    ensures counts { λ r. ⌜ r ≡ length (merge (held turn len (now (x .entry)) (now (y .entry))) (now (more .entry))) ⌝ }
-    ensures holds { λ r. ⌜
-        held (1 - turn) r (now (x .exit)) (now (y .exit)) ≡ merge (held turn len (now (x .entry)) (now (y .entry))) (now (more .entry))
+    ensures { λ r. ⌜
+        Holds (1 - turn) r (now (x .exit)) (now (y .exit)) (merge (held turn len (now (x .entry)) (now (y .entry))) (now (more .entry)))
         ⌝ }
 {
     if turn == 0 {

@@ -3,20 +3,21 @@
 use Prim.Native.Nat.{ℕ, _+_, _<_, _≤_}
 use mathlib.Core.Path.{_≡_, refl, ap, _∙_}
 use mathlib.Core.Logic.{⊎-elim, _≢_}
-use mathlib.Core.List.{List, [], _∷_, List·Memᴰ·not-nil, List·Memᴰ·cases-cons}
+use mathlib.Core.List.{List, [], _∷_, List·Memᴰ·head, List·Memᴰ·not-nil, List·Memᴰ·cases-cons}
 use native.Mathlib.Omega.{arith}
 use lib.ListN.{length, getD, take}
 use lib.Seq.{sets, length-sets}
 use Rattle.papers.specs.Lists.{_∈_, Asc, merge}
-use Rattle.papers.specs.Job.{Pattern, Below}
+use Rattle.papers.specs.Job.{Pattern, columnOf}
 use Rattle.papers.specs.Fill.{R}
 use Rattle.list_laws.proofs.Ascending.{asc-length}
 use Rattle.list_laws.proofs.Merges.{merge-asc, merge-left, merge-right, merge-from}
-use Rattle.list_laws.proofs.Stores.{front-stored}
-use Rattle.fill_laws.proofs.Fill.{R-range}
-use Rattle.column_laws.specs.Tested.{Tested}
+use Rattle.fill_laws.proofs.Fill.{R-range, R-pattern}
 use Rattle.column_laws.proofs.Columns.{starts-long, starts-rise, starts-fit}
-use Rattle.linked_children.specs.Children.{handedOn, Linked, Longest}
+use Rattle.list_laws.proofs.Stores.{front-stored}
+use Rattle.column_laws.proofs.Chains.{chain-end, chain-on}
+use Rattle.joiner.specs.Join.{United}
+use Rattle.linked_children.specs.Children.{handedOn, StoredChild, Linked, Longest}
 use Rattle.linked_children.proofs.Picking.{siblings-ext}
 use Rattle.child_lists.specs.Marks.{marked, Markable, Sound, Changed}
 use Rattle.child_lists.specs.Joining.{Makes, Begun, Joining, Joined}
@@ -24,120 +25,157 @@ use Rattle.child_lists.proofs.Marks.{marks-sound, changed-none, changed-more, c
 use Rattle.child_lists.proofs.Buffers.{first-buffer}
 use Rattle.child_lists.proofs.Making.{makes-skip, makes-end}
 use Rattle.column_list.specs.Hung.{hung}
-use Rattle.column_list.specs.Stored.{Part, Next, Gathers}
-use Rattle.column_list.proofs.Gathering.{Found, found-child, chain, siblings, makes}
-use Rattle.column_list.proofs.Owns.{linked-first, only-child, own-asc, own-in, own-makes, own-alone}
+use Rattle.column_list.specs.Stored.{Part, Next, Gatherable, Gathers}
+use Rattle.column_list.proofs.Gathering.{below, found-child, chain, siblings, makes}
 
--- the rows of a tested job's column have their part
-pub part-of : {n m : ℕ} {starts rows : List ℕ} → Tested n starts rows → m < n → Part m starts rows
-part-of {n} {m} t l = record { started = omega (arith, starts-long t); rises = starts-rise t m l; ends = starts-fit t (m + 1) (omega arith) }
+-- the pattern rows of the next column have their part
+pub part-of : {n m : ℕ} {starts rows fs fr w : List ℕ} → Next n m starts rows fs fr w → Part m starts rows
+part-of {m = m} g =
+    let l = g .column in
+    record {
+      started = omega (arith, starts-long (g .tested));
+      rises = starts-rise (g .tested) m l;
+      ends = starts-fit (g .tested) (m + 1) (omega arith);
+    }
 
-module _ {n m : ℕ} {A : Pattern} {fs fr w x y : List ℕ} (good : Below n A) (g : Next n m A fs fr w x y) (own : List ℕ) (o : own ≡ A (m + 1)) where
+module _ {n m : ℕ} {starts rows fs fr w x y : List ℕ} (g : Gatherable n m starts rows fs fr w x y) where
+  abbrev A : Pattern
+  A = columnOf starts rows
+
   few : (l : List ℕ) → Asc (m + 1) l → ((i : ℕ) → i ∈ l → i ∈ R A (m + 1)) → length l ≤ n
-  few l s f = omega (arith, asc-length n (m + 1) l s (λ i t. R-range good (m + 1) i (f i t) .1))
-
-  in-own : (i : ℕ) → i ∈ own → i ∈ R A (m + 1)
-  in-own = own-in good (g .column) (g .stored) own o
-
-  asc-own : Asc (m + 1) own
-  asc-own = own-asc good (g .column) (g .stored) own o
-
-  -- the pattern rows have room
-  pub own-fits : length own ≤ length x
-  own-fits = omega (arith, few own asc-own in-own, g .room-x)
+  few l s f = omega (arith, asc-length n (m + 1) l s (λ i t. R-range (below (g .next)) (m + 1) i (f i t) .1))
 
   -- a list at the front of x that is R(m + 1)
-  holds : (l x′ w′ : List ℕ) → x′ ≡ sets x 0 l → length l ≤ length x → l ≡ R A (m + 1) → Changed n (m + 1) w w′ → Gathers n m A w w′ x′ y 0 (length l)
-  holds l x′ w′ e h q c =
-      record { count = ap length q; list = rw (first-buffer 0 x′ y refl, e) (front-stored x l h ∙ q); changed = c }
+  holds : (l x₁ : List ℕ) → x₁ ≡ sets x 0 l → length l ≤ length x → l ≡ R A (m + 1) → Gathers n m A w w x₁ y 0 (length l)
+  holds l x₁ e h q =
+      record {
+        holds = record { count = ap length q; list = rw (first-buffer 0 x₁ y refl, e) (front-stored x l h ∙ q) };
+        changed = changed-none n (m + 1) w;
+      }
 
-  -- no child
-  pub alone : getD w (m + 1) 0 ≡ 0 → (x′ : List ℕ) → x′ ≡ sets x 0 own → Gathers n m A w w x′ y 0 (length own)
-  alone z x′ e = holds own x′ w e own-fits (own-alone good (g .column) (g .stored) own o z) (changed-none n (m + 1) w)
+  -- ---- the pattern rows
 
-  -- ---- with children
+  module _ {own : List ℕ} (o : own ≡ A (m + 1)) where
+    own-asc : Asc (m + 1) own
+    own-asc = rw o (below (g .next) .ascending (m + 1))
+
+    own-in : (i : ℕ) → i ∈ own → i ∈ R A (m + 1)
+    own-in i t = R-pattern (below (g .next)) (m + 1) i (rw o at t)
+
+    own-makes : Makes (m + 1) (handedOn fs fr) (hung A m (m + 1)) own (R A (m + 1))
+    own-makes = makes (g .next) own own-asc (λ i t. rw o t) own-in
+
+    -- they have room
+    pub own-fits : length own ≤ length x
+    own-fits = omega (arith, few own own-asc own-in, g .room-x)
+
+    -- without a child they are the list
+    pub alone : {x₁ : List ℕ} → getD w (m + 1) 0 ≡ 0 → x₁ ≡ sets x 0 own → Gathers n m A w w x₁ y 0 (length own)
+    alone {x₁} z e =
+        let none = chain-end w n (getD w (m + 1) 0) (hung A m (m + 1)) (chain (g .next)) z in
+        holds own x₁ e own-fits (makes-end (rw none at own-makes))
+
+  -- ---- the longest child
 
   pub linked : Linked n (getD w (m + 1) 0) fs w
-  linked = record { children = hung A m (m + 1); siblings = siblings good (g .column) (g .stored) }
+  linked = record { children = hung A m (m + 1); siblings = siblings (g .next) }
 
-  module _ (z : getD w (m + 1) 0 ≢ 0) (d : ℕ) (best : Longest n (getD w (m + 1) 0) fs w d) where
-    member : d ∈ hung A m (m + 1)
-    member = best (hung A m (m + 1)) (chain good (g .column) (g .stored)) z .0
+  -- its list is stored
+  pub longest-stands : {d : ℕ} → getD w (m + 1) 0 ≢ 0 → Longest n (getD w (m + 1) 0) fs w d → StoredChild d fs fr
+  longest-stands {d} z b = found-child (g .next) d (b .among (hung A m (m + 1)) (chain (g .next)) z) .stands
 
-    pub first-found : Found (g .stored) d
-    first-found = found-child good (g .column) (g .stored) d member
+-- the pattern rows, and those that the longest of the children hands on
+pub record First (n m : ℕ) (starts rows fs fr w x y own more : List ℕ) : Type 0 where
+  pub gatherable : Gatherable n m starts rows fs fr w x y
+  pub own-is : own ≡ columnOf starts rows (m + 1)
+  pub some : getD w (m + 1) 0 ≢ 0
+  pub child : ℕ
+  pub longest : Longest n (getD w (m + 1) 0) fs w child
+  pub more-is : more ≡ handedOn fs fr child
 
-    pub first-link : n + getD w (m + 1) 0 < length w
-    first-link = linked-first good (g .column) (g .stored) z
+module _ {n m : ℕ} {starts rows fs fr w x y own more : List ℕ} (f : First n m starts rows fs fr w x y own more) where
+  abbrev g : Gatherable n m starts rows fs fr w x y
+  g = f .gatherable
 
-    module _ (more : List ℕ) (h : more ≡ handedOn fs fr d) where
-      hands : Makes (m + 1) (handedOn fs fr) (hung A m (m + 1)) own (R A (m + 1))
-      hands = own-makes good (g .column) (g .stored) own o
+  -- the link of the first child has its place
+  pub first-link : n + getD w (m + 1) 0 < length w
+  first-link =
+      let l = chain-on w n (getD w (m + 1) 0) (hung (A g) m (m + 1)) (chain (g .next)) (f .some) in
+      let s = siblings (g .next) in
+      omega (arith, s .most (getD w (m + 1) 0) (rw (l .is) (List·Memᴰ·head refl)), s .links)
 
-      begun : Makes (m + 1) (handedOn fs fr) (hung A m (m + 1)) (merge own more) (R A (m + 1))
-      begun =
-          makes good (g .column) (g .stored) (merge own more)
-          (merge-asc (m + 1) own more asc-own (rw h (hands .asc-hands d member)))
-          (λ i t. merge-left own more (rw o t))
-          (λ i t. ⊎-elim (λ (u : i ∈ own). in-own i u) (λ (u : i ∈ more). hands .hands-in d i member (rw h at u)) (merge-from own more t))
+  member : f .child ∈ hung (A g) m (m + 1)
+  member = f .longest .among (hung (A g) m (m + 1)) (chain (g .next)) (f .some)
 
-      pub first-fits : length (merge own more) ≤ length x
-      first-fits = omega (arith, few (merge own more) (begun .asc) (begun .acc-in), g .room-x)
+  begun : Makes (m + 1) (handedOn fs fr) (hung (A g) m (m + 1)) (merge own more) (R (A g) (m + 1))
+  begun =
+      let o = own-makes g (f .own-is) in
+      makes (g .next) (merge own more)
+      (merge-asc (m + 1) own more (o .asc) (rw (f .more-is) (o .asc-hands (f .child) member)))
+      (λ i t. merge-left own more (rw (f .own-is) t))
+      (λ i t. ⊎-elim (o .acc-in i) (λ (u : i ∈ more). o .hands-in (f .child) i member (rw (f .more-is) at u)) (merge-from own more t))
 
-      -- the two are joined in x
-      module _ (x₁ : List ℕ) (len : ℕ) (u : (len ≡ length (merge own more)) × (x₁ ≡ sets x 0 (merge own more))) where
-        front : take len x₁ ≡ merge own more
-        front = rw (u .1, u .0) (front-stored x (merge own more) first-fits)
+  range : (i : ℕ) → i ∈ merge own more → (m + 1 < i) × (i ≤ n)
+  range i t = R-range (below (g .next)) (m + 1) i (begun .acc-in i t)
 
-        long : length x₁ ≡ length x
-        long = ap length (u .1) ∙ length-sets x 0 (merge own more)
+  pub first-fits : length (merge own more) ≤ length x
+  first-fits = omega (arith, few g (merge own more) (begun .asc) (begun .acc-in), g .room-x)
 
-        pub first-len : len ≤ length x₁
-        first-len = omega (arith, u .0, long, first-fits)
+  -- the two are joined in x
+  module _ {x₁ : List ℕ} {len : ℕ} (u : United own more x x₁ len) where
+    front : take len x₁ ≡ merge own more
+    front = rw (u .joins, u .counts) (front-stored x (merge own more) first-fits)
 
-        -- one child
-        pub single : getD w (n + getD w (m + 1) 0) 0 ≡ 0 → Gathers n m A w w x₁ y 0 len
-        single q = rw (u .0) (holds (merge own more) x₁ w (u .1) first-fits whole (changed-none n (m + 1) w))
+    long : length x₁ ≡ length x
+    long = ap length (u .joins) ∙ length-sets x 0 (merge own more)
+
+    pub first-len : len ≤ length x₁
+    first-len = omega (arith, u .counts, long, first-fits)
+
+    -- one child
+    pub single : getD w (n + getD w (m + 1) 0) 0 ≡ 0 → Gathers n m (A g) w w x₁ y 0 len
+    single q = rw (u .counts) (holds g (merge own more) x₁ (u .joins) first-fits whole)
+      where
+        whole : merge own more ≡ R (A g) (m + 1)
+        whole =
+            let l = chain-on w n (getD w (m + 1) 0) (hung (A g) m (m + 1)) (chain (g .next)) (f .some) in
+            let r = chain-end w n (getD w (n + getD w (m + 1) 0) 0) (l .rest) (l .chain) q in
+            let is : hung (A g) m (m + 1) ≡ getD w (m + 1) 0 ∷ [] = rw r at (l .is) in
+            let same : f .child ≡ getD w (m + 1) 0 = only (rw is at member) in
+            makes-end (makes-skip (rw is at begun) (λ i t. merge-right own more (rw (f .more-is, same) t)))
           where
-            whole : merge own more ≡ R A (m + 1)
-            whole =
-                let is = only-child good (g .column) (g .stored) z q in
-                let same : d ≡ getD w (m + 1) 0 = only (rw is at member) in
-                makes-end (makes-skip (rw is at begun) (λ i t. merge-right own more (rw (h, same) t)))
-              where
-                only : {a b : ℕ} → a ∈ (b ∷ []) → a ≡ b
-                only {a} {b} t = ⊎-elim (λ (e : a ≡ b). e) (λ (u : a ∈ []). absurd (List·Memᴰ·not-nil u)) (List·Memᴰ·cases-cons t)
+            only : {a b : ℕ} → a ∈ (b ∷ []) → a ≡ b
+            only {a} {b} t = ⊎-elim (λ (e : a ≡ b). e) (λ (u : a ∈ []). absurd (List·Memᴰ·not-nil u)) (List·Memᴰ·cases-cons t)
 
-        -- several: the rows of x are marked, the other children follow
-        pub first-markable : Markable n (take len x₁) w
-        first-markable = record { most = λ i t. R-range good (m + 1) i (begun .acc-in i (rw front at t)) .1; long = g .stored .work-long }
+    -- several: the rows of x are marked, the other children follow
+    pub first-markable : Markable n (take len x₁) w
+    first-markable = record { most = λ i t. range i (rw front at t) .1; long = g .next .stored .work-long }
 
-        module _ (w₁ : List ℕ) (k : w₁ ≡ marked n (m + 1) (take len x₁) w) (lw : length w₁ ≡ length w) where
-          change : Changed n (m + 1) w w₁
-          change = rw k (changed-marked n (m + 1) (take len x₁) w (λ i t. omega (arith, R-range good (m + 1) i (begun .acc-in i (rw front at t)) .0)))
+    module _ {w₁ : List ℕ} (k : w₁ ≡ marked n (m + 1) (take len x₁) w) (lw : length w₁ ≡ length w) where
+      change : Changed n (m + 1) w w₁
+      change = rw k (changed-marked n (m + 1) (take len x₁) w (λ i t. omega (arith, range i (rw front at t) .0)))
 
-          ready : Begun n (m + 1) (getD w (m + 1) 0) len fs fr w₁ x₁ y (hung A m (m + 1)) (R A (m + 1))
-          ready =
-              record {
-                siblings = siblings-ext w₁ (siblings good (g .column) (g .stored)) (change .links) lw;
-                ends = λ c t. found-child good (g .column) (g .stored) c t .ends;
-                makes = rw front begun;
-                most = λ i t. R-range good (m + 1) i t .1;
-                few = first-len;
-                sound = rw k (marks-sound n (m + 1) (take len x₁) w [] (take len x₁) unmarked (λ i t. absurd (List·Memᴰ·not-nil t)) (λ i t. t));
-                room-x = rw long (g .room-x);
-                room-y = g .room-y;
-                room-work = rw lw (g .stored .work-long);
-              }
-            where
-              unmarked : Sound n (m + 1) w []
-              unmarked i l e = absurd (omega (arith, g .stored .fresh (n + n + i) (omega arith)))
+      ready : Begun n (m + 1) (getD w (m + 1) 0) len fs fr w₁ x₁ y (hung (A g) m (m + 1)) (R (A g) (m + 1))
+      ready =
+          record {
+            siblings = siblings-ext w₁ (siblings (g .next)) (change .links) lw;
+            ends = λ c t. found-child (g .next) c t .stands .ends;
+            makes = rw front begun;
+            most = λ i t. R-range (below (g .next)) (m + 1) i t .1;
+            few = first-len;
+            sound = rw k (marks-sound n (m + 1) (take len x₁) w [] (take len x₁) unmarked (λ i t. absurd (List·Memᴰ·not-nil t)) (λ i t. t));
+            room-x = rw long (g .room-x);
+            room-y = g .room-y;
+            room-work = rw lw (g .next .stored .work-long);
+          }
+        where
+          unmarked : Sound n (m + 1) w []
+          unmarked i l e = absurd (omega (arith, g .next .stored .fresh (n + n + i) (omega arith)))
 
-          pub several : Joining n (m + 1) (getD w (m + 1) 0) len fs fr w₁ x₁ y
-          several = record { children = hung A m (m + 1); whole = R A (m + 1); begun = ready }
+      pub several : Joining n (m + 1) (getD w (m + 1) 0) len fs fr w₁ x₁ y
+      several = record { children = hung (A g) m (m + 1); whole = R (A g) (m + 1); begun = ready }
 
-          pub all-joined : (w₂ x₂ y₂ : List ℕ) (turn count : ℕ) → Joined n (m + 1) (getD w (m + 1) 0) len fs fr w₁ x₁ y turn count w₂ x₂ y₂
-              → Gathers n m A w w₂ x₂ y₂ turn count
-          all-joined w₂ x₂ y₂ turn count r =
-              let q = r .list (hung A m (m + 1)) (R A (m + 1)) ready in
-              record { count = q .0; list = q .1; changed = changed-more w₂ change (r .changed) }
+      pub all-joined : {w₂ x₂ y₂ : List ℕ} {turn count : ℕ} → Joined n (m + 1) (getD w (m + 1) 0) len fs fr w₁ x₁ y turn count w₂ x₂ y₂
+          → Gathers n m (A g) w w₂ x₂ y₂ turn count
+      all-joined {w₂} r =
+          record { holds = r .list (hung (A g) m (m + 1)) (R (A g) (m + 1)) ready; changed = changed-more w₂ change (r .changed) }

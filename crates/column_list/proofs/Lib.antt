@@ -1,4 +1,3 @@
 pub mod Hung
 pub mod Gathering
-pub mod Owns
 pub mod Begins

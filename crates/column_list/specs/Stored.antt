@@ -5,12 +5,13 @@ use mathlib.Core.Path.{_≡_}
 use mathlib.Core.List.{List}
 use lib.ListN.{length, getD, take}
 use Rattle.papers.specs.Lists.{flat}
-use Rattle.papers.specs.Job.{Pattern}
+use Rattle.papers.specs.Job.{Pattern, columnOf}
 use Rattle.papers.specs.Key.{listsOf}
 use Rattle.papers.specs.Fill.{R}
+use Rattle.column_laws.specs.Tested.{Tested}
 use Rattle.column_laws.specs.Chains.{Chain}
 use Rattle.child_lists.specs.Marks.{Changed, Fresh}
-use Rattle.child_lists.specs.Buffers.{held}
+use Rattle.child_lists.specs.Buffers.{Holds}
 use Rattle.column_list.specs.Hung.{hung}
 
 -- column m + 1 has its rows between its two starts
@@ -33,15 +34,24 @@ pub record Stored (n m : ℕ) (A : Pattern) (fstarts frows work : List ℕ) : Ty
   pub fresh : Fresh n m work
   pub work-long : n + n + n < length work
 
--- column m + 1 comes next, and there are two buffers for its list
-pub record Next (n m : ℕ) (A : Pattern) (fstarts frows work x y : List ℕ) : Type 0 where
+-- after m columns of a tested job, column m + 1 comes next
+pub record Next (n m : ℕ) (starts rows fstarts frows work : List ℕ) : Type 0 where
+  pub tested : Tested n starts rows
   pub column : m < n
-  pub stored : Stored n m A fstarts frows work
+  pub stored : Stored n m (columnOf starts rows) fstarts frows work
+
+-- there are two buffers for its list
+pub record Gatherable (n m : ℕ) (starts rows fstarts frows work x y : List ℕ) : Type 0 where
+  pub next : Next n m starts rows fstarts frows work
   pub room-x : n ≤ length x
   pub room-y : n ≤ length y
 
--- its list is held in the buffers
+-- its list is held in the buffers; of work only marks have changed
 pub record Gathers (n m : ℕ) (A : Pattern) (work₀ work x y : List ℕ) (turn len : ℕ) : Type 0 where
-  pub count : len ≡ length (R A (m + 1))
-  pub list : held turn len x y ≡ R A (m + 1)
+  pub holds : Holds turn len x y (R A (m + 1))
   pub changed : Changed n (m + 1) work₀ work
+
+-- either buffer has len rows
+pub record Buffered (len : ℕ) (x y : List ℕ) : Type 0 where
+  pub in-x : len ≤ length x
+  pub in-y : len ≤ length y

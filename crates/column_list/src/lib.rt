@@ -2,12 +2,10 @@
 // of column j, place n + c the sibling behind column c, and place n + n + i the mark of row i.
 use child_lists::Gathered;
 ghost use mathlib.Core.Path.{_≡_};
-ghost use Prim.Native.Nat.{_+_, _≤_};
-ghost use lib.ListN.{length};
+ghost use Prim.Native.Nat.{_+_};
 ghost use Rattle.papers.specs.Job.{columnOf};
-ghost use Rattle.column_laws.specs.Tested.{Tested};
 ghost use Rattle.child_lists.specs.Buffers.{held};
-ghost use Rattle.column_list.specs.Stored.{Part, Next, Gathers};
+ghost use Rattle.column_list.specs.Stored.{Part, Gatherable, Gathers, Buffered};
 
 // The pattern rows of column m + 1.
 pub fn pattern_rows<'a>(m: usize, starts: &[u64], rows: &'a [u32]) -> &'a [u32]
@@ -32,8 +30,7 @@ pub fn gather<'a>(
     x: &mut [u32],
     y: &mut [u32],
 ) -> Gathered
-    requires tested { ⌜ Tested n (now starts) (now rows) ⌝ }
-    requires next { ⌜ Next n m (columnOf (now starts) (now rows)) (now fstarts) (now frows) (now work) (now x) (now y) ⌝ }
+    requires { ⌜ Gatherable n m (now starts) (now rows) (now fstarts) (now frows) (now work) (now x) (now y) ⌝ }
     ensures { λ r. ⌜
         Gathers n m (columnOf (now (starts .entry)) (now (rows .entry))) (now (work .entry)) (now (work .exit)) (now (x .exit))
         (now (y .exit)) (r .turn) (r .len)
@@ -60,7 +57,7 @@ pub fn gather<'a>(
 
 // The list that was gathered.
 pub fn gathered<'a>(g: Gathered, x: &'a [u32], y: &'a [u32]) -> &'a [u32]
-    requires { ⌜ (g .len ≤ length (now x)) × (g .len ≤ length (now y)) ⌝ }
+    requires { ⌜ Buffered (g .len) (now x) (now y) ⌝ }
     ensures { λ r. ⌜ now r ≡ held (g .turn) (g .len) (now (x .entry)) (now (y .entry)) ⌝ }
 {
     if g.turn == 0 {

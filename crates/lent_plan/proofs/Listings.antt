@@ -1,11 +1,11 @@
 -- The column lists in the lent slices: the slices are long enough for them, and what is cleared behind them is followed by zeros.
 -- Assumes nothing.
-use Prim.Native.Nat.{ℕ, _+_, _<_, _≤_}
+use Prim.Native.Nat.{ℕ, zero, suc, _+_, _-_, _<_, _≤_}
 use mathlib.Core.Path.{_≡_, refl, sym, ap, _∙_}
-use mathlib.Core.List.{List, _++_, map}
+use mathlib.Core.List.{List, [], _∷_, map}
 use native.Mathlib.Omega.{arith}
-use lib.ListN.{length, getD, take, drop, length-append, length-map, take-append-drop, List·getD-append}
-use lib.Seq.{sets-eq, length-sets, length-take-le, drop-at}
+use lib.ListN.{length, getD, take, drop, replicate, length-map, length-drop, length-replicate, List·getD-append}
+use lib.Seq.{sets-eq, length-sets}
 use Rattle.papers.specs.Lists.{upTo, flat, startsFrom, zeros}
 use Rattle.papers.specs.Job.{Pattern}
 use Rattle.papers.specs.Fill.{R}
@@ -18,39 +18,46 @@ use Rattle.job_laws.proofs.Starts.{start-at}
 use Rattle.job_laws.proofs.Laid.{length-lists, laid-starts}
 use Rattle.slices.specs.From.{zerosFrom}
 use Rattle.slices.proofs.From.{stored-from}
-use Rattle.structure.specs.Listed.{Lengths, Listed}
-use Rattle.lent.specs.Six.{six, LongEnough}
+use Rattle.structure.specs.Listed.{Listable, Listed}
+use Rattle.lent.specs.Six.{six}
 use Rattle.lent.proofs.Alike.{part-long}
-use Rattle.lent_plan.specs.Listing.{Listing}
+use Rattle.lent_plan.specs.Listing.{ListableIn, Listing}
 
--- ---- a slice whose front was used
+-- ---- zeros behind the front
 
-module _ (n : ℕ) (l x : List ℕ) (e : length x ≡ length (take n l)) where
-  -- it is as long as it was
-  pub front-anew : length (x ++ drop n l) ≡ length l
-  front-anew =
-      length-append x (drop n l) ∙ ap (λ (k : ℕ). k + length (drop n l)) e ∙ sym (length-append (take n l) (drop n l)) ∙ ap length
-      (take-append-drop n l)
+-- a slice holds zeros from place n on
+abbrev pub ZerosBehind : ℕ → List ℕ → Type 0
+ZerosBehind n l = drop n l ≡ replicate (length l - n) 0
 
-  -- cleared behind the front
-  behind-zero : {o : List ℕ} → n ≤ length l → o ≡ zerosFrom n (x ++ drop n l) → drop n o ≡ zeros (drop n l)
-  unfolding zerosFrom
-  behind-zero {o} h f =
-      let m = x ++ drop n l in
-      ap (drop n) f ∙ drop-at (take n m) (zeros (drop n m)) n (length-take-le n m (omega (arith, front-anew))) ∙ ap zeros
-      (drop-at x (drop n l) n (e ∙ sym (part-long n l h)))
+-- one that was cleared from there on does
+pub cleared-behind : (n : ℕ) (l : List ℕ) → ZerosBehind n (zerosFrom n l)
+unfolding zerosFrom
+cleared-behind zero l = let e : length (zeros l) - 0 ≡ length l = omega (arith, length-replicate {A = ℕ} (length l) 0) in rw e
+cleared-behind (suc n) [] = let e : 0 - suc n ≡ 0 = omega arith in rw e
+cleared-behind (suc n) (x ∷ l) =
+    let e : length (x ∷ zerosFrom n l) - suc n ≡ length (zerosFrom n l) - n = omega arith in rw e (cleared-behind n l)
+
+-- as one that is as long, cleared
+behind-zero : (n : ℕ) (o l : List ℕ) → ZerosBehind n o → length o ≡ length l → drop n o ≡ zeros (drop n l)
+behind-zero n o l z e = z ∙ rw (e, length-drop)
 
 -- ---- the lists
 
-module _ {n : ℕ} {before : Lent} (long : LongEnough n before) where
-  pub listing-lengths : Lengths n (before .parents) (before .factorStarts) (take n (before .order)) (take n (before .pops)) (before .work)
-  listing-lengths = record {
-    parents-long = long .parents;
-    starts-long = omega (arith, long .starts);
-    room-x = omega (arith, part-long n (before .order) (long .order));
-    room-y = omega (arith, part-long n (before .pops) (long .pops));
-    work-long = omega (arith, long .work);
-  }
+module _ {n : ℕ} {starts rows : List ℕ} {before : Lent} (g : ListableIn n starts rows before) where
+  -- the fronts of order and pops are the buffers
+  pub listable : Listable n starts rows (before .parents) (before .factorStarts) (take n (before .order)) (take n (before .pops)) (before .work)
+  listable =
+      let long = g .long in
+      record {
+        tested = g .tested;
+        lengths = record {
+          parents-long = long .parents;
+          starts-long = omega (arith, long .starts);
+          room-x = omega (arith, part-long n (before .order) (long .order));
+          room-y = omega (arith, part-long n (before .pops) (long .pops));
+          work-long = omega (arith, long .work);
+        };
+      }
 
   module _ {done : ℕ} {A : Pattern} {p s r : List ℕ} (h : Listed n done A (before .parents) (before .factorStarts) (before .factorRows) p s r) where
     -- not all columns are done
@@ -70,7 +77,7 @@ module _ {n : ℕ} {before : Lent} (long : LongEnough n before) where
       -- the last start says how many rows there are
       last-is : getD s n 0 ≡ length (flat (listsOf n (R A)))
       last-is =
-          let fits : 0 + length (startsFrom 0 ls) ≤ length (before .factorStarts) = omega (arith, length-begins, long .starts) in
+          let fits : 0 + length (startsFrom 0 ls) ≤ length (before .factorStarts) = omega (arith, length-begins, g .long .starts) in
           rw (
             whole .starts-are,
             sets-eq (startsFrom 0 ls) (before .factorStarts) 0 fits,
@@ -81,23 +88,21 @@ module _ {n : ℕ} {before : Lent} (long : LongEnough n before) where
       pub last-fits : getD s n 0 ≤ length r
       last-fits = omega (arith, last-is, whole .fits, ap length (whole .rows-are), length-sets (before .factorRows) 0 (flat ls))
 
-      -- all are, and the slices are cleared behind them; x and y were left in the front of order and pops
-      pub all-listed : (x y w : List ℕ) {p′ o q s′ r′ : List ℕ} → length x ≡ length (take n (before .order))
-          → length y ≡ length (take n (before .pops)) → p′ ≡ zerosFrom n p
-          → o ≡ zerosFrom n (x ++ drop n (before .order)) → q ≡ zerosFrom n (y ++ drop n (before .pops)) → s′ ≡ zerosFrom (n + 1) s
-          → r′ ≡ zerosFrom (getD s n 0) r
+      -- all are, and the slices are cleared behind them
+      pub all-listed : {p′ o q s′ r′ w : List ℕ} → p′ ≡ zerosFrom n p → ZerosBehind n o → length o ≡ length (before .order)
+          → ZerosBehind n q → length q ≡ length (before .pops) → s′ ≡ zerosFrom (n + 1) s → r′ ≡ zerosFrom (getD s n 0) r
           → Listing n done A before (six p′ o q s′ r′ w)
-      all-listed x y w a b ep eo eq es er = record {
+      all-listed {o = o} {q} ep zo lo zq lq es er = record {
         lacks = λ l. absurd (omega arith);
         all = λ l. record {
           fits = whole .fits;
           parents =
               ep ∙ ap (zerosFrom n) (whole .parents-are) ∙ stored-from (map (parent A) (upTo n)) (before .parents)
-              (length-map (upTo n) (parent A) ∙ length-upTo n) (long .parents);
+              (length-map (upTo n) (parent A) ∙ length-upTo n) (g .long .parents);
           starts = es ∙ ap (zerosFrom (n + 1)) (whole .starts-are) ∙ stored-from (startsFrom 0 ls) (before .factorStarts) length-begins
-              (long .starts);
+              (g .long .starts);
           rows = er ∙ rw (last-is, whole .rows-are) (stored-from (flat ls) (before .factorRows) refl (whole .fits));
-          order = behind-zero n (before .order) x a (long .order) eo;
-          pops = behind-zero n (before .pops) y b (long .pops) eq;
+          order = behind-zero n o (before .order) zo lo;
+          pops = behind-zero n q (before .pops) zq lq;
         };
       }

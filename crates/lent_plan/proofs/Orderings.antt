@@ -14,7 +14,6 @@ module _ {mark n : ℕ} {parents order pops starts work : List ℕ} (h : Orderab
   pub order-given : Given mark (take n parents) (take (n + 1) starts) (length (take n order)) (length (take n pops)) (length work)
   order-given = rw (length-take-le n order (h .order-long), length-take-le n pops (h .pops-long)) (h .given)
 
-  pub ordering-made : (w₁ : List ℕ) {x y w : List ℕ} {peak : ℕ} → OrderMade mark (take n parents) (take (n + 1) starts) x y peak
-      → length w₁ ≡ length work → w ≡ zeros w₁
+  pub ordering-made : {x y w : List ℕ} {peak : ℕ} → OrderMade mark (take n parents) (take (n + 1) starts) x y peak → w ≡ zeros work
       → Ordering mark n parents order pops starts work (x ++ drop n order) (y ++ drop n pops) w peak
-  ordering-made w₁ made d e = record { steps = rw (made .steps); counts = rw (made .counts); greatest = made .greatest; cleared = rw (← d) e }
+  ordering-made made e = record { steps = rw (made .steps); counts = rw (made .counts); greatest = made .greatest; cleared = e }

@@ -12,20 +12,22 @@ use Rattle.papers.specs.Fill.{R}
 use Rattle.papers.specs.Order.{popsOf, orderOf}
 use Rattle.papers.specs.Key.{listsOf}
 use Rattle.papers.specs.Plan.{planOf}
-use Rattle.papers.specs.Refusals.{answer, passed, first, jobTests, Lent, holding}
+use Rattle.papers.specs.Refusals.{answer, Lent, holding}
 use Rattle.papers.specs.Analysis.{holdingPlan}
 use Rattle.list_laws.proofs.Stores.{take-then-zeros, length-starts}
 use Rattle.job_laws.proofs.Passed.{Passed, passes-iff, passed-below}
 use Rattle.job_laws.proofs.Laid.{length-lists}
+use Rattle.column_laws.proofs.Testing.{tested}
 use Rattle.column_laws.proofs.Families.{length-grows}
+use Rattle.rows_needed.specs.Walk.{Countable}
 use Rattle.order_laws.proofs.Patterns.{order-length}
-use Rattle.lent.specs.Six.{six, LongEnough}
+use Rattle.lent.specs.Six.{six}
 use Rattle.lent.proofs.Sixes.{sixes}
-use Rattle.lent_plan.specs.Listing.{AllListed, Listing}
-use Rattle.lent.proofs.Alike.{Alike}
+use Rattle.lent_plan.specs.Listing.{ListableIn, AllListed, Listing}
+use Rattle.lent.proofs.Alike.{Alike, long-alike}
 use Rattle.lent_plan.specs.Ordering.{Orderable, Ordering}
 use Rattle.order.proofs.Ties.{parentsOf, startsOf, length-parents, same-order, same-pops, same-peak, rowed}
-use Rattle.lent_plan.specs.Made.{Made}
+use Rattle.lent_plan.specs.Made.{Plannable, Made}
 use Rattle.lent_plan.proofs.Made.{made-refused}
 use Rattle.lent_plan.proofs.Ways.{needed, peakIn, way-rows, way-peak, way-done}
 
@@ -34,18 +36,26 @@ zeros-behind : (n : ℕ) (xs l : List ℕ) → length xs ≡ n → xs ++ zeros (
 unfolding thenZeros
 zeros-behind n xs l e = rw (length-drop, e)
 
-module _ (job : Job) (p : first jobTests job ≡ passed) where
-  abbrev passes : Passed job
-  passes = passes-iff job .0 p
+module _ {job : Job} {before : Lent} (g : Plannable job before) where
+  passes : Passed job
+  passes = passes-iff job .0 (g .passes)
 
   below : Below (job .n) (pattern job)
   below = passed-below job passes
 
-  module _ {done : ℕ} {before mid : Lent} (long : LongEnough (job .n) before) (listing : Listing (job .n) done (pattern job) before mid)
-      (alike : Alike before mid) where
+  pub listable-in : ListableIn (job .n) (job .starts) (job .rows) before
+  listable-in = record { tested = tested job (g .passes); long = g .long }
+
+  module _ {done : ℕ} {mid : Lent} (listing : Listing (job .n) done (pattern job) before mid) (alike : Alike before mid) where
+    -- the rows needed can be counted in what is left
+    pub countable : Countable (job .n) (job .starts) (job .rows) (mid .parents) (mid .work)
+    countable =
+        let long = long-alike alike (g .long) in
+        record { tested = tested job (g .passes); parents-long = long .parents; work-long = omega (arith, long .work) }
+
     -- 8: where not all columns are done, the rows needed exceed the slice
     pub made-rows : {count : ℕ} {after : Lent} → done < job .n → count ≡ needed job → Made job before after (answer 8 0 count)
-    made-rows h e = made-refused (λ z. omega arith) (way-rows job before p long exceeds (ap (answer 8 0) e) refl)
+    made-rows h e = made-refused (λ z. omega arith) (way-rows job before (g .passes) (g .long) exceeds (ap (answer 8 0) e) refl)
       where
         exceeds : length (before .factorRows) < needed job
         exceeds = omega (arith, listing .lacks h, length-grows (R (pattern job)) (suc done) (job .n) (omega arith))
@@ -88,12 +98,12 @@ module _ (job : Job) (p : first jobTests job ≡ passed) where
               marked = passes .marked;
               order-length = sym (length-parents below);
               pops-length = sym (length-parents below);
-              work-length = omega (arith, length-parents below, alike .work, long .work);
+              work-length = omega (arith, length-parents below, alike .work, g .long .work);
             });
-            parents-long = rw (alike .parents) (long .parents);
-            order-long = rw (alike .order) (long .order);
-            pops-long = rw (alike .pops) (long .pops);
-            starts-long = rw (alike .starts) (long .starts);
+            parents-long = rw (alike .parents) (g .long .parents);
+            order-long = rw (alike .order) (g .long .order);
+            pops-long = rw (alike .pops) (g .long .pops);
+            starts-long = rw (alike .starts) (g .long .starts);
           }
 
       -- ---- the order is made
@@ -125,13 +135,14 @@ module _ (job : Job) (p : first jobTests job ≡ passed) where
         pub made-peak : job .limit < most
             → Made job before (six (mid .parents) steps counts (mid .factorStarts) (mid .factorRows) work) (answer 9 0 most)
         made-peak h =
-            made-refused (λ z. omega arith) (way-peak job before p long (listed .fits) (omega (arith, peak-is)) (ap (answer 9 0) peak-is) refl)
+            made-refused (λ z. omega arith)
+            (way-peak job before (g .passes) (g .long) (listed .fits) (omega (arith, peak-is)) (ap (answer 9 0) peak-is) refl)
 
         -- done
         pub made-done : most ≤ job .limit
             → Made job before (six (mid .parents) steps counts (mid .factorStarts) (mid .factorRows) work) (answer 0 0 most)
         made-done h =
             record {
-              done = λ z. way-done job before p long (listed .fits) (omega (arith, peak-is)) (ap (answer 0 0) peak-is) holds;
+              done = λ z. way-done job before (g .passes) (g .long) (listed .fits) (omega (arith, peak-is)) (ap (answer 0 0) peak-is) holds;
               refused = λ z. absurd (z refl);
             }

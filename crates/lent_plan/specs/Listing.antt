@@ -1,8 +1,8 @@
--- What the lent slices hold when the column lists are made.
+-- What the lent slices hold when the column lists are made, and what that asks for.
 -- Assumes nothing.
 use Prim.Native.Nat.{ℕ, suc, _<_, _≤_}
 use mathlib.Core.Path.{_≡_}
-use mathlib.Core.List.{map}
+use mathlib.Core.List.{List, map}
 use lib.ListN.{length, drop}
 use Rattle.papers.specs.Lists.{upTo, flat, startsFrom, zeros, thenZeros}
 use Rattle.papers.specs.Job.{Pattern}
@@ -10,6 +10,13 @@ use Rattle.papers.specs.Fill.{R}
 use Rattle.papers.specs.Tree.{parent}
 use Rattle.papers.specs.Key.{listsOf}
 use Rattle.papers.specs.Refusals.{Lent}
+use Rattle.column_laws.specs.Tested.{Tested}
+use Rattle.lent.specs.Six.{LongEnough}
+
+-- a tested job, and slices that are long enough for it
+pub record ListableIn (n : ℕ) (starts rows : List ℕ) (lent : Lent) : Type 0 where
+  pub tested : Tested n starts rows
+  pub long : LongEnough n lent
 
 -- the lists of all n columns, their starts and the parents, then zeros; and zeros behind the first n places of order and pops
 pub record AllListed (n : ℕ) (A : Pattern) (before lent : Lent) : Type 0 where

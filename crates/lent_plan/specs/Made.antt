@@ -1,11 +1,18 @@
--- What is left when a plan is made: the outcome of the analysis if it is done; if not, that outcome once the slices are cleared.
+-- What a plan is made from, and what is left when it is made: the outcome of the analysis if it is done; if not, that outcome once the slices are
+-- cleared.
 -- Assumes nothing.
 use mathlib.Core.Path.{_≡_}
 use mathlib.Core.Logic.{_≢_}
 use Rattle.papers.specs.declared.Answer.{Answer}
 use Rattle.papers.specs.Job.{Job}
-use Rattle.papers.specs.Refusals.{Outcome, Lent, allZero}
+use Rattle.papers.specs.Refusals.{passed, first, jobTests, Outcome, Lent, allZero}
 use Rattle.papers.specs.Analysis.{analysed}
+use Rattle.lent.specs.Six.{LongEnough}
+
+-- a job that passed its tests, and slices that are long enough for it
+pub record Plannable (job : Job) (lent : Lent) : Type 0 where
+  pub passes : first jobTests job ≡ passed
+  pub long : LongEnough (job .n) lent
 
 pub record Made (job : Job) (before lent : Lent) (r : Answer) : Type 0 where
   pub done : r .number ≡ 0 → _≡_ {A = Outcome Lent} (record { answer = r; lent = lent }) (analysed job before)

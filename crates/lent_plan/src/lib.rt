@@ -3,12 +3,9 @@ use papers::Answer;
 use papers::JobHead;
 ghost use Rattle.lent_plan.specs.Ordering.{Orderable, Ordering};
 ghost use Rattle.papers.specs.Job.{columnOf, jobOf};
-ghost use Rattle.column_laws.specs.Tested.{Tested};
-ghost use Rattle.lent.specs.Six.{six, LongEnough};
-ghost use Rattle.lent_plan.specs.Listing.{Listing};
-ghost use mathlib.Core.Path.{_≡_};
-ghost use Rattle.papers.specs.Refusals.{passed, first, jobTests};
-ghost use Rattle.lent_plan.specs.Made.{Made};
+ghost use Rattle.lent.specs.Six.{six};
+ghost use Rattle.lent_plan.specs.Listing.{ListableIn, Listing};
+ghost use Rattle.lent_plan.specs.Made.{Plannable, Made};
 
 // Writes the order of the columns by the mark, and the pops of its steps, to the front of their slices, from the parents and factor starts
 // there. Answers the peak, and leaves work zero.
@@ -53,13 +50,14 @@ fn list_columns(
     frows: &mut [u32],
     work: &mut [u64],
 ) -> usize
-    requires tested { ⌜ Tested n (now starts) (now rows) ⌝ }
-    requires long { ⌜ LongEnough n (six (now parents) (now order) (now pops) (now fstarts) (now frows) (now work)) ⌝ }
+    requires { ⌜
+        ListableIn n (now starts) (now rows) (six (now parents) (now order) (now pops) (now fstarts) (now frows) (now work))
+        ⌝ }
     ensures { λ r. ⌜
         Listing n r (columnOf (now (starts .entry)) (now (rows .entry)))
         (six (now (parents .entry)) (now (order .entry)) (now (pops .entry)) (now (fstarts .entry)) (now (frows .entry))
-        (now (work .entry))) (six (now (parents .exit)) (now (order .exit)) (now (pops .exit)) (now (fstarts .exit))
-        (now (frows .exit)) (now (work .exit)))
+        (now (work .entry)))
+        (six (now (parents .exit)) (now (order .exit)) (now (pops .exit)) (now (fstarts .exit)) (now (frows .exit)) (now (work .exit)))
         ⌝ }
 {
     let done = structure::column_lists(
@@ -98,13 +96,14 @@ pub fn planned(
     frows: &mut [u32],
     work: &mut [u64],
 ) -> Answer
-    requires passes { ⌜ first jobTests (jobOf head (now starts) (now rows)) ≡ passed ⌝ }
-    requires long { ⌜ LongEnough (head .n) (six (now parents) (now order) (now pops) (now fstarts) (now frows) (now work)) ⌝ }
+    requires { ⌜
+        Plannable (jobOf head (now starts) (now rows)) (six (now parents) (now order) (now pops) (now fstarts) (now frows) (now work))
+        ⌝ }
     ensures { λ r. ⌜
-        Made (jobOf head (now (starts .entry)) (now (rows .entry))) (six (now (parents .entry)) (now (order .entry)) (now (pops .entry))
-        (now (fstarts .entry)) (now (frows .entry)) (now (work .entry)))
-        (six (now (parents .exit)) (now (order .exit)) (now (pops .exit)) (now (fstarts .exit)) (now (frows .exit))
-        (now (work .exit))) r
+        Made (jobOf head (now (starts .entry)) (now (rows .entry)))
+        (six (now (parents .entry)) (now (order .entry)) (now (pops .entry)) (now (fstarts .entry)) (now (frows .entry))
+        (now (work .entry)))
+        (six (now (parents .exit)) (now (order .exit)) (now (pops .exit)) (now (fstarts .exit)) (now (frows .exit)) (now (work .exit))) r
         ⌝ }
 {
     let n = head.n as usize;

@@ -128,13 +128,17 @@ module _ {n c : ℕ} {fs w : List ℕ} {best most d : ℕ} (p : Picking n c fs w
         on best most (omega arith) l (p .picked z) z
 
   pub picked : d ≡ 0 → Longest n c fs w best
-  picked e children chain h =
-      let same = chain-only w n c children (p .children) chain (p .chain) in
-      let z : 0 < most = positive in
-      rw same (p .picked z .0, λ x m. at-most z x (p .passed x m))
+  picked e =
+      record {
+        among = λ children chain h. rw (same children chain) (p .picked (positive h) .0);
+        most = λ children chain h x m. at-most (positive h) x (p .passed x (rw (same children chain) at m));
+      }
     where
-      positive : 0 < most
-      positive = go most refl
+      same : (children : List ℕ) → Chain w n c children → children ≡ p .children
+      same children chain = chain-only w n c children (p .children) chain (p .chain)
+
+      positive : c ≢ 0 → 0 < most
+      positive h = go most refl
         where
           go : (k : ℕ) → most ≡ k → 0 < k
           go zero q = absurd (h (sym (p .none q) ∙ e))

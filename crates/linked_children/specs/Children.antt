@@ -22,6 +22,11 @@ pub record Child (fstarts : List ℕ) (c : ℕ) : Type 0 where
   pub started : c < length fstarts
   pub begins : getD fstarts (c - 1) 0 < getD fstarts c 0
 
+-- one whose list is stored
+pub record StoredChild (c : ℕ) (fstarts frows : List ℕ) : Type 0 where
+  pub child : Child fstarts c
+  pub ends : getD fstarts c 0 ≤ length frows
+
 -- children, linked from c on at n in work, the later ones first
 pub record Siblings (n c : ℕ) (fstarts work children : List ℕ) : Type 0 where
   pub chain : Chain work n c children
@@ -36,6 +41,6 @@ pub record Linked (n c : ℕ) (fstarts work : List ℕ) : Type 0 where
   pub siblings : Siblings n c fstarts work children
 
 -- b is one of the children linked from c on, and none of them has more rows
-abbrev pub Longest : ℕ → ℕ → List ℕ → List ℕ → ℕ → Type 0
-Longest n c fstarts work b =
-    (children : List ℕ) → Chain work n c children → c ≢ 0 → (b ∈ children) × ((d : ℕ) → d ∈ children → rowsOf fstarts d ≤ rowsOf fstarts b)
+pub record Longest (n c : ℕ) (fstarts work : List ℕ) (b : ℕ) : Type 0 where
+  pub among : (children : List ℕ) → Chain work n c children → c ≢ 0 → b ∈ children
+  pub most : (children : List ℕ) → Chain work n c children → c ≢ 0 → (d : ℕ) → d ∈ children → rowsOf fstarts d ≤ rowsOf fstarts b

@@ -1,14 +1,11 @@
 // A column's children, linked in work: the rows that each hands on, and the child with the most rows. In work, place j holds the first
 // child of column j, and place n + c the sibling behind column c.
 ghost use mathlib.Core.Path.{_≡_};
-ghost use Prim.Native.Nat.{_≤_};
-ghost use lib.ListN.{length, getD};
-ghost use Rattle.linked_children.specs.Children.{Child, handedOn, Linked, Longest};
+ghost use Rattle.linked_children.specs.Children.{StoredChild, handedOn, Linked, Longest};
 
 // The rows that column c hands on to its parent: its list without the least row, which is the parent.
 pub fn handed_on<'a>(c: usize, fstarts: &[u64], frows: &'a [u32]) -> &'a [u32]
-    requires child { ⌜ Child (now fstarts) c ⌝ }
-    requires stored { ⌜ getD (now fstarts) c 0 ≤ length (now frows) ⌝ }
+    requires { ⌜ StoredChild c (now fstarts) (now frows) ⌝ }
     ensures { λ r. ⌜ now r ≡ handedOn (now (fstarts .entry)) (now (frows .entry)) c ⌝ }
 {
     let s = fstarts[c - 1] as usize;

@@ -51,10 +51,11 @@ pub record Here (i c : ℕ) (p w : List ℕ) (t : ℕ) : Type 0 where
   pub small-t : t < maxColumns * (maxColumns + 1)
 
 module _ {i k t₀ t c : ℕ} {p₀ w₀ p w : List ℕ} (s : Climbing i k p₀ w₀ t₀) (r : Climb i k p₀ w₀ t₀ p w t c) where
-  pub look : (c < length w) × (i ≤ maxColumns)
-  look =
-      let q = R-range (s .start .good) k i (s .start .leaf) in
-      (omega (arith, s .start .long-work, r .long-w, r .high), omega (arith, s .start .few))
+  pub row-small : i ≤ maxColumns
+  row-small = omega (arith, R-range (s .start .good) k i (s .start .leaf), s .start .few)
+
+  pub in-work : c < length w
+  in-work = omega (arith, R-range (s .start .good) k i (s .start .leaf), s .start .long-work, r .long-w, r .high)
 
   -- it meets a mark
   pub stop : getD w c 0 ≡ i → Climbed i k p₀ w₀ t₀ p w t
@@ -77,9 +78,14 @@ module _ {i k t₀ t c : ℕ} {p₀ w₀ p w : List ℕ} (s : Climbing i k p₀ 
         let q = R-range (s .start .good) c i (on-path v) in
         let lp = s .start .long-parents in
         let mp = r .long-p in
-        let l = look in
         let a = r .low in
-        record { below = q .0; in-p = omega arith; in-w = l .0; small-i = l .1; small-t = count-few (s .start .good) (s .start .few) (v .0) }
+        record {
+          below = q .0;
+          in-p = omega (arith, row-small);
+          in-w = in-work;
+          small-i = row-small;
+          small-t = count-few (s .start .good) (s .start .few) (v .0);
+        }
 
     met-on : getD (set w c i) k 0 ≡ i
     met-on =

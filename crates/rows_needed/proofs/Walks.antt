@@ -22,6 +22,12 @@ use Rattle.rows_needed.proofs.Buckets.{points-ext, buckets-ext, But, Ta
 use Rattle.rows_needed.proofs.Filing.{New}
 use Rattle.rows_needed.proofs.Stores.{Filed, file}
 
+-- the walk's loop: the columns from c on are still to do, and the slices are as long as they were
+pub record Walking (n i : ℕ) (starts rows p₀ w₀ p w : List ℕ) (t c : ℕ) : Type 0 where
+  pub walk : Walk n i starts rows p w t c
+  pub long-p : length p ≡ length p₀
+  pub long-w : length w ≡ length w₀
+
 -- the rows of all columns that are still ahead
 abbrev pub ahead : ℕ → List ℕ → List ℕ → ℕ
 ahead n starts w = sumTo n (λ d. getD starts d 0 - cursor n w d)
@@ -81,7 +87,8 @@ module _ {n i t c : ℕ} {starts rows p w : List ℕ} (r : Walk n i starts rows 
         record {
           column = out .column;
           started = omega (arith, starts-long (r .tested), out .column .1);
-          row = λ b. let e = next-row b in (e .1 .1, e .1 .0);
+          place = λ b. next-row b .1 .1;
+          row = λ b. next-row b .1 .0;
           long = out .rest .long;
         }
 
@@ -112,7 +119,7 @@ module _ {n i t c : ℕ} {starts rows p w : List ℕ} (r : Walk n i starts rows 
     cursors : (d : ℕ) → UpTo n d → d ≢ c → cursor n after d ≡ cursor n w d
     cursors d u z = done .moved .stay d u z .cursors ∙ same (n + n + n + d) (omega arith)
 
-    module _ (w₂ : List ℕ) (e : w₂ ≡ after) where
+    module _ {w₂ : List ℕ} (e : w₂ ≡ after) where
       -- the others are still to do
       pub walked : Walk n i starts rows p₁ w₂ t₁ (getD w (n + n + c) 0)
       walked =

@@ -17,7 +17,8 @@ use Rattle.rows_needed.specs.Buckets.{Points, UpTo, Buckets}
 pub record Filing (n c q : ℕ) (starts rows work : List ℕ) : Type 0 where
   pub column : UpTo n c
   pub started : c < length starts
-  pub row : q < getD starts c 0 → (q < length rows) × (getD rows q 0 ≤ n)
+  pub place : q < getD starts c 0 → q < length rows
+  pub row : q < getD starts c 0 → getD rows q 0 ≤ n
   pub long : n + n + n + n < length work
 
 -- before row i: the rows below i are counted, and no column is marked for it
@@ -36,12 +37,18 @@ pub record Walk (n i : ℕ) (starts rows parents work : List ℕ) (t c : ℕ) : 
   pub leaf : (d : ℕ) → UpTo n d → i ∈ columnOf starts rows d → (getD work d 0 ≡ i) ⊎ Points n starts rows work d i
   pub long-parents : n ≤ length parents
 
+-- a tested job, and work long enough to file its columns
+pub record Fileable (n : ℕ) (starts rows work : List ℕ) : Type 0 where
+  pub tested : Tested n starts rows
+  pub work-long : n + n + n + n < length work
+
 -- the first m columns are filed under their first rows, and no column is marked
 pub record Begun (n m : ℕ) (starts rows work : List ℕ) : Type 0 where
   pub buckets : Buckets n 0 starts rows work (UpTo m) 0
   pub marks : (x : ℕ) → x ≤ n → getD work x 0 ≡ 0
 
--- the lengths of what is lent for n columns; each may be longer
-pub record Lengths (n : ℕ) (parents work : List ℕ) : Type 0 where
+-- a tested job, and slices long enough to count its rows
+pub record Countable (n : ℕ) (starts rows parents work : List ℕ) : Type 0 where
+  pub tested : Tested n starts rows
   pub parents-long : n ≤ length parents
   pub work-long : n + n + n + n < length work

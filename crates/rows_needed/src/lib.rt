@@ -1,15 +1,14 @@
 // Counts the factor rows exactly, without storing a list. In work, place c holds the mark of column c, place n + r the first column filed
 // under row r, place n + n + c the next column under the same row as c, and place n + n + n + c the place of c's next pattern row.
 ghost use mathlib.Core.Path.{_≡_};
-ghost use Prim.Native.Nat.{_+_, _<_};
+ghost use Prim.Native.Nat.{_+_};
 ghost use lib.ListN.{length, getD};
 ghost use Rattle.papers.specs.Lists.{flat};
 ghost use Rattle.papers.specs.Job.{columnOf};
 ghost use Rattle.papers.specs.Key.{listsOf};
 ghost use Rattle.papers.specs.Fill.{R};
-ghost use Rattle.column_laws.specs.Tested.{Tested};
 ghost use Rattle.rows_needed.specs.Buckets.{filed};
-ghost use Rattle.rows_needed.specs.Walk.{Filing, Walk, Begun, Lengths};
+ghost use Rattle.rows_needed.specs.Walk.{Filing, Walk, Fileable, Begun, Countable};
 
 // Files column c under its next pattern row, which is at place q, if it has one.
 pub fn file(n: usize, c: usize, q: u64, starts: &[u64], rows: &[u32], work: &mut [u64])
@@ -52,8 +51,7 @@ pub fn walk(
 
 // Clears work and files every column under its first pattern row.
 pub fn begin(n: usize, starts: &[u64], rows: &[u32], work: &mut [u64])
-    requires tested { ⌜ Tested n (now starts) (now rows) ⌝ }
-    requires long { ⌜ n + n + n + n < length (now work) ⌝ }
+    requires { ⌜ Fileable n (now starts) (now rows) (now work) ⌝ }
     ensures { λ _. ⌜ Begun n n (now (starts .entry)) (now (rows .entry)) (now (work .exit)) ⌝ }
 {
     slices::clear64(work);
@@ -73,8 +71,7 @@ pub fn rows_needed(
     parents: &mut [u32],
     work: &mut [u64],
 ) -> u64
-    requires tested { ⌜ Tested n (now starts) (now rows) ⌝ }
-    requires lengths { ⌜ Lengths n (now parents) (now work) ⌝ }
+    requires { ⌜ Countable n (now starts) (now rows) (now parents) (now work) ⌝ }
     ensures { λ r. ⌜ r ≡ length (flat (listsOf n (R (columnOf (now (starts .entry)) (now (rows .entry)))))) ⌝ }
 {
     slices::clear32(parents);

@@ -10,6 +10,7 @@ use Rattle.papers.specs.Job.{Pattern}
 use Rattle.papers.specs.Key.{listsOf}
 use Rattle.papers.specs.Fill.{R}
 use Rattle.papers.specs.Tree.{parent}
+use Rattle.column_laws.specs.Tested.{Tested}
 use Rattle.structure.specs.Hanging.{hanging}
 
 -- a list can be stored as that of column m + 1
@@ -35,6 +36,11 @@ pub record Lengths (n : ℕ) (parents fstarts x y work : List ℕ) : Type 0 wher
   pub room-x : n ≤ length x
   pub room-y : n ≤ length y
   pub work-long : n + n + n < length work
+
+-- a tested job, and slices for the lists of its columns
+pub record Listable (n : ℕ) (starts rows parents fstarts x y work : List ℕ) : Type 0 where
+  pub tested : Tested n starts rows
+  pub lengths : Lengths n parents fstarts x y work
 
 -- r columns are done: all n, or as many as there is room for
 pub record Listed (n r : ℕ) (A : Pattern) (parents₀ fstarts₀ frows₀ parents fstarts frows : List ℕ) : Type 0 where

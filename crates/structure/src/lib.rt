@@ -3,9 +3,8 @@
 ghost use mathlib.Core.Path.{_≡_};
 ghost use Rattle.papers.specs.Lists.{head0};
 ghost use Rattle.papers.specs.Job.{columnOf};
-ghost use Rattle.column_laws.specs.Tested.{Tested};
 ghost use Rattle.structure.specs.Hanging.{hanging, Hangable};
-ghost use Rattle.structure.specs.Listed.{Storable, Stores, Lengths, Listed};
+ghost use Rattle.structure.specs.Listed.{Storable, Stores, Listable, Listed};
 
 // Hangs column c under its parent p, before the children that p has already. A root is not hung.
 pub fn hang(n: usize, p: usize, c: usize, work: &mut [u64])
@@ -65,8 +64,7 @@ pub fn column_lists(
     y: &mut [u32],
     work: &mut [u64],
 ) -> usize
-    requires tested { ⌜ Tested n (now starts) (now rows) ⌝ }
-    requires lengths { ⌜ Lengths n (now parents) (now fstarts) (now x) (now y) (now work) ⌝ }
+    requires { ⌜ Listable n (now starts) (now rows) (now parents) (now fstarts) (now x) (now y) (now work) ⌝ }
     ensures { λ r. ⌜
         Listed n r (columnOf (now (starts .entry)) (now (rows .entry))) (now (parents .entry)) (now (fstarts .entry))
         (now (frows .entry)) (now (parents .exit)) (now (fstarts .exit)) (now (frows .exit))

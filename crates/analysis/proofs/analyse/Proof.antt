@@ -1,7 +1,12 @@
--- A refused job and a short slice are ways of their own; everything else is the plan that is made, what a refusal left being cleared.
+-- `analysis::analyse` meets its contract: the tests come in the order of their numbers. A job that fails one of 1 to 6 is answered by its fault, and
+-- slices that are too short by 7; else the answer is that of the plan that is made, and what a refusal left in the slices is cleared.
 -- Assumes nothing.
-use mathlib.Core.Path.{sym, _∙_}
+use mathlib.Core.Path.{_≡_, sym, _∙_}
 use native.Mathlib.Omega.{arith}
+use borrow.Author.Needs.{needs}
+use denote.Ref.{now}
+use Rattle.papers.specs.Job.{jobOf}
+use Rattle.papers.specs.Refusals.{passed, first, jobTests}
 use Rattle.job_laws.proofs.Outcomes.{job-answered}
 use Rattle.column_laws.proofs.Testing.{tested}
 use Rattle.lent.proofs.Longs.{not-short}
@@ -10,122 +15,94 @@ use Rattle.lent_plan.proofs.Made.{made-cleared}
 use Rattle.analysis.proofs.analyse.Statement.{statement}
 use Rattle.analysis.proofs.analyse.Tie as tie
 
--- The places that the answers look back to: `after-first-fault (search)` is the one behind the answer at hand.
-abbrev after-first-fault : tie.After-first-fault → tie.After-first-fault
-after-first-fault c = c
+-- The places that the answers look back to, in the order of the code: `judged (search)` is the one behind the answer at hand.
 
-abbrev else1 : tie.Else1 → tie.Else1
-else1 c = c
+-- 1 to 6 are decided
+abbrev judged : tie.After-first-fault → tie.After-first-fault
+judged c = c
 
-abbrev after-too-short : tie.After-too-short → tie.After-too-short
-after-too-short c = c
+-- 7 is decided
+abbrev measured : tie.After-too-short → tie.After-too-short
+measured c = c
 
-abbrev else2 : tie.Else2 → tie.Else2
-else2 c = c
+-- the slices are long enough
+abbrev long : tie.Else2 → tie.Else2
+long c = c
 
-abbrev after-planned : tie.After-planned → tie.After-planned
-after-planned c = c
+-- the plan is made, or refused by 8 or 9
+abbrev made : tie.After-planned → tie.After-planned
+made c = c
 
-abbrev then3 : tie.Then3 → tie.Then3
-then3 c = c
+-- it is refused
+abbrev refused : tie.Then3 → tie.Then3
+refused c = c
 
+-- what the refusal left is cleared
 abbrev cleared : tie.After-clear-all → tie.After-clear-all
 cleared c = c
 
-abbrev after-planned₁ : tie.Then3 → tie.After-planned
-after-planned₁ c = search
+-- the entry, and `made` from behind the refusal, for answers that are too far away for one search
+abbrev start : tie.Else1 → tie.Start
+start c = search
+
+abbrev made₁ : tie.Then3 → tie.After-planned
+made₁ c = search
+
+-- Behind the first test the job is known to pass: the answers below cite this with `passes (search)`.
+passes : (c : tie.Else1) → first jobTests (jobOf (start c .args .head) (now (start c .args .starts)) (now (start c .args .rows))) ≡ passed
+passes c = job-answered _ (judged (search) .first-fault .ensures) (c .if1 .left)
+
+-- ---- 1 to 7
 
 returns : tie.Need-returns
-returns c = way-job _ _ (after-first-fault (search) .first-fault .ensures) (c .if1 .taken)
+returns c = way-job _ _ (judged (search) .first-fault .ensures) (c .if1 .taken)
 
 too-short-requires : tie.Need-too-short-requires
-too-short-requires c κs = tested _ (job-answered _ (after-first-fault (search) .first-fault .ensures) (c .if1 .left)) .few
+too-short-requires c κs = tested _ (passes (search)) .few
 
 returns-2 : tie.Need-returns-2
-returns-2 c =
-    way-short _ _ (job-answered _ (after-first-fault (search) .first-fault .ensures) (else1 (search) .if1 .left))
-    (sym (after-too-short (search) .too-short .ensures) ∙ c .before .if2 .taken) (c .answered .ensures)
+returns-2 c = way-short _ _ (passes (search)) (sym (measured (search) .too-short .ensures) ∙ c .before .if2 .taken) (c .answered .ensures)
+
+-- ---- the plan, or 8 or 9
 
 planned-requires : tie.Need-planned-requires
-planned-requires c κs = (
-  job-answered _ (after-first-fault (search) .first-fault .ensures) (else1 (search) .if1 .left),
-  not-short _ _ (sym (after-too-short (search) .too-short .ensures) ∙ else2 (search) .if2 .left),
-)
-
-same-length : tie.Need-same-length
-same-length c = omega (arith, cleared (search) .clear-all .kept, after-planned₁ (search) .planned .kept)
-
-same-length-2 : tie.Need-same-length-2
-same-length-2 c = omega (arith, cleared (search) .clear-all .kept, after-planned₁ (search) .planned .kept)
-
-same-length-3 : tie.Need-same-length-3
-same-length-3 c = omega (arith, cleared (search) .clear-all .kept, after-planned₁ (search) .planned .kept)
-
-same-length-4 : tie.Need-same-length-4
-same-length-4 c = omega (arith, cleared (search) .clear-all .kept, after-planned₁ (search) .planned .kept)
-
-same-length-5 : tie.Need-same-length-5
-same-length-5 c = omega (arith, cleared (search) .clear-all .kept, after-planned₁ (search) .planned .kept)
-
-same-length-6 : tie.Need-same-length-6
-same-length-6 c = omega (arith, cleared (search) .clear-all .kept, after-planned₁ (search) .planned .kept)
+planned-requires c κs =
+    record { passes = passes (search); long = not-short _ _ (sym (measured (search) .too-short .ensures) ∙ long (search) .if2 .left) }
 
 returns-3 : tie.Need-returns-3
 returns-3 c =
-    let k = after-planned₁ (search) .planned .kept in
-    made-cleared (after-planned₁ (search) .planned .ensures) (record {
-      parents = omega arith;
-      order = omega arith;
-      pops = omega arith;
-      starts = omega arith;
-      rows = omega arith;
-      work = omega arith;
-    }) (then3 (search) .if3 .taken)
-    (cleared (search) .clear-all .ensures)
-
-same-length-7 : tie.Need-same-length-7
-same-length-7 c = omega (arith, after-planned (search) .planned .kept)
-
-same-length-8 : tie.Need-same-length-8
-same-length-8 c = omega (arith, after-planned (search) .planned .kept)
-
-same-length-9 : tie.Need-same-length-9
-same-length-9 c = omega (arith, after-planned (search) .planned .kept)
-
-same-length-10 : tie.Need-same-length-10
-same-length-10 c = omega (arith, after-planned (search) .planned .kept)
-
-same-length-11 : tie.Need-same-length-11
-same-length-11 c = omega (arith, after-planned (search) .planned .kept)
-
-same-length-12 : tie.Need-same-length-12
-same-length-12 c = omega (arith, after-planned (search) .planned .kept)
+    let lengths = made₁ (search) .planned .kept in
+    made-cleared (made₁ (search) .planned .ensures) (search needs) (refused (search) .if3 .taken) (cleared (search) .clear-all .ensures)
 
 returns-4 : tie.Need-returns-4
-returns-4 c = after-planned (search) .planned .ensures .done (c .if3 .left)
+returns-4 c = made (search) .planned .ensures .done (c .if3 .left)
 
 pub analyse-spec : {M : Type 1} → statement M
 analyse-spec =
     tie.close
     (tie.spec
+    -- 1 to 6
     (λ c κs. tt)
     returns
+    -- 7
     too-short-requires
     (λ c κs. tt)
     returns-2
+    -- 8 or 9, cleared; the six slices are as long as they were
     planned-requires
     (λ c κs. tt)
-    same-length
-    same-length-2
-    same-length-3
-    same-length-4
-    same-length-5
-    same-length-6
+    (λ c. omega (arith, cleared (search) .clear-all .kept, made₁ (search) .planned .kept))
+    (λ c. omega (arith, cleared (search) .clear-all .kept, made₁ (search) .planned .kept))
+    (λ c. omega (arith, cleared (search) .clear-all .kept, made₁ (search) .planned .kept))
+    (λ c. omega (arith, cleared (search) .clear-all .kept, made₁ (search) .planned .kept))
+    (λ c. omega (arith, cleared (search) .clear-all .kept, made₁ (search) .planned .kept))
+    (λ c. omega (arith, cleared (search) .clear-all .kept, made₁ (search) .planned .kept))
     returns-3
-    same-length-7
-    same-length-8
-    same-length-9
-    same-length-10
-    same-length-11
-    same-length-12
+    -- done, and again
+    (λ c. omega (arith, made (search) .planned .kept))
+    (λ c. omega (arith, made (search) .planned .kept))
+    (λ c. omega (arith, made (search) .planned .kept))
+    (λ c. omega (arith, made (search) .planned .kept))
+    (λ c. omega (arith, made (search) .planned .kept))
+    (λ c. omega (arith, made (search) .planned .kept))
     returns-4)

@@ -56,7 +56,7 @@ unrepeated c plan front = passes-16 _ plan (front .held) (tested-16 (search) .fi
 
 right : (c : tie.Else2) (plan : Plan) → Stands (begun₁ c) plan → listTest (jobOn (begun₁ c)) plan ≡ passed
 right c plan front =
-    passes-17 _ (begun₁ c .pre .valid) plan front (unrepeated (search) plan front) (tested-17 (search) .first-wrong-list .ensures .0) (c .if2 .left)
+    passes-17 _ (begun₁ c .pre .valid) plan front (unrepeated (search) plan front) (tested-17 (search) .first-wrong-list .ensures .answers) (c .if2 .left)
 
 slice-aggregate-steps : tie.Need-slice-aggregate-steps
 slice-aggregate-steps c = part-long _ (now (entry (search) .args .order)) (entry (search) .pre .long .order)
@@ -76,18 +76,18 @@ returns c = record {
 
 first-wrong-list-requires : tie.Need-first-wrong-list-requires
 first-wrong-list-requires c κs =
-    let pre = entry (search) .pre in (
-      tested _ (pre .valid),
-      (
-        lists-held _ (pre .valid) _ (pre .plan .front),
-        (pre .long .parents, omega (arith, pre .long .work, tested-16 (search) .first-repeat .kept)),
-      ),
-    )
+    let pre = entry (search) .pre in
+    record {
+      tested = tested _ (pre .valid);
+      listed = lists-held _ (pre .valid) _ (pre .plan .front);
+      parents-long = pre .long .parents;
+      work-long = omega (arith, pre .long .work, tested-16 (search) .first-repeat .kept);
+    }
 
 returns-2 : tie.Need-returns-2
 returns-2 c = record {
   answers = λ plan front. refuses-17 _ (entry (search) .pre .valid) plan front (unrepeated (search) plan front)
-      (tested-17 (search) .first-wrong-list .ensures .0) (c .before .if2 .taken) (c .answered2 .ensures);
+      (tested-17 (search) .first-wrong-list .ensures .answers) (c .before .if2 .taken) (c .answered2 .ensures);
   stores = λ z. absurd (omega (arith, number-of (c .answered2 .ensures), z));
 }
 
@@ -106,13 +106,13 @@ judge-tree-requires c κs =
     let pre = entry (search) .pre in
     let front = pre .plan .front in
     tree-given _ (pre .valid) _ front (unrepeated (search) _ front) (right (search) _ front) (now (entry (search) .args .parents)) refl
-    (pre .long .parents) (tested-17 (search) .first-wrong-list .ensures .1 (past-17 (search) .if2 .left))
+    (pre .long .parents) (tested-17 (search) .first-wrong-list .ensures .stores (past-17 (search) .if2 .left))
     (omega (arith, pre .long .work, tested-16 (search) .first-repeat .kept, tested-17 (search) .first-wrong-list .kept))
 
 returns-3 : tie.Need-returns-3
 returns-3 c =
     let pre = entry₁ (search) .pre in
-    let stored = tested-17 (search) .first-wrong-list .ensures .1 (past-17 (search) .if2 .left) in
+    let stored = tested-17 (search) .first-wrong-list .ensures .stores (past-17 (search) .if2 .left) in
     record {
       answers = λ plan front. left-to-tree _ (pre .valid) plan front (unrepeated (search) plan front) (right (search) plan front)
           (now (entry₁ (search) .args .parents)) refl (pre .long .parents) stored (judged (search) .judge-tree .ensures);

@@ -1,19 +1,16 @@
--- `check_lists::first_wrong_list` meets its contract: the lists of the columns up to m are right. The measure is what is left.
+-- `check_lists::first_wrong_list` meets its contract: the lists of the columns up to m are right, so the next one can be held against R(m + 1); if it
+-- is another, it is the first that is wrong. The measure is what is left of the columns.
 -- Assumes nothing.
 use Prim.Native.Nat.{_-_}
-use mathlib.Core.Path.{sym, _∙_}
 use native.Mathlib.Omega.{arith}
-use denote.Ref.{now}
-use borrow.Author.Tests.{not-true, not-false}
-use Rattle.papers.specs.Job.{columnOf}
-use Rattle.column_laws.proofs.Columns.{tested-below}
-use Rattle.check_lists.proofs.Plans.{plan-part, plan-fits}
-use Rattle.check_lists.proofs.Passing.{Passing, pass-begin, long-p, pass-all, pass-wrong, pass-hangable, pass-on}
+use borrow.Author.Tests.{not-false}
+use borrow.Author.Tests.{not-true}
+use Rattle.check_lists.proofs.Passing.{Passing, pass-begin, long-p, pass-all, pass-part, pass-next, pass-wrong, pass-hangable, pass-on}
 use Rattle.check_lists.proofs.first_wrong_list.Statement.{statement}
 use Rattle.check_lists.proofs.first_wrong_list.Tie as tie
 
 abbrev Inv-loop : tie.InvT-loop
-Inv-loop n starts rows fstarts frows parents₀ work₀ m₀ parents work m = Passing n (columnOf starts rows) fstarts frows parents₀ work₀ parents work m
+Inv-loop n starts rows fstarts frows parents₀ work₀ m₀ parents work m = Passing n starts rows fstarts frows parents₀ work₀ parents work m
 
 abbrev μ-loop : tie.MeasureT-loop
 μ-loop n starts rows fstarts frows parents₀ work₀ m₀ parents work m = n - m
@@ -31,72 +28,49 @@ at-loop c = c
 abbrev in-loop : tie.In-loop Inv-loop μ-loop → tie.In-loop Inv-loop μ-loop
 in-loop c = c
 
-abbrev after-pattern-rows : tie.After-pattern-rows Inv-loop μ-loop → tie.After-pattern-rows Inv-loop μ-loop
-after-pattern-rows c = c
+-- the list is at hand
+abbrev read : tie.After-pattern-rows Inv-loop μ-loop → tie.After-pattern-rows Inv-loop μ-loop
+read c = c
 
-abbrev after-is-right : tie.After-is-right Inv-loop μ-loop → tie.After-is-right Inv-loop μ-loop
-after-is-right c = c
+abbrev compared : tie.After-is-right Inv-loop μ-loop → tie.After-is-right Inv-loop μ-loop
+compared c = c
 
-abbrev else1 : tie.Else1 Inv-loop μ-loop → tie.Else1 Inv-loop μ-loop
-else1 c = c
+-- it is right
+abbrev right : tie.Else1 Inv-loop μ-loop → tie.Else1 Inv-loop μ-loop
+right c = c
 
-abbrev after-least : tie.After-least Inv-loop μ-loop → tie.After-least Inv-loop μ-loop
-after-least c = c
+-- its least row, the parent, is at hand
+abbrev named : tie.After-least Inv-loop μ-loop → tie.After-least Inv-loop μ-loop
+named c = c
 
-abbrev after-hang : tie.After-hang Inv-loop μ-loop → tie.After-hang Inv-loop μ-loop
-after-hang c = c
+abbrev hung : tie.After-hang Inv-loop μ-loop → tie.After-hang Inv-loop μ-loop
+hung c = c
 
 loop-holds : tie.Need-loop-holds Inv-loop μ-loop
-loop-holds c =
-    pass-begin _ _ (now (entry (search) .args .work)) _ (entry (search) .pre .1 .0 .are) (entry (search) .pre .1 .1 .1)
-    (cleared (search) .clear64 .ensures)
+loop-holds c = pass-begin (entry (search) .pre) (cleared (search) .clear64 .ensures)
 
 pattern-rows-requires : tie.Need-pattern-rows-requires Inv-loop μ-loop
-pattern-rows-requires c κs = plan-part (entry (search) .pre .1 .0 .are) _ (c .loop-test .taken)
+pattern-rows-requires c κs = pass-part (c .before .loop .inv) (c .loop-test .taken)
 
 is-right-requires : tie.Need-is-right-requires Inv-loop μ-loop
-is-right-requires c κs = (
-  entry (search) .pre .0,
-  (
-    in-loop (search) .loop-test .taken,
-    (
-      at-loop (search) .loop .inv .stored,
-      rw (c .before .pattern-rows .ensures) (plan-fits (entry (search) .pre .1 .0 .are) _ (in-loop (search) .loop-test .taken)),
-    ),
-  ),
-)
-
-same-length : tie.Need-same-length Inv-loop μ-loop
-same-length c = long-p (at-loop (search) .loop .inv)
+is-right-requires c κs = pass-next (at-loop (search) .loop .inv) (in-loop (search) .loop-test .taken) (c .before .pattern-rows .ensures)
 
 returns : tie.Need-returns Inv-loop μ-loop
-returns c = (
-  pass-wrong (at-loop (search) .loop .inv) (in-loop (search) .loop-test .taken) _ (after-pattern-rows (search) .pattern-rows .ensures)
-      (sym (not-true _ (c .if1 .taken)) ∙ after-is-right (search) .is-right .ensures .0),
-  λ e. absurd (omega arith),
-)
-
-slice-write-parents : tie.Need-slice-write-parents Inv-loop μ-loop
-slice-write-parents c = let l = long-p (at-loop (search) .loop .inv) in let r = entry (search) .pre .1 .1 .0 in omega arith
+returns c =
+    pass-wrong (at-loop (search) .loop .inv) (in-loop (search) .loop-test .taken) (read (search) .pattern-rows .ensures)
+    (compared (search) .is-right .ensures) (not-true _ (c .if1 .taken))
 
 hang-requires : tie.Need-hang-requires Inv-loop μ-loop
 hang-requires c κs =
-    pass-hangable (at-loop (search) .loop .inv) (in-loop (search) .loop-test .taken) _ (after-pattern-rows (search) .pattern-rows .ensures)
-    (tested-below (entry (search) .pre .0)) (entry (search) .pre .1 .0 .are) _
-    (sym (not-false _ (else1 (search) .if1 .left)) ∙ after-is-right (search) .is-right .ensures .0)
-    (after-is-right (search) .is-right .ensures .1) (omega (arith, after-is-right (search) .is-right .kept)) _
+    pass-hangable (at-loop (search) .loop .inv) (in-loop (search) .loop-test .taken) (read (search) .pattern-rows .ensures)
+    (compared (search) .is-right .ensures) (not-false _ (right (search) .if1 .left)) (omega (arith, compared (search) .is-right .kept))
     (c .before .least .ensures)
 
 loop-again : tie.Need-loop-again Inv-loop μ-loop
 loop-again c =
-    pass-on (at-loop (search) .loop .inv) (in-loop (search) .loop-test .taken) _ (after-pattern-rows (search) .pattern-rows .ensures)
-    (tested-below (entry (search) .pre .0)) (entry (search) .pre .1 .0 .are) _
-    (sym (not-false _ (else1 (search) .if1 .left)) ∙ after-is-right (search) .is-right .ensures .0)
-    (after-is-right (search) .is-right .ensures .1) (omega (arith, after-is-right (search) .is-right .kept)) _
-    (after-least (search) .least .ensures) _ (after-hang (search) .hang .ensures) (omega (arith, after-hang (search) .hang .kept))
-
-same-length-3 : tie.Need-same-length-3 Inv-loop μ-loop
-same-length-3 c = long-p (c .before .loop .inv)
+    pass-on (at-loop (search) .loop .inv) (in-loop (search) .loop-test .taken) (read (search) .pattern-rows .ensures)
+    (compared (search) .is-right .ensures) (not-false _ (right (search) .if1 .left)) (omega (arith, compared (search) .is-right .kept))
+    (named (search) .least .ensures) (hung (search) .hang .ensures) (omega (arith, hung (search) .hang .kept))
 
 returns-2 : tie.Need-returns-2 Inv-loop μ-loop
 returns-2 c = pass-all (c .before .loop .inv) (c .loop-test .left)
@@ -112,18 +86,18 @@ first-wrong-list-spec =
     pattern-rows-requires
     is-right-requires
     (λ c. omega arith)
-    same-length
+    (λ c. long-p (at-loop (search) .loop .inv))
     (λ c. omega arith)
     returns
     (λ c κs. omega arith)
     (λ c. omega arith)
-    slice-write-parents
+    (λ c. omega (arith, long-p (at-loop (search) .loop .inv), entry (search) .pre .parents-long))
     (λ c. omega arith)
     (λ c. omega arith)
     hang-requires
     (λ c. omega arith)
     (λ c. omega arith)
     loop-again
-    same-length-3
+    (λ c. long-p (c .before .loop .inv))
     (λ c. omega arith)
     returns-2)

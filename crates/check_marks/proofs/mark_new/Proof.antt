@@ -1,8 +1,9 @@
 -- `check_marks::mark_new` meets its contract: the rows left bring as many new ones as are still to be counted. The measure is what is left.
 -- Assumes nothing.
-use Prim.Native.Nat.{_-_}
+use Prim.Native.Nat.{_+_, _-_, _<_}
 use native.Mathlib.Omega.{arith}
-use lib.ListN.{length}
+use lib.ListN.{length, getD}
+use denote.Ref.{now}
 use Rattle.child_lists.proofs.Marks.{mark-place}
 use Rattle.check_marks.proofs.Newly.{Newly, new-begin, new-old, new-mark, new-stop}
 use Rattle.check_marks.proofs.mark_new.Statement.{statement}
@@ -24,43 +25,25 @@ at-loop c = c
 abbrev in-loop : tie.In-loop Inv-loop μ-loop → tie.In-loop Inv-loop μ-loop
 in-loop c = c
 
+abbrev start : tie.In-loop Inv-loop μ-loop → tie.Start Inv-loop μ-loop
+start c = search
+
+-- the mark of the row at k has its place in work
+place : (c : tie.In-loop Inv-loop μ-loop) → start c .args .n + start c .args .n + getD (now (start c .args .list)) (c .before .loop .k) 0
+    < length (now (start c .args .work))
+place c = mark-place (start c .pre .markable) _ (c .loop-test .taken)
+
 loop-holds : tie.Need-loop-holds Inv-loop μ-loop
-loop-holds c = new-begin _ _ _ _ (c .pre .0)
+loop-holds c = new-begin _ (c .pre)
 
 cast-p : tie.Need-cast-p Inv-loop μ-loop
 cast-p c = omega (arith, c .shared-slice-known .given (at-loop (search) .loop .k))
 
-add-p-2 : tie.Need-add-p-2 Inv-loop μ-loop
-add-p-2 c = let h = mark-place (entry (search) .pre .1) _ (c .before .loop-test .taken) in let g = entry (search) .good in omega arith
-
-mul-old : tie.Need-mul-old Inv-loop μ-loop
-mul-old c = let h = mark-place (entry (search) .pre .1) _ (c .before .loop-test .taken) in let g = entry (search) .good in omega arith
-
-slice-read-old : tie.Need-slice-read-old Inv-loop μ-loop
-slice-read-old c =
-    let h = mark-place (entry (search) .pre .1) _ (in-loop (search) .loop-test .taken) in
-    let l = at-loop (search) .loop .inv .marking .long in omega arith
-
-mul-work : tie.Need-mul-work Inv-loop μ-loop
-mul-work c =
-    let h = mark-place (entry (search) .pre .1) _ (in-loop (search) .loop-test .taken) in let g = entry (search) .good in omega arith
-
-slice-write-work : tie.Need-slice-write-work Inv-loop μ-loop
-slice-write-work c =
-    let h = mark-place (entry (search) .pre .1) _ (in-loop (search) .loop-test .taken) in
-    let l = at-loop (search) .loop .inv .marking .long in omega arith
-
 loop-again : tie.Need-loop-again Inv-loop μ-loop
 loop-again c = new-old (at-loop (search) .loop .inv) (in-loop (search) .loop-test .taken) (c .if1 .taken)
 
-add-count : tie.Need-add-count Inv-loop μ-loop
-add-count c = let f = at-loop (search) .loop .inv .few in omega arith
-
 loop-again-2 : tie.Need-loop-again-2 Inv-loop μ-loop
 loop-again-2 c = new-mark (at-loop (search) .loop .inv) (in-loop (search) .loop-test .taken) (c .if1 .left)
-
-same-length : tie.Need-same-length Inv-loop μ-loop
-same-length c = let l = c .before .loop .inv .marking .long in omega arith
 
 returns : tie.Need-returns Inv-loop μ-loop
 returns c = new-stop (c .before .loop .inv) (c .loop-test .left)
@@ -76,17 +59,17 @@ mark-new-spec =
     (λ c. omega arith)
     (λ c. omega arith)
     cast-p
-    add-p-2
-    mul-old
-    slice-read-old
-    mul-work
-    slice-write-work
+    (λ c. omega (arith, place (search), entry (search) .good))
+    (λ c. omega (arith, place (search), entry (search) .good))
+    (λ c. omega (arith, place (search), at-loop (search) .loop .inv .marking .long))
+    (λ c. omega (arith, place (search), entry (search) .good))
+    (λ c. omega (arith, place (search), at-loop (search) .loop .inv .marking .long))
     (λ c. omega arith)
     (λ c. omega arith)
     loop-again
-    add-count
+    (λ c. omega (arith, at-loop (search) .loop .inv .few))
     (λ c. omega arith)
     (λ c. omega arith)
     loop-again-2
-    same-length
+    (λ c. omega (arith, c .before .loop .inv .marking .long))
     returns)

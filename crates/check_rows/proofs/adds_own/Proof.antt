@@ -1,4 +1,5 @@
--- `check_rows::adds_own` meets its contract: its answer is that of its two tests, over the marks of the pattern rows.
+-- `check_rows::adds_own` meets its contract: once the pattern rows are marked, as many rows of the list are marked as there are pattern rows, or
+-- not; where they are, it is decided by the rows behind p.
 -- Assumes nothing.
 use mathlib.Core.Path.{sym, ap, _∙_}
 use borrow.Author.Needs.{needs}
@@ -20,21 +21,27 @@ marked c = c
 abbrev counted : tie.After-count-marked → tie.After-count-marked
 counted c = c
 
-abbrev else1 : tie.Else1 → tie.Else1
-else1 c = c
+-- as many rows are marked as there are pattern rows
+abbrev complete : tie.Else1 → tie.Else1
+complete c = c
 
 returns : tie.Need-returns
-returns c = (not-both _ _ _ (λ e. c .if1 .taken (c .before .count-marked .ensures ∙ e)), marked (search) .mark .ensures)
+returns c =
+    record {
+      answers = not-both _ _ _ (λ e. c .if1 .taken (c .before .count-marked .ensures ∙ e));
+      marks = marked (search) .mark .ensures;
+    }
 
 covered-requires : tie.Need-covered-requires
-covered-requires c κs = rest-markable _ (entry (search) .pre .1 .0) (omega (arith, marked (search) .mark .kept))
+covered-requires c κs = rest-markable _ (entry (search) .pre .list-markable) (omega (arith, marked (search) .mark .kept))
 
 returns-2 : tie.Need-returns-2
-returns-2 c = (
-  c .covered .ensures ∙ ap (every _) (part-last (now (entry (search) .args .list)) (entry (search) .args .p)) ∙ then-other _ _ _
-      (sym (counted (search) .count-marked .ensures) ∙ else1 (search) .if1 .left),
-  marked (search) .mark .ensures,
-)
+returns-2 c =
+    record {
+      answers = c .covered .ensures ∙ ap (every _) (part-last (now (entry (search) .args .list)) (entry (search) .args .p)) ∙ then-other _ _ _
+          (sym (counted (search) .count-marked .ensures) ∙ complete (search) .if1 .left);
+      marks = marked (search) .mark .ensures;
+    }
 
 pub adds-own-spec : {M : Type 1} → statement M
 adds-own-spec =

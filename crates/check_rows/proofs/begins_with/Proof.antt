@@ -8,9 +8,9 @@ use Rattle.list_laws.proofs.Members.{same-true}
 use Rattle.check_rows.proofs.begins_with.Statement.{statement}
 use Rattle.check_rows.proofs.begins_with.Tie as tie
 
--- The places that the answers look back to: `else1 (search)` is the one behind the answer at hand.
-abbrev else1 : tie.Else1 → tie.Else1
-else1 c = c
+-- The place that an answer looks back to: the list is long enough.
+abbrev long : tie.Else1 → tie.Else1
+long c = c
 
 returns : tie.Need-returns
 returns c = λ e. absurd (true-false e refl)
@@ -19,7 +19,7 @@ slice-aggregate-same-rows : tie.Need-slice-aggregate-same-rows
 slice-aggregate-same-rows c = sym (length-take-le _ _ (c .before .if1 .left))
 
 returns-2 : tie.Need-returns-2
-returns-2 c = λ e. (else1 (search) .if1 .left, same-true _ _ (sym (c .same-rows .ensures) ∙ e))
+returns-2 c = λ e. record { long = long (search) .if1 .left; front = same-true _ _ (sym (c .same-rows .ensures) ∙ e) }
 
 pub begins-with-spec : {M : Type 1} → statement M
 begins-with-spec =

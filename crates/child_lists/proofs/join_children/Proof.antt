@@ -1,10 +1,13 @@
--- `child_lists::join_children` meets its contract: what is held and the children left make the whole list. The measure is the next child,
--- since the chain descends.
+-- `child_lists::join_children` meets its contract: what is held and what the children left hand on make the whole list; a child all of whose rows are
+-- marked brings none, since what is marked is held. The measure is the next child, since the chain descends.
 -- Assumes nothing.
+use Prim.Native.Nat.{_+_, _<_}
 use mathlib.Core.Path.{sym, _∙_}
 use native.Mathlib.Omega.{arith}
+use lib.ListN.{length}
+use denote.Ref.{now}
 use Rattle.child_lists.proofs.Joining.{State, begin, stop}
-use Rattle.child_lists.proofs.NextChild.{child-at, falls, ends, link, link-first, falls-marked, markable, roomy, passes-over, joins}
+use Rattle.child_lists.proofs.NextChild.{child-at, falls, link-first, falls-marked, markable, roomy, passes-over, joins}
 use Rattle.child_lists.proofs.join_children.Statement.{statement}
 use Rattle.child_lists.proofs.join_children.Tie as tie
 
@@ -24,11 +27,12 @@ at-loop c = c
 abbrev in-loop : tie.In-loop Inv-loop μ-loop → tie.In-loop Inv-loop μ-loop
 in-loop c = c
 
-abbrev after-handed-on : tie.After-handed-on Inv-loop μ-loop → tie.After-handed-on Inv-loop μ-loop
-after-handed-on c = c
+abbrev handed : tie.After-handed-on Inv-loop μ-loop → tie.After-handed-on Inv-loop μ-loop
+handed c = c
 
-abbrev after-covered : tie.After-covered Inv-loop μ-loop → tie.After-covered Inv-loop μ-loop
-after-covered c = c
+-- it is known whether all its rows are marked
+abbrev tested : tie.After-covered Inv-loop μ-loop → tie.After-covered Inv-loop μ-loop
+tested c = c
 
 abbrev joined : tie.After-join-rows Inv-loop μ-loop → tie.After-join-rows Inv-loop μ-loop
 joined c = c
@@ -36,67 +40,45 @@ joined c = c
 abbrev marked : tie.After-mark Inv-loop μ-loop → tie.After-mark Inv-loop μ-loop
 marked c = c
 
+abbrev start : tie.In-loop Inv-loop μ-loop → tie.Start Inv-loop μ-loop
+start c = search
+
+-- In the loop the link of d has its place in work: the answers below cite this with `place (search)`.
+place : (c : tie.In-loop Inv-loop μ-loop) → start c .args .n + c .before .loop .d < length (now (start c .args .work))
+place c = link-first (c .before .loop .inv) (c .loop-test .taken)
+
 loop-holds : tie.Need-loop-holds Inv-loop μ-loop
 loop-holds c = begin (entry (search) .pre)
 
 handed-on-requires : tie.Need-handed-on-requires Inv-loop μ-loop
-handed-on-requires c κs = (child-at (c .before .loop .inv) (c .loop-test .taken), ends (c .before .loop .inv) (c .loop-test .taken))
+handed-on-requires c κs = child-at (c .before .loop .inv) (c .loop-test .taken)
 
 covered-requires : tie.Need-covered-requires Inv-loop μ-loop
-covered-requires c κs = markable (at-loop (search) .loop .inv) (in-loop (search) .loop-test .taken) _ (c .before .handed-on .ensures)
-
-add-d : tie.Need-add-d Inv-loop μ-loop
-add-d c =
-    let l = link-first (at-loop (search) .loop .inv) (in-loop (search) .loop-test .taken) in
-    let g = entry (search) .good in omega arith
-
-mul-d : tie.Need-mul-d Inv-loop μ-loop
-mul-d c =
-    let l = link-first (at-loop (search) .loop .inv) (in-loop (search) .loop-test .taken) in
-    let g = entry (search) .good in omega arith
-
-slice-read-d : tie.Need-slice-read-d Inv-loop μ-loop
-slice-read-d c = link (at-loop (search) .loop .inv) (in-loop (search) .loop-test .taken)
+covered-requires c κs = markable (at-loop (search) .loop .inv) (in-loop (search) .loop-test .taken) (c .before .handed-on .ensures)
 
 loop-less : tie.Need-loop-less Inv-loop μ-loop
 loop-less c = falls (at-loop (search) .loop .inv) (in-loop (search) .loop-test .taken)
 
 loop-again : tie.Need-loop-again Inv-loop μ-loop
 loop-again c =
-    passes-over (at-loop (search) .loop .inv) (in-loop (search) .loop-test .taken) _ (after-handed-on (search) .handed-on .ensures)
-    (sym (c .before .if1 .taken) ∙ after-covered (search) .covered .ensures)
+    passes-over (at-loop (search) .loop .inv) (in-loop (search) .loop-test .taken) (handed (search) .handed-on .ensures)
+    (sym (c .before .if1 .taken) ∙ tested (search) .covered .ensures)
 
 join-rows-requires : tie.Need-join-rows-requires Inv-loop μ-loop
-join-rows-requires c κs = roomy (at-loop (search) .loop .inv) (in-loop (search) .loop-test .taken) _ (after-handed-on (search) .handed-on .ensures)
+join-rows-requires c κs = roomy (at-loop (search) .loop .inv) (in-loop (search) .loop-test .taken) (handed (search) .handed-on .ensures)
 
 mark-requires : tie.Need-mark-requires Inv-loop μ-loop
-mark-requires c κs = markable (at-loop (search) .loop .inv) (in-loop (search) .loop-test .taken) _ (after-handed-on (search) .handed-on .ensures)
-
-sub-turn : tie.Need-sub-turn Inv-loop μ-loop
-sub-turn c = let l = at-loop (search) .loop .inv .turns in omega arith
-
-add-d-2 : tie.Need-add-d-2 Inv-loop μ-loop
-add-d-2 c =
-    let l = link-first (at-loop (search) .loop .inv) (in-loop (search) .loop-test .taken) in
-    let g = entry (search) .good in omega arith
-
-mul-d-2 : tie.Need-mul-d-2 Inv-loop μ-loop
-mul-d-2 c =
-    let l = link-first (at-loop (search) .loop .inv) (in-loop (search) .loop-test .taken) in
-    let g = entry (search) .good in omega arith
-
-slice-read-d-2 : tie.Need-slice-read-d-2 Inv-loop μ-loop
-slice-read-d-2 c = omega (arith, marked (search) .mark .kept, link (at-loop (search) .loop .inv) (in-loop (search) .loop-test .taken))
+mark-requires c κs = markable (at-loop (search) .loop .inv) (in-loop (search) .loop-test .taken) (handed (search) .handed-on .ensures)
 
 loop-less-2 : tie.Need-loop-less-2 Inv-loop μ-loop
 loop-less-2 c =
-    falls-marked (at-loop (search) .loop .inv) (in-loop (search) .loop-test .taken) _ (after-handed-on (search) .handed-on .ensures) _
+    falls-marked (at-loop (search) .loop .inv) (in-loop (search) .loop-test .taken) (handed (search) .handed-on .ensures)
     (marked (search) .mark .ensures)
 
 loop-again-2 : tie.Need-loop-again-2 Inv-loop μ-loop
 loop-again-2 c =
-    joins (at-loop (search) .loop .inv) (in-loop (search) .loop-test .taken) _ (after-handed-on (search) .handed-on .ensures) _ _ _ _
-    (joined (search) .join-rows .ensures) (marked (search) .mark .ensures) (omega (arith, joined (search) .join-rows .kept))
+    joins (at-loop (search) .loop .inv) (in-loop (search) .loop-test .taken) (handed (search) .handed-on .ensures)
+    (marked (search) .mark .ensures) (joined (search) .join-rows .ensures) (omega (arith, joined (search) .join-rows .kept))
     (omega (arith, joined (search) .join-rows .kept)) (omega (arith, marked (search) .mark .kept))
 
 returns : tie.Need-returns Inv-loop μ-loop
@@ -111,17 +93,17 @@ join-children-spec =
     loop-holds
     handed-on-requires
     covered-requires
-    add-d
-    mul-d
-    slice-read-d
+    (λ c. omega (arith, place (search), entry (search) .good))
+    (λ c. omega (arith, place (search), entry (search) .good))
+    (λ c. omega (arith, place (search), at-loop (search) .loop .inv .long-w))
     loop-less
     loop-again
     join-rows-requires
     mark-requires
-    sub-turn
-    add-d-2
-    mul-d-2
-    slice-read-d-2
+    (λ c. omega (arith, at-loop (search) .loop .inv .turns))
+    (λ c. omega (arith, place (search), entry (search) .good))
+    (λ c. omega (arith, place (search), entry (search) .good))
+    (λ c. omega (arith, place (search), at-loop (search) .loop .inv .long-w, marked (search) .mark .kept))
     loop-less-2
     loop-again-2
     (λ c. omega arith)

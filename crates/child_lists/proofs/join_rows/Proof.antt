@@ -1,4 +1,4 @@
--- `child_lists::join_rows` meets its contract: the joined list stands in the buffer whose turn it then is.
+-- `child_lists::join_rows` meets its contract: the list of one buffer and further rows are joined into the other buffer, whose turn it then is.
 -- Assumes nothing.
 use mathlib.Core.Path.{sym}
 use lib.Seq.{length-take-le}
@@ -11,35 +11,37 @@ use Rattle.child_lists.proofs.join_rows.Tie as tie
 abbrev entry : tie.Start → tie.Start
 entry c = c
 
-abbrev else1 : tie.Else1 → tie.Else1
-else1 c = c
+-- it is the second buffer's turn
+abbrev second : tie.Else1 → tie.Else1
+second c = c
 
-abbrev then1 : tie.Then1 → tie.Then1
-then1 c = c
+-- it is the first buffer's turn
+abbrev first : tie.Then1 → tie.Then1
+first c = c
 
-abbrev after-unite : tie.After-unite → tie.After-unite
-after-unite c = c
+abbrev united : tie.After-unite → tie.After-unite
+united c = c
 
-abbrev after-unite2 : tie.After-unite2 → tie.After-unite2
-after-unite2 c = c
+abbrev united₂ : tie.After-unite2 → tie.After-unite2
+united₂ c = c
 
 slice-aggregate-unite : tie.Need-slice-aggregate-unite
 slice-aggregate-unite c = sym (length-take-le _ _ (entry (search) .pre .held-x))
 
 unite-requires : tie.Need-unite-requires
-unite-requires c κs = fits-y _ _ _ _ _ (entry (search) .pre) (then1 (search) .if1 .taken)
+unite-requires c κs = fits-y (entry (search) .pre) (first (search) .if1 .taken)
 
 slice-aggregate-unite-2 : tie.Need-slice-aggregate-unite-2
 slice-aggregate-unite-2 c = sym (length-take-le _ _ (entry (search) .pre .held-y))
 
 unite-requires-2 : tie.Need-unite-requires-2
-unite-requires-2 c κs = fits-x _ _ _ _ _ (entry (search) .pre) (else1 (search) .if1 .left)
+unite-requires-2 c κs = fits-x (entry (search) .pre) (second (search) .if1 .left)
 
 returns : tie.Need-returns
-returns c = joined-in-y _ _ _ _ _ (entry (search) .pre) _ _ (then1 (search) .if1 .taken) (after-unite (search) .unite .ensures)
+returns c = joined-in-y (entry (search) .pre) (first (search) .if1 .taken) (united (search) .unite .ensures)
 
 returns-2 : tie.Need-returns-2
-returns-2 c = joined-in-x _ _ _ _ _ (entry (search) .pre) _ _ (else1 (search) .if1 .left) (after-unite2 (search) .unite2 .ensures)
+returns-2 c = joined-in-x (entry (search) .pre) (second (search) .if1 .left) (united₂ (search) .unite2 .ensures)
 
 pub join-rows-spec : {M : Type 1} → statement M
 join-rows-spec =

@@ -1,8 +1,9 @@
 -- `child_lists::mark` meets its contract: marking the rows left gives what marking all gives. The measure is what is left.
 -- Assumes nothing.
-use Prim.Native.Nat.{_-_}
+use Prim.Native.Nat.{_+_, _-_, _<_}
 use native.Mathlib.Omega.{arith}
-use lib.ListN.{length}
+use lib.ListN.{length, getD}
+use denote.Ref.{now}
 use Rattle.child_lists.proofs.Marks.{Marking, mark-begin, mark-turn, mark-stop, mark-place}
 use Rattle.child_lists.proofs.mark.Statement.{statement}
 use Rattle.child_lists.proofs.mark.Tie as tie
@@ -20,21 +21,19 @@ entry c = c
 abbrev at-loop : tie.At-loop Inv-loop μ-loop → tie.At-loop Inv-loop μ-loop
 at-loop c = c
 
+abbrev start : tie.In-loop Inv-loop μ-loop → tie.Start Inv-loop μ-loop
+start c = search
+
+-- the mark of the row at k has its place in work
+place : (c : tie.In-loop Inv-loop μ-loop) → start c .args .n + start c .args .n + getD (now (start c .args .list)) (c .before .loop .k) 0
+    < length (now (start c .args .work))
+place c = mark-place (start c .pre) _ (c .loop-test .taken)
+
 loop-holds : tie.Need-loop-holds Inv-loop μ-loop
 loop-holds c = mark-begin _ _ _ _
 
 cast-work : tie.Need-cast-work Inv-loop μ-loop
 cast-work c = omega (arith, c .shared-slice-known .given (at-loop (search) .loop .k))
-
-add-work-2 : tie.Need-add-work-2 Inv-loop μ-loop
-add-work-2 c = let h = mark-place (entry (search) .pre) _ (c .before .loop-test .taken) in let g = entry (search) .good in omega arith
-
-mul-work-2 : tie.Need-mul-work-2 Inv-loop μ-loop
-mul-work-2 c = let h = mark-place (entry (search) .pre) _ (c .before .loop-test .taken) in let g = entry (search) .good in omega arith
-
-slice-write-work : tie.Need-slice-write-work Inv-loop μ-loop
-slice-write-work c =
-    let h = mark-place (entry (search) .pre) _ (c .before .loop-test .taken) in let l = at-loop (search) .loop .inv .long in omega arith
 
 loop-again : tie.Need-loop-again Inv-loop μ-loop
 loop-again c = mark-turn (at-loop (search) .loop .inv) (c .before .loop-test .taken)
@@ -53,9 +52,9 @@ mark-spec =
     (λ c. omega arith)
     (λ c. omega arith)
     cast-work
-    add-work-2
-    mul-work-2
-    slice-write-work
+    (λ c. omega (arith, place (search), entry (search) .good))
+    (λ c. omega (arith, place (search), entry (search) .good))
+    (λ c. omega (arith, place (search), at-loop (search) .loop .inv .long))
     (λ c. omega arith)
     (λ c. omega arith)
     loop-again

@@ -1,145 +1,117 @@
--- `column_list::gather` meets its contract: no child, one child, or several, of which the longest is joined first.
+-- `column_list::gather` meets its contract. R(m + 1) is made of the column's pattern rows and of what its children hand on: without a child it is
+-- the pattern rows; else these are joined with what the longest child hands on, and, where there are more children, with what those hand on.
 -- Assumes nothing.
+use Prim.Native.Nat.{ℕ}
 use mathlib.Core.Path.{refl, sym}
+use mathlib.Core.List.{List}
 use native.Mathlib.Omega.{arith}
 use lib.Seq.{length-take-le}
-use Rattle.column_laws.proofs.Columns.{tested-below}
-use Rattle.column_list.proofs.Begins.{part-of, own-fits, alone, linked, first-found, first-link, first-fits, first-len, single}
-use Rattle.column_list.proofs.Begins.{first-markable, several, all-joined}
+use denote.Ref.{now}
+use Rattle.column_list.proofs.Begins.{part-of, own-fits, alone, linked, longest-stands}
+use Rattle.column_list.proofs.Begins.{First, first-link, first-fits, first-len, single, first-markable, several, all-joined}
 use Rattle.column_list.proofs.gather.Statement.{statement}
 use Rattle.column_list.proofs.gather.Tie as tie
 
--- The places that the answers look back to: `entry (search)` is the one behind the answer at hand.
+-- The places that the answers look back to, in the order of the code: `entry (search)` is the one behind the answer at hand.
 abbrev entry : tie.Start → tie.Start
 entry c = c
 
-abbrev after-pattern-rows : tie.After-pattern-rows → tie.After-pattern-rows
-after-pattern-rows c = c
+-- the pattern rows are at hand
+abbrev given : tie.After-pattern-rows → tie.After-pattern-rows
+given c = c
 
-abbrev else1 : tie.Else1 → tie.Else1
-else1 c = c
+-- the column has no child
+abbrev childless : tie.Then1 → tie.Then1
+childless c = c
 
-abbrev then1 : tie.Then1 → tie.Then1
-then1 c = c
-
+-- its pattern rows are copied to x
 abbrev copied : tie.After-copy-at → tie.After-copy-at
 copied c = c
 
-abbrev after-longest : tie.After-longest → tie.After-longest
-after-longest c = c
+-- it has children
+abbrev parental : tie.Else1 → tie.Else1
+parental c = c
 
-abbrev after-handed-on : tie.After-handed-on → tie.After-handed-on
-after-handed-on c = c
+-- the longest of them is picked
+abbrev picked : tie.After-longest → tie.After-longest
+picked c = c
 
+-- what it hands on and the pattern rows are joined in x
 abbrev united : tie.After-unite → tie.After-unite
 united c = c
 
+-- these rows are marked
 abbrev marked : tie.After-mark → tie.After-mark
 marked c = c
 
+-- the other children are joined
 abbrev joined : tie.After-join-children → tie.After-join-children
 joined c = c
 
-abbrev entry₁ : tie.After-pattern-rows → tie.Start
-entry₁ c = search
+abbrev start : tie.After-handed-on → tie.Start
+start c = search
+
+abbrev own : tie.After-handed-on → List ℕ
+own c = now (given (search) .pattern-rows .result)
+
+-- Once the longest child has handed on its rows, what is known of these and the pattern rows: the answers below cite it with `first (search)`.
+first : (c : tie.After-handed-on) → First (start c .args .n) (start c .args .m) (now (start c .args .starts)) (now (start c .args .rows))
+    (now (start c .args .fstarts)) (now (start c .args .frows)) (now (start c .args .work)) (now (start c .args .x)) (now (start c .args .y))
+    (own c) (now (c .handed-on .result))
+first c =
+    record {
+      gatherable = entry (search) .pre;
+      own-is = given (search) .pattern-rows .ensures;
+      some = parental (search) .if1 .left;
+      child = picked (search) .longest .result;
+      longest = picked (search) .longest .ensures;
+      more-is = c .handed-on .ensures;
+    }
+
+-- ---- the pattern rows, and no child
 
 pattern-rows-requires : tie.Need-pattern-rows-requires
-pattern-rows-requires c κs = part-of (entry (search) .pre .0) (entry (search) .pre .1 .column)
+pattern-rows-requires c κs = part-of (entry (search) .pre .next)
 
 copy-at-requires : tie.Need-copy-at-requires
-copy-at-requires c κs =
-    let h = own-fits (tested-below (entry (search) .pre .0)) (entry (search) .pre .1) _ (after-pattern-rows (search) .pattern-rows .ensures) in
-    omega arith
-
-same-length : tie.Need-same-length
-same-length c = copied (search) .copy-at .kept .0
+copy-at-requires c κs = omega (arith, own-fits (entry (search) .pre) (given (search) .pattern-rows .ensures))
 
 returns : tie.Need-returns
 returns c =
-    alone (tested-below (entry (search) .pre .0)) (entry (search) .pre .1) _ (after-pattern-rows (search) .pattern-rows .ensures)
-    (then1 (search) .if1 .taken) _ (copied (search) .copy-at .ensures)
+    alone (entry (search) .pre) (given (search) .pattern-rows .ensures) (childless (search) .if1 .taken) (copied (search) .copy-at .ensures)
+
+-- ---- the longest child
 
 longest-requires : tie.Need-longest-requires
-longest-requires c κs = linked (tested-below (entry (search) .pre .0)) (entry (search) .pre .1) _ (after-pattern-rows (search) .pattern-rows .ensures)
+longest-requires c κs = linked (entry (search) .pre)
 
 handed-on-requires : tie.Need-handed-on-requires
-handed-on-requires c κs =
-    let f = first-found (tested-below (entry (search) .pre .0)) (entry (search) .pre .1) _ (after-pattern-rows (search) .pattern-rows .ensures)
-    (else1 (search) .if1 .left) _ (c .longest .ensures) in
-    (f .child, f .ends)
+handed-on-requires c κs = longest-stands (entry (search) .pre) (parental (search) .if1 .left) (c .longest .ensures)
 
 unite-requires : tie.Need-unite-requires
-unite-requires c κs =
-    first-fits (tested-below (entry (search) .pre .0)) (entry (search) .pre .1) _ (after-pattern-rows (search) .pattern-rows .ensures)
-    (else1 (search) .if1 .left) _ (after-longest (search) .longest .ensures) _ (c .before .handed-on .ensures)
-
-add-if2 : tie.Need-add-if2
-add-if2 c =
-    let l = first-link (tested-below (entry (search) .pre .0)) (entry (search) .pre .1) _ (after-pattern-rows (search) .pattern-rows .ensures)
-    (else1 (search) .if1 .left) _ (after-longest (search) .longest .ensures) in
-    let g = entry (search) .good in omega arith
-
-mul-if2 : tie.Need-mul-if2
-mul-if2 c =
-    let l = first-link (tested-below (entry (search) .pre .0)) (entry (search) .pre .1) _ (after-pattern-rows (search) .pattern-rows .ensures)
-    (else1 (search) .if1 .left) _ (after-longest (search) .longest .ensures) in
-    let g = entry (search) .good in omega arith
-
-slice-read-if2 : tie.Need-slice-read-if2
-slice-read-if2 c =
-    first-link (tested-below (entry (search) .pre .0)) (entry (search) .pre .1) _ (after-pattern-rows (search) .pattern-rows .ensures)
-    (else1 (search) .if1 .left) _ (after-longest (search) .longest .ensures)
-
-same-length-2 : tie.Need-same-length-2
-same-length-2 c = refl
-
-same-length-3 : tie.Need-same-length-3
-same-length-3 c = omega (arith, united (search) .unite .kept)
+unite-requires c κs = first-fits (first (search))
 
 returns-2 : tie.Need-returns-2
-returns-2 c =
-    single (tested-below (entry (search) .pre .0)) (entry (search) .pre .1) _ (after-pattern-rows (search) .pattern-rows .ensures)
-    (else1 (search) .if1 .left) _ (after-longest (search) .longest .ensures) _ (after-handed-on (search) .handed-on .ensures) _ _
-    (united (search) .unite .ensures) (c .if2 .taken)
+returns-2 c = single (first (search)) (united (search) .unite .ensures) (c .if2 .taken)
+
+-- ---- the other children
 
 slice-reshare-prefix-mark : tie.Need-slice-reshare-prefix-mark
-slice-reshare-prefix-mark c =
-    first-len (tested-below (entry (search) .pre .0)) (entry (search) .pre .1) _ (after-pattern-rows (search) .pattern-rows .ensures)
-    (else1 (search) .if1 .left) _ (after-longest (search) .longest .ensures) _ (after-handed-on (search) .handed-on .ensures) _ _
-    (united (search) .unite .ensures)
+slice-reshare-prefix-mark c = first-len (first (search)) (united (search) .unite .ensures)
 
 slice-aggregate-mark : tie.Need-slice-aggregate-mark
-slice-aggregate-mark c =
-    sym (length-take-le _ _ (first-len (tested-below (entry (search) .pre .0)) (entry (search) .pre .1) _
-    (after-pattern-rows (search) .pattern-rows .ensures) (else1 (search) .if1 .left) _ (after-longest (search) .longest .ensures) _
-    (after-handed-on (search) .handed-on .ensures) _ _ (united (search) .unite .ensures)))
+slice-aggregate-mark c = sym (length-take-le _ _ (first-len (first (search)) (united (search) .unite .ensures)))
 
 mark-requires : tie.Need-mark-requires
-mark-requires c κs =
-    first-markable (tested-below (entry (search) .pre .0)) (entry (search) .pre .1) _ (after-pattern-rows (search) .pattern-rows .ensures)
-    (else1 (search) .if1 .left) _ (after-longest (search) .longest .ensures) _ (after-handed-on (search) .handed-on .ensures) _ _
-    (united (search) .unite .ensures)
+mark-requires c κs = first-markable (first (search)) (united (search) .unite .ensures)
 
 join-children-requires : tie.Need-join-children-requires
 join-children-requires c κs =
-    several (tested-below (entry (search) .pre .0)) (entry (search) .pre .1) _ (after-pattern-rows (search) .pattern-rows .ensures)
-    (else1 (search) .if1 .left) _ (after-longest (search) .longest .ensures) _ (after-handed-on (search) .handed-on .ensures) _ _
-    (united (search) .unite .ensures) _ (marked (search) .mark .ensures) (omega (arith, marked (search) .mark .kept))
-
-same-length-4 : tie.Need-same-length-4
-same-length-4 c = omega (arith, joined (search) .join-children .kept, marked (search) .mark .kept)
-
-same-length-5 : tie.Need-same-length-5
-same-length-5 c = omega (arith, joined (search) .join-children .kept, united (search) .unite .kept)
-
-same-length-6 : tie.Need-same-length-6
-same-length-6 c = omega (arith, joined (search) .join-children .kept)
+    several (first (search)) (united (search) .unite .ensures) (marked (search) .mark .ensures) (omega (arith, marked (search) .mark .kept))
 
 returns-3 : tie.Need-returns-3
 returns-3 c =
-    all-joined (tested-below (entry₁ (search) .pre .0)) (entry₁ (search) .pre .1) _ (after-pattern-rows (search) .pattern-rows .ensures)
-    (else1 (search) .if1 .left) _ (after-longest (search) .longest .ensures) _ (after-handed-on (search) .handed-on .ensures) _ _
-    (united (search) .unite .ensures) _ (marked (search) .mark .ensures) (omega (arith, marked (search) .mark .kept)) _ _ _ _ _
+    all-joined (first (search)) (united (search) .unite .ensures) (marked (search) .mark .ensures) (omega (arith, marked (search) .mark .kept))
     (joined (search) .join-children .ensures)
 
 pub gather-spec : {M : Type 1} → statement M
@@ -147,28 +119,35 @@ gather-spec =
     tie.close
     (tie.spec
     pattern-rows-requires
+    -- the first child's place in work
     (λ c. omega arith)
     (λ c. omega arith)
     (λ c. omega arith)
+    -- no child; x is as long as it was
     copy-at-requires
-    same-length
+    (λ c. omega (arith, copied (search) .copy-at .kept))
     returns
+    -- the longest child
     longest-requires
     handed-on-requires
     unite-requires
-    add-if2
-    mul-if2
-    slice-read-if2
-    same-length-2
-    same-length-3
+    -- the place of the first child's link, which says whether there are more
+    (λ c. omega (arith, first-link (first (search)), entry (search) .good))
+    (λ c. omega (arith, first-link (first (search)), entry (search) .good))
+    (λ c. first-link (first (search)))
+    -- one child; work and x are as long as they were
+    (λ c. refl)
+    (λ c. omega (arith, united (search) .unite .kept))
     returns-2
+    -- several
     (λ c. omega arith)
     slice-reshare-prefix-mark
     slice-aggregate-mark
     mark-requires
     (λ c. omega arith)
     join-children-requires
-    same-length-4
-    same-length-5
-    same-length-6
+    -- work, x and y are as long as they were
+    (λ c. omega (arith, joined (search) .join-children .kept, marked (search) .mark .kept))
+    (λ c. omega (arith, joined (search) .join-children .kept, united (search) .unite .kept))
+    (λ c. omega (arith, joined (search) .join-children .kept))
     returns-3)

@@ -13,10 +13,10 @@ abbrev entry : tie.Start → tie.Start
 entry c = c
 
 slice-aggregate-result : tie.Need-slice-aggregate-result
-slice-aggregate-result c = sym (length-take-le _ _ (entry (search) .pre .0))
+slice-aggregate-result c = sym (length-take-le _ _ (entry (search) .pre .in-x))
 
 slice-aggregate-result-2 : tie.Need-slice-aggregate-result-2
-slice-aggregate-result-2 c = sym (length-take-le _ _ (entry (search) .pre .1))
+slice-aggregate-result-2 c = sym (length-take-le _ _ (entry (search) .pre .in-y))
 
 returns : tie.Need-returns
 returns c =

@@ -1,34 +1,34 @@
--- Six slices cleared one by one are the six cleared.
+-- `lent::clear_all` meets its contract: six slices cleared one by one are the six cleared.
 -- Assumes nothing.
 use Rattle.lent.proofs.Sixes.{all-cleared}
 use borrow.Author.Needs.{needs}
 use Rattle.lent.proofs.clear_all.Statement.{statement}
 use Rattle.lent.proofs.clear_all.Tie as tie
 
--- The places that the answers look back to: `after-clear32 (search)` is the one behind the answer at hand.
-abbrev after-clear32 : tie.After-clear32 → tie.After-clear32
-after-clear32 c = c
+-- The places that the answers look back to: `parents-cleared (search)` is the one behind the answer at hand.
+abbrev parents-cleared : tie.After-clear32 → tie.After-clear32
+parents-cleared c = c
 
-abbrev after-clear322 : tie.After-clear322 → tie.After-clear322
-after-clear322 c = c
+abbrev order-cleared : tie.After-clear322 → tie.After-clear322
+order-cleared c = c
 
-abbrev after-clear323 : tie.After-clear323 → tie.After-clear323
-after-clear323 c = c
+abbrev pops-cleared : tie.After-clear323 → tie.After-clear323
+pops-cleared c = c
 
-abbrev after-clear64 : tie.After-clear64 → tie.After-clear64
-after-clear64 c = c
+abbrev starts-cleared : tie.After-clear64 → tie.After-clear64
+starts-cleared c = c
 
-abbrev after-clear324 : tie.After-clear324 → tie.After-clear324
-after-clear324 c = c
+abbrev rows-cleared : tie.After-clear324 → tie.After-clear324
+rows-cleared c = c
 
-abbrev after-clear642 : tie.After-clear642 → tie.After-clear642
-after-clear642 c = c
+abbrev work-cleared : tie.After-clear642 → tie.After-clear642
+work-cleared c = c
 
 returns : tie.Need-returns
 returns c =
-    all-cleared _ _ _ _ _ _ (after-clear32 (search) .clear32 .ensures) (after-clear322 (search) .clear322 .ensures)
-    (after-clear323 (search) .clear323 .ensures) (after-clear64 (search) .clear64 .ensures) (after-clear324 (search) .clear324 .ensures)
-    (after-clear642 (search) .clear642 .ensures)
+    all-cleared _ _ _ _ _ _ (parents-cleared (search) .clear32 .ensures) (order-cleared (search) .clear322 .ensures)
+    (pops-cleared (search) .clear323 .ensures) (starts-cleared (search) .clear64 .ensures) (rows-cleared (search) .clear324 .ensures)
+    (work-cleared (search) .clear642 .ensures)
 
 pub clear-all-spec : {M : Type 1} → statement M
 clear-all-spec =

@@ -1,16 +1,16 @@
--- Each test that holds makes the slices too short; where the first four fail, the last decides.
+-- `lent::too_short` meets its contract: each test that holds makes the slices too short; where the first four fail, the last decides.
 -- Assumes nothing.
 use Rattle.lent.proofs.Shorts.{short-parents, short-order, short-pops, short-starts, short-work}
 use borrow.Author.Needs.{needs}
 use Rattle.lent.proofs.too_short.Statement.{statement}
 use Rattle.lent.proofs.too_short.Tie as tie
 
--- The places that the answers look back to: `else1 (search)` is the one behind the answer at hand.
-abbrev else1 : tie.Else1 → tie.Else1
-else1 c = c
+-- The places that the answers look back to: parents, and order, are long enough.
+abbrev parents-long : tie.Else1 → tie.Else1
+parents-long c = c
 
-abbrev else2 : tie.Else2 → tie.Else2
-else2 c = c
+abbrev order-long : tie.Else2 → tie.Else2
+order-long c = c
 
 returns : tie.Need-returns
 returns c = short-parents _ _ _ _ _ _ (c .if1 .taken)
@@ -19,13 +19,13 @@ returns-2 : tie.Need-returns-2
 returns-2 c = short-order _ _ _ _ _ _ (c .before .if1 .left) (c .if2 .taken)
 
 returns-3 : tie.Need-returns-3
-returns-3 c = short-pops _ _ _ _ _ _ (else1 (search) .if1 .left) (c .before .if2 .left) (c .if3 .taken)
+returns-3 c = short-pops _ _ _ _ _ _ (parents-long (search) .if1 .left) (c .before .if2 .left) (c .if3 .taken)
 
 returns-4 : tie.Need-returns-4
-returns-4 c = short-starts _ _ _ _ _ _ (else1 (search) .if1 .left) (else2 (search) .if2 .left) (c .before .if3 .left) (c .if4 .taken)
+returns-4 c = short-starts _ _ _ _ _ _ (parents-long (search) .if1 .left) (order-long (search) .if2 .left) (c .before .if3 .left) (c .if4 .taken)
 
 returns-5 : tie.Need-returns-5
-returns-5 c = short-work _ _ _ _ _ _ (else1 (search) .if1 .left) (else2 (search) .if2 .left) (c .before .if3 .left) (c .if4 .left)
+returns-5 c = short-work _ _ _ _ _ _ (parents-long (search) .if1 .left) (order-long (search) .if2 .left) (c .before .if3 .left) (c .if4 .left)
 
 pub too-short-spec : {M : Type 1} → statement M
 too-short-spec =

@@ -29,8 +29,8 @@ order-of-requires c κs = order-given (entry (search) .pre)
 
 returns : tie.Need-returns
 returns c =
-    ordering-made (entry (search) .pre) (ordered (search) .order-of .last .1 .1 .1 .1 .1 .0) (ordered (search) .order-of .ensures)
-    (omega (arith, ordered (search) .order-of .kept)) (cleared (search) .clear64 .ensures)
+    ordering-made (entry (search) .pre) (ordered (search) .order-of .ensures)
+    (let kept = ordered (search) .order-of .kept in cc (cleared (search) .clear64 .ensures))
 
 pub order-columns-spec : {M : Type 1} → statement M
 order-columns-spec =

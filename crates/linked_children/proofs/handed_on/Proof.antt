@@ -1,4 +1,4 @@
--- `linked_children::handed_on` meets its contract: the part begins one behind the column's start.
+-- `linked_children::handed_on` meets its contract: the part begins one behind the column's start, since the least row, the parent, is not handed on.
 -- Assumes nothing.
 use mathlib.Core.Path.{refl}
 use native.Mathlib.Omega.{arith}

@@ -1,6 +1,11 @@
--- `linked_children::longest` meets its contract: of the children before d none has more rows than best. The measure is d, since the chain descends.
+-- `linked_children::longest` meets its contract: of the children before d none has more rows than best, and the others are linked from d on. The
+-- measure is d, since the chain descends.
 -- Assumes nothing.
+use Prim.Native.Nat.{_+_, _<_}
 use native.Mathlib.Omega.{arith}
+use lib.ListN.{length}
+use denote.Ref.{now}
+use Rattle.linked_children.specs.Children.{Child}
 use Rattle.linked_children.proofs.Picking.{Picking, begin, child-at, link, goes-down, takes, keeps, picked}
 use Rattle.linked_children.proofs.longest.Statement.{statement}
 use Rattle.linked_children.proofs.longest.Tie as tie
@@ -21,50 +26,24 @@ at-loop c = c
 abbrev in-loop : tie.In-loop Inv-loop μ-loop → tie.In-loop Inv-loop μ-loop
 in-loop c = c
 
+abbrev start : tie.In-loop Inv-loop μ-loop → tie.Start Inv-loop μ-loop
+start c = search
+
+-- In the loop d is a child, and its link has its place: the answers below cite this with `child (search)` and `place (search)`.
+child : (c : tie.In-loop Inv-loop μ-loop) → Child (now (start c .args .fstarts)) (c .before .loop .d)
+child c = child-at (c .before .loop .inv) (c .loop-test .taken)
+
+place : (c : tie.In-loop Inv-loop μ-loop) → start c .args .n + c .before .loop .d < length (now (start c .args .work))
+place c = link (c .before .loop .inv) (c .loop-test .taken)
+
 loop-holds : tie.Need-loop-holds Inv-loop μ-loop
 loop-holds c = begin (c .pre)
-
-mul-rows : tie.Need-mul-rows Inv-loop μ-loop
-mul-rows c = let k = child-at (c .before .loop .inv) (c .loop-test .taken) in omega arith
-
-shared-slice-read-rows : tie.Need-shared-slice-read-rows Inv-loop μ-loop
-shared-slice-read-rows c = child-at (at-loop (search) .loop .inv) (c .before .loop-test .taken) .started
-
-sub-rows : tie.Need-sub-rows Inv-loop μ-loop
-sub-rows c = let k = child-at (at-loop (search) .loop .inv) (c .before .loop-test .taken) in omega arith
-
-mul-rows-2 : tie.Need-mul-rows-2 Inv-loop μ-loop
-mul-rows-2 c = let k = child-at (at-loop (search) .loop .inv) (c .before .loop-test .taken) in omega arith
-
-shared-slice-read-rows-2 : tie.Need-shared-slice-read-rows-2 Inv-loop μ-loop
-shared-slice-read-rows-2 c = let k = child-at (at-loop (search) .loop .inv) (in-loop (search) .loop-test .taken) in omega arith
-
-sub-rows-2 : tie.Need-sub-rows-2 Inv-loop μ-loop
-sub-rows-2 c = let k = child-at (at-loop (search) .loop .inv) (in-loop (search) .loop-test .taken) in let b = k .begins in omega arith
-
-add-d : tie.Need-add-d Inv-loop μ-loop
-add-d c = let l = link (at-loop (search) .loop .inv) (in-loop (search) .loop-test .taken) in let g = entry (search) .good in omega arith
-
-mul-d : tie.Need-mul-d Inv-loop μ-loop
-mul-d c = let l = link (at-loop (search) .loop .inv) (in-loop (search) .loop-test .taken) in let g = entry (search) .good in omega arith
-
-shared-slice-read-d : tie.Need-shared-slice-read-d Inv-loop μ-loop
-shared-slice-read-d c = link (at-loop (search) .loop .inv) (in-loop (search) .loop-test .taken)
 
 loop-less : tie.Need-loop-less Inv-loop μ-loop
 loop-less c = goes-down (at-loop (search) .loop .inv) (in-loop (search) .loop-test .taken)
 
 loop-again : tie.Need-loop-again Inv-loop μ-loop
 loop-again c = takes (at-loop (search) .loop .inv) (in-loop (search) .loop-test .taken) (c .before .if1 .taken)
-
-add-d-2 : tie.Need-add-d-2 Inv-loop μ-loop
-add-d-2 c = let l = link (at-loop (search) .loop .inv) (in-loop (search) .loop-test .taken) in let g = entry (search) .good in omega arith
-
-mul-d-2 : tie.Need-mul-d-2 Inv-loop μ-loop
-mul-d-2 c = let l = link (at-loop (search) .loop .inv) (in-loop (search) .loop-test .taken) in let g = entry (search) .good in omega arith
-
-shared-slice-read-d-2 : tie.Need-shared-slice-read-d-2 Inv-loop μ-loop
-shared-slice-read-d-2 c = link (at-loop (search) .loop .inv) (in-loop (search) .loop-test .taken)
 
 loop-less-2 : tie.Need-loop-less-2 Inv-loop μ-loop
 loop-less-2 c = goes-down (at-loop (search) .loop .inv) (in-loop (search) .loop-test .taken)
@@ -82,20 +61,20 @@ longest-spec =
     Inv-loop
     μ-loop
     loop-holds
-    mul-rows
-    shared-slice-read-rows
-    sub-rows
-    mul-rows-2
-    shared-slice-read-rows-2
-    sub-rows-2
-    add-d
-    mul-d
-    shared-slice-read-d
+    (λ c. omega (arith, child (search)))
+    (λ c. child (search) .started)
+    (λ c. omega (arith, child (search)))
+    (λ c. omega (arith, child (search)))
+    (λ c. omega (arith, child (search)))
+    (λ c. omega (arith, child (search)))
+    (λ c. omega (arith, place (search), entry (search) .good))
+    (λ c. omega (arith, place (search), entry (search) .good))
+    (λ c. place (search))
     loop-less
     loop-again
-    add-d-2
-    mul-d-2
-    shared-slice-read-d-2
+    (λ c. omega (arith, place (search), entry (search) .good))
+    (λ c. omega (arith, place (search), entry (search) .good))
+    (λ c. place (search))
     loop-less-2
     loop-again-2
     returns)

@@ -1,18 +1,15 @@
--- `rows_needed::begin` meets its contract: the first m columns are filed. The measure is what is left of the columns.
+-- `rows_needed::begin` meets its contract: in cleared work no column is filed, and each turn files one more under its first pattern row. The measure
+-- is what is left of the columns.
 -- Assumes nothing.
-use Prim.Native.Nat.{_-_, _≤_}
-use mathlib.Core.Path.{_≡_, refl, _∙_}
+use Prim.Native.Nat.{_-_}
 use native.Mathlib.Omega.{arith}
-use lib.ListN.{length}
-use denote.Ref.{now}
 use Rattle.column_laws.proofs.Columns.{starts-long}
-use Rattle.rows_needed.specs.Walk.{Begun}
-use Rattle.rows_needed.proofs.RowLoop.{begun-none, filing-first, begun-next, begun-all}
+use Rattle.rows_needed.proofs.RowLoop.{FiledTo, file-none, filing-first, file-next, file-all}
 use Rattle.rows_needed.proofs.begin.Statement.{statement}
 use Rattle.rows_needed.proofs.begin.Tie as tie
 
 abbrev Inv-loop : tie.InvT-loop
-Inv-loop n starts rows work₀ m₀ work m = Begun n m starts rows work × ((m ≤ n) × (length work ≡ length work₀))
+Inv-loop n starts rows work₀ m₀ work m = FiledTo n m starts rows work₀ work
 
 abbrev μ-loop : tie.MeasureT-loop
 μ-loop n starts rows work₀ m₀ work m = n - m
@@ -30,45 +27,22 @@ at-loop c = c
 abbrev in-loop : tie.In-loop Inv-loop μ-loop → tie.In-loop Inv-loop μ-loop
 in-loop c = c
 
-abbrev after-file : tie.After-file Inv-loop μ-loop → tie.After-file Inv-loop μ-loop
-after-file c = c
+abbrev filed : tie.After-file Inv-loop μ-loop → tie.After-file Inv-loop μ-loop
+filed c = c
 
 loop-holds : tie.Need-loop-holds Inv-loop μ-loop
-loop-holds c =
-    (begun-none _ _ _ (now (entry (search) .args .work)) _ (cleared (search) .clear64 .ensures) (entry (search) .pre .1), (omega arith, refl))
-
-add-file : tie.Need-add-file Inv-loop μ-loop
-add-file c = let f = entry (search) .pre .0 .few in let l = c .loop-test .taken in omega arith
-
-mul-file : tie.Need-mul-file Inv-loop μ-loop
-mul-file c = let f = entry (search) .pre .0 .few in let l = c .loop-test .taken in omega arith
-
-shared-slice-read-file : tie.Need-shared-slice-read-file Inv-loop μ-loop
-shared-slice-read-file c = let l = c .before .loop-test .taken in omega (arith, starts-long (entry (search) .pre .0))
+loop-holds c = file-none (entry (search) .pre) (cleared (search) .clear64 .ensures)
 
 file-requires : tie.Need-file-requires Inv-loop μ-loop
-file-requires c κs = filing-first (entry (search) .pre .0) (at-loop (search) .loop .inv .0) (in-loop (search) .loop-test .taken)
-
-add-m : tie.Need-add-m Inv-loop μ-loop
-add-m c = let f = entry (search) .pre .0 .few in let l = in-loop (search) .loop-test .taken in omega arith
-
-loop-less : tie.Need-loop-less Inv-loop μ-loop
-loop-less c = let l = in-loop (search) .loop-test .taken in omega arith
+file-requires c κs = filing-first (at-loop (search) .loop .inv) (in-loop (search) .loop-test .taken)
 
 loop-again : tie.Need-loop-again Inv-loop μ-loop
-loop-again c = (
-  begun-next (entry (search) .pre .0) (at-loop (search) .loop .inv .0) (in-loop (search) .loop-test .taken) _ (after-file (search) .file .ensures),
-  (
-    let l = in-loop (search) .loop-test .taken in omega arith,
-    omega (arith, after-file (search) .file .kept, at-loop (search) .loop .inv .1 .1),
-  ),
-)
-
-same-length : tie.Need-same-length Inv-loop μ-loop
-same-length c = c .before .loop .inv .1 .1 ∙ cleared (search) .clear64 .kept .0
+loop-again c =
+    file-next (at-loop (search) .loop .inv) (in-loop (search) .loop-test .taken) (filed (search) .file .ensures)
+    (omega (arith, filed (search) .file .kept))
 
 returns : tie.Need-returns Inv-loop μ-loop
-returns c = begun-all (c .before .loop .inv .0) (c .before .loop .inv .1 .0) (c .loop-test .left)
+returns c = file-all (c .before .loop .inv) (c .loop-test .left)
 
 pub begin-spec : {M : Type 1} → statement M
 begin-spec =
@@ -78,12 +52,12 @@ begin-spec =
     μ-loop
     (λ c κs. omega arith)
     loop-holds
-    add-file
-    mul-file
-    shared-slice-read-file
+    (λ c. omega (arith, at-loop (search) .loop .inv .tested .few, c .loop-test .taken))
+    (λ c. omega (arith, at-loop (search) .loop .inv .tested .few, c .loop-test .taken))
+    (λ c. omega (arith, starts-long (at-loop (search) .loop .inv .tested), in-loop (search) .loop-test .taken))
     file-requires
-    add-m
-    loop-less
+    (λ c. omega (arith, at-loop (search) .loop .inv .tested .few, in-loop (search) .loop-test .taken))
+    (λ c. omega (arith, in-loop (search) .loop-test .taken))
     loop-again
-    same-length
+    (λ c. omega (arith, c .before .loop .inv .long, cleared (search) .clear64 .kept))
     returns)

@@ -1,17 +1,15 @@
--- `rows_needed::rows_needed` meets its contract: the rows up to m are counted. The measure is what is left of the rows.
+-- `rows_needed::rows_needed` meets its contract: before row m + 1 the rows up to m are counted, and the walk over the columns of a row counts that
+-- row. The measure is what is left of the rows.
 -- Assumes nothing.
-use Prim.Native.Nat.{_-_, _+_}
-use mathlib.Core.Path.{_≡_, refl}
+use Prim.Native.Nat.{_-_}
 use native.Mathlib.Omega.{arith}
-use lib.ListN.{length, length-set}
-use denote.Ref.{now}
+use borrow.Author.Needs.{needs}
 use Rattle.rows_needed.proofs.RowLoop.{Rows, rows-first, rows-open, rows-close, rows-last}
 use Rattle.rows_needed.proofs.rows_needed.Statement.{statement}
 use Rattle.rows_needed.proofs.rows_needed.Tie as tie
 
 abbrev Inv-loop : tie.InvT-loop
-Inv-loop n starts rows parents₀ work₀ m₀ t₀ parents work m t =
-    Rows n m starts rows parents work t × ((length parents ≡ length parents₀) × (length work ≡ length work₀))
+Inv-loop n starts rows parents₀ work₀ m₀ t₀ parents work m t = Rows n m starts rows parents₀ work₀ parents work t
 
 abbrev μ-loop : tie.MeasureT-loop
 μ-loop n starts rows parents₀ work₀ m₀ t₀ parents work m t = n - m
@@ -35,56 +33,19 @@ in-loop c = c
 abbrev walked : tie.After-walk Inv-loop μ-loop → tie.After-walk Inv-loop μ-loop
 walked c = c
 
-begin-requires : tie.Need-begin-requires Inv-loop μ-loop
-begin-requires c κs = (entry (search) .pre .0, entry (search) .pre .1 .work-long)
-
 loop-holds : tie.Need-loop-holds Inv-loop μ-loop
-loop-holds c = (
-  rows-first (now (entry (search) .args .parents)) _ _ (entry (search) .pre .0) (begun (search) .begin .ensures)
-      (cleared (search) .clear32 .ensures) (entry (search) .pre .1 .parents-long),
-  (refl, refl),
-)
-
-add-work : tie.Need-add-work Inv-loop μ-loop
-add-work c = let f = entry (search) .pre .0 .few in let l = c .loop-test .taken in omega arith
-
-add-work-2 : tie.Need-add-work-2 Inv-loop μ-loop
-add-work-2 c = let f = entry (search) .pre .0 .few in let l = c .loop-test .taken in omega arith
-
-mul-work : tie.Need-mul-work Inv-loop μ-loop
-mul-work c = let f = entry (search) .pre .0 .few in let l = c .loop-test .taken in omega arith
-
-slice-write-work : tie.Need-slice-write-work Inv-loop μ-loop
-slice-write-work c = let l = c .before .loop .inv .0 .buckets .long in let h = c .loop-test .taken in omega arith
-
-add-walk : tie.Need-add-walk Inv-loop μ-loop
-add-walk c = let f = entry (search) .pre .0 .few in let l = c .loop-test .taken in omega arith
+loop-holds c = rows-first (entry (search) .pre) (cleared (search) .clear32 .ensures) (begun (search) .begin .ensures)
 
 walk-requires : tie.Need-walk-requires Inv-loop μ-loop
-walk-requires c κs = rows-open (entry (search) .pre .0) (at-loop (search) .loop .inv .0) (in-loop (search) .loop-test .taken)
-
-add-m : tie.Need-add-m Inv-loop μ-loop
-add-m c = let f = entry (search) .pre .0 .few in let l = in-loop (search) .loop-test .taken in omega arith
-
-loop-less : tie.Need-loop-less Inv-loop μ-loop
-loop-less c = let l = in-loop (search) .loop-test .taken in omega arith
+walk-requires c κs = rows-open (at-loop (search) .loop .inv) (in-loop (search) .loop-test .taken)
 
 loop-again : tie.Need-loop-again Inv-loop μ-loop
-loop-again c = (
-  rows-close (at-loop (search) .loop .m) (walked (search) .walk .ensures),
-  (
-    omega (arith, walked (search) .walk .kept, at-loop (search) .loop .inv .1 .0),
-    omega (
-      arith,
-      walked (search) .walk .kept,
-      at-loop (search) .loop .inv .1 .1,
-      length-set (at-loop (search) .loop .work) (at-loop (search) .loop .m + 1) (at-loop (search) .loop .m + 1),
-    ),
-  ),
-)
+loop-again c =
+    rows-close (at-loop (search) .loop .inv) (walked (search) .walk .ensures) (omega (arith, walked (search) .walk .kept))
+    (omega (arith, walked (search) .walk .kept))
 
 returns : tie.Need-returns Inv-loop μ-loop
-returns c = rows-last (entry (search) .pre .0) (c .before .loop .inv .0) (c .loop-test .left)
+returns c = rows-last (c .before .loop .inv) (c .loop-test .left)
 
 pub rows-needed-spec : {M : Type 1} → statement M
 rows-needed-spec =
@@ -93,16 +54,16 @@ rows-needed-spec =
     Inv-loop
     μ-loop
     (λ c κs. omega arith)
-    begin-requires
+    (λ c κs. search needs)
     loop-holds
-    add-work
-    add-work-2
-    mul-work
-    slice-write-work
-    add-walk
+    (λ c. omega (arith, at-loop (search) .loop .inv .tested .few, c .loop-test .taken))
+    (λ c. omega (arith, at-loop (search) .loop .inv .tested .few, c .loop-test .taken))
+    (λ c. omega (arith, at-loop (search) .loop .inv .tested .few, c .loop-test .taken))
+    (λ c. omega (arith, at-loop (search) .loop .inv .buckets .long, c .loop-test .taken))
+    (λ c. omega (arith, at-loop (search) .loop .inv .tested .few, c .loop-test .taken))
     walk-requires
-    add-m
-    loop-less
+    (λ c. omega (arith, at-loop (search) .loop .inv .tested .few, in-loop (search) .loop-test .taken))
+    (λ c. omega (arith, in-loop (search) .loop-test .taken))
     loop-again
     (λ c. omega arith)
     (λ c. omega arith)

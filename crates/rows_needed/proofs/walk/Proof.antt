@@ -1,16 +1,17 @@
--- `rows_needed::walk` meets its contract: the columns from c on are still to do. The measure is the number of rows ahead in all columns.
+-- `rows_needed::walk` meets its contract: of the columns at row i those from c on are still to do, and the first of them is climbed from and filed
+-- under its next row. The measure is the number of rows ahead in all columns.
 -- Assumes nothing.
-use mathlib.Core.Path.{_≡_, refl}
+use Prim.Native.Nat.{_+_, _<_}
+use mathlib.Core.Path.{refl}
 use native.Mathlib.Omega.{arith}
 use lib.ListN.{length}
-use Rattle.rows_needed.specs.Walk.{Walk}
-use Rattle.rows_needed.proofs.Walks.{ahead, column, climbing, step-fits, filing, walked, falls}
+use denote.Ref.{now}
+use Rattle.rows_needed.proofs.Walks.{Walking, ahead, column, climbing, step-fits, filing, walked, falls}
 use Rattle.rows_needed.proofs.walk.Statement.{statement}
 use Rattle.rows_needed.proofs.walk.Tie as tie
 
 abbrev Inv-loop : tie.InvT-loop
-Inv-loop n i count starts rows parents₀ work₀ c₀ t₀ parents work c t =
-    Walk n i starts rows parents work t c × ((length parents ≡ length parents₀) × (length work ≡ length work₀))
+Inv-loop n i count starts rows parents₀ work₀ c₀ t₀ parents work c t = Walking n i starts rows parents₀ work₀ parents work t c
 
 abbrev μ-loop : tie.MeasureT-loop
 μ-loop n i count starts rows parents₀ work₀ c₀ t₀ parents work c t = ahead n starts work
@@ -28,111 +29,51 @@ in-loop c = c
 abbrev climbed : tie.After-climb Inv-loop μ-loop → tie.After-climb Inv-loop μ-loop
 climbed c = c
 
-abbrev after-file : tie.After-file Inv-loop μ-loop → tie.After-file Inv-loop μ-loop
-after-file c = c
+abbrev filed : tie.After-file Inv-loop μ-loop → tie.After-file Inv-loop μ-loop
+filed c = c
 
-add-c : tie.Need-add-c Inv-loop μ-loop
-add-c c =
-    let l = entry (search) .pre .buckets .long in
-    let h = entry (search) .pre .high in let g = entry (search) .good in omega arith
+abbrev start : tie.In-loop Inv-loop μ-loop → tie.Start Inv-loop μ-loop
+start c = search
 
-mul-c : tie.Need-mul-c Inv-loop μ-loop
-mul-c c =
-    let l = entry (search) .pre .buckets .long in
-    let h = entry (search) .pre .high in let g = entry (search) .good in omega arith
-
-slice-read-c : tie.Need-slice-read-c Inv-loop μ-loop
-slice-read-c c = let l = entry (search) .pre .buckets .long in let h = entry (search) .pre .high in omega arith
+-- column c has its places in work: this is the last of them
+place : (c : tie.In-loop Inv-loop μ-loop) → start c .args .n + start c .args .n + start c .args .n + c .before .loop .c
+    < length (now (start c .args .work))
+place c =
+    omega (arith, column (c .before .loop .inv .walk) (c .loop-test .taken), c .before .loop .inv .walk .buckets .long, c .before .loop .inv .long-w)
 
 loop-holds : tie.Need-loop-holds Inv-loop μ-loop
-loop-holds c = (entry (search) .pre, (refl, refl))
-
-add-next : tie.Need-add-next Inv-loop μ-loop
-add-next c =
-    let l = c .before .loop .inv .0 .buckets .long in
-    let e = c .before .loop .inv .1 .1 in let g = entry (search) .good in omega arith
-
-add-next-2 : tie.Need-add-next-2 Inv-loop μ-loop
-add-next-2 c =
-    let u = column (c .before .loop .inv .0) (c .loop-test .taken) in
-    let l = c .before .loop .inv .0 .buckets .long in
-    let e = c .before .loop .inv .1 .1 in let g = entry (search) .good in omega arith
-
-mul-next : tie.Need-mul-next Inv-loop μ-loop
-mul-next c =
-    let u = column (c .before .loop .inv .0) (c .loop-test .taken) in
-    let l = c .before .loop .inv .0 .buckets .long in
-    let e = c .before .loop .inv .1 .1 in let g = entry (search) .good in omega arith
-
-slice-read-next : tie.Need-slice-read-next Inv-loop μ-loop
-slice-read-next c =
-    let u = column (at-loop (search) .loop .inv .0) (c .before .loop-test .taken) in
-    let l = at-loop (search) .loop .inv .0 .buckets .long in omega arith
+loop-holds c = record { walk = entry (search) .pre; long-p = refl; long-w = refl }
 
 climb-requires : tie.Need-climb-requires Inv-loop μ-loop
-climb-requires c κs = climbing (at-loop (search) .loop .inv .0) (in-loop (search) .loop-test .taken)
-
-add-q : tie.Need-add-q Inv-loop μ-loop
-add-q c =
-    let l = at-loop (search) .loop .inv .0 .buckets .long in
-    let e = at-loop (search) .loop .inv .1 .1 in let g = entry (search) .good in omega arith
-
-add-q-2 : tie.Need-add-q-2 Inv-loop μ-loop
-add-q-2 c =
-    let l = at-loop (search) .loop .inv .0 .buckets .long in
-    let e = at-loop (search) .loop .inv .1 .1 in let g = entry (search) .good in omega arith
-
-add-q-3 : tie.Need-add-q-3 Inv-loop μ-loop
-add-q-3 c =
-    let u = column (at-loop (search) .loop .inv .0) (in-loop (search) .loop-test .taken) in
-    let l = at-loop (search) .loop .inv .0 .buckets .long in
-    let e = at-loop (search) .loop .inv .1 .1 in let g = entry (search) .good in omega arith
-
-mul-q : tie.Need-mul-q Inv-loop μ-loop
-mul-q c =
-    let u = column (at-loop (search) .loop .inv .0) (in-loop (search) .loop-test .taken) in
-    let l = at-loop (search) .loop .inv .0 .buckets .long in
-    let e = at-loop (search) .loop .inv .1 .1 in let g = entry (search) .good in omega arith
-
-slice-read-q : tie.Need-slice-read-q Inv-loop μ-loop
-slice-read-q c =
-    let u = column (at-loop (search) .loop .inv .0) (in-loop (search) .loop-test .taken) in
-    let l = at-loop (search) .loop .inv .0 .buckets .long in let k = climbed (search) .climb .kept in omega arith
+climb-requires c κs = climbing (at-loop (search) .loop .inv .walk) (in-loop (search) .loop-test .taken)
 
 add-q-4 : tie.Need-add-q-4 Inv-loop μ-loop
 add-q-4 c =
-    let s = step-fits (at-loop (search) .loop .inv .0) (in-loop (search) .loop-test .taken) (climbed (search) .climb .ensures)
+    let fits = step-fits (at-loop (search) .loop .inv .walk) (in-loop (search) .loop-test .taken) (climbed (search) .climb .ensures)
     (omega (arith, climbed (search) .climb .kept)) (omega (arith, climbed (search) .climb .kept)) in
-    let g = entry (search) .good in omega arith
+    omega (arith, fits, entry (search) .good)
 
 file-requires : tie.Need-file-requires Inv-loop μ-loop
 file-requires c κs =
-    filing (at-loop (search) .loop .inv .0) (in-loop (search) .loop-test .taken) (climbed (search) .climb .ensures)
+    filing (at-loop (search) .loop .inv .walk) (in-loop (search) .loop-test .taken) (climbed (search) .climb .ensures)
     (omega (arith, climbed (search) .climb .kept)) (omega (arith, climbed (search) .climb .kept))
 
 loop-less : tie.Need-loop-less Inv-loop μ-loop
 loop-less c =
-    falls (at-loop (search) .loop .inv .0) (in-loop (search) .loop-test .taken) (climbed (search) .climb .ensures)
-    (omega (arith, climbed (search) .climb .kept)) (omega (arith, climbed (search) .climb .kept)) _ (after-file (search) .file .ensures)
+    falls (at-loop (search) .loop .inv .walk) (in-loop (search) .loop-test .taken) (climbed (search) .climb .ensures)
+    (omega (arith, climbed (search) .climb .kept)) (omega (arith, climbed (search) .climb .kept)) (filed (search) .file .ensures)
 
 loop-again : tie.Need-loop-again Inv-loop μ-loop
-loop-again c = (
-  walked (at-loop (search) .loop .inv .0) (in-loop (search) .loop-test .taken) (climbed (search) .climb .ensures)
-      (omega (arith, climbed (search) .climb .kept)) (omega (arith, climbed (search) .climb .kept)) _ (after-file (search) .file .ensures),
-  (
-    omega (arith, climbed (search) .climb .kept, at-loop (search) .loop .inv .1 .0),
-    omega (arith, after-file (search) .file .kept, climbed (search) .climb .kept, at-loop (search) .loop .inv .1 .1),
-  ),
-)
-
-same-length : tie.Need-same-length Inv-loop μ-loop
-same-length c = c .before .loop .inv .1 .0
-
-same-length-2 : tie.Need-same-length-2 Inv-loop μ-loop
-same-length-2 c = c .before .loop .inv .1 .1
+loop-again c =
+    record {
+      walk = walked (at-loop (search) .loop .inv .walk) (in-loop (search) .loop-test .taken) (climbed (search) .climb .ensures)
+          (omega (arith, climbed (search) .climb .kept)) (omega (arith, climbed (search) .climb .kept)) (filed (search) .file .ensures);
+      long-p = omega (arith, climbed (search) .climb .kept, at-loop (search) .loop .inv .long-p);
+      long-w = omega (arith, filed (search) .file .kept, climbed (search) .climb .kept, at-loop (search) .loop .inv .long-w);
+    }
 
 returns : tie.Need-returns Inv-loop μ-loop
-returns c = let e = c .loop-test .left in rw e at (c .before .loop .inv .0)
+returns c = let e = c .loop-test .left in rw e at (c .before .loop .inv .walk)
 
 pub walk-spec : {M : Type 1} → statement M
 walk-spec =
@@ -140,24 +81,24 @@ walk-spec =
     (tie.spec
     Inv-loop
     μ-loop
-    add-c
-    mul-c
-    slice-read-c
+    (λ c. omega (arith, entry (search) .pre .buckets .long, entry (search) .pre .high, entry (search) .good))
+    (λ c. omega (arith, entry (search) .pre .buckets .long, entry (search) .pre .high, entry (search) .good))
+    (λ c. omega (arith, entry (search) .pre .buckets .long, entry (search) .pre .high))
     loop-holds
-    add-next
-    add-next-2
-    mul-next
-    slice-read-next
+    (λ c. omega (arith, place (search), entry (search) .good))
+    (λ c. omega (arith, place (search), entry (search) .good))
+    (λ c. omega (arith, place (search), entry (search) .good))
+    (λ c. omega (arith, place (search), at-loop (search) .loop .inv .long-w))
     climb-requires
-    add-q
-    add-q-2
-    add-q-3
-    mul-q
-    slice-read-q
+    (λ c. omega (arith, place (search), entry (search) .good))
+    (λ c. omega (arith, place (search), entry (search) .good))
+    (λ c. omega (arith, place (search), entry (search) .good))
+    (λ c. omega (arith, place (search), entry (search) .good))
+    (λ c. omega (arith, place (search), at-loop (search) .loop .inv .long-w, climbed (search) .climb .kept))
     add-q-4
     file-requires
     loop-less
     loop-again
-    same-length
-    same-length-2
+    (λ c. c .before .loop .inv .long-p)
+    (λ c. c .before .loop .inv .long-w)
     returns)

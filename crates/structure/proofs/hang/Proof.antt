@@ -1,4 +1,4 @@
--- `structure::hang` meets its contract: its two stores are those of the definition.
+-- `structure::hang` meets its contract: a root is not hung; of any other column the two stores are those of the definition.
 -- Assumes nothing.
 use mathlib.Core.Path.{sym}
 use native.Mathlib.Omega.{arith}

@@ -1,4 +1,4 @@
--- `structure::store` meets its contract: each of its stores is one of the four equations.
+-- `structure::store` meets its contract: each of its stores is one of the four equations, and the parent is the list's least row.
 -- Assumes nothing.
 use mathlib.Core.Path.{refl}
 use native.Mathlib.Omega.{arith}
@@ -10,19 +10,19 @@ use Rattle.structure.proofs.store.Tie as tie
 abbrev copied : tie.After-copy-at → tie.After-copy-at
 copied c = c
 
-abbrev after-least : tie.After-least → tie.After-least
-after-least c = c
+abbrev named : tie.After-least → tie.After-least
+named c = c
 
-abbrev after-hang : tie.After-hang → tie.After-hang
-after-hang c = c
+abbrev hung : tie.After-hang → tie.After-hang
+hung c = c
 
 returns : tie.Need-returns
 returns c =
     record {
-      parents-are = rw (after-least (search) .least .ensures);
+      parents-are = rw (named (search) .least .ensures);
       starts-are = refl;
       rows-are = copied (search) .copy-at .ensures;
-      work-is = rw (← after-least (search) .least .ensures) (after-hang (search) .hang .ensures);
+      work-is = rw (← named (search) .least .ensures) (hung (search) .hang .ensures);
     }
 
 pub store-spec : {M : Type 1} → statement M
