@@ -1,9 +1,8 @@
 // Tests 5 and 6: the rows of a job.
 use papers::Answer;
 ghost use mathlib.Core.Path.{_≡_};
-ghost use Prim.Native.Nat.{_≤_};
-ghost use Rattle.papers.specs.Bounds.{maxColumns};
-ghost use Rattle.papers.specs.Refusals.{passed, answerOf, startsTest, rowFault, rowsTest};
+ghost use Rattle.papers.specs.Refusals.{answerOf, rowFault, rowsTest};
+ghost use Rattle.job_rows.specs.Started.{Started};
 
 // The fault of a row of column j: 5 if it does not exceed j or exceeds n, 6 if it does not exceed the row before it, 0 if it has none.
 fn row_fault(n: u64, j: u64, before: u64, row: u64) -> u64
@@ -22,8 +21,7 @@ fn row_fault(n: u64, j: u64, before: u64, row: u64) -> u64
 // first `done` columns have no fault, nor have the rows of column j before i; `before` is the last of these rows, or j if there is none
 // yet.
 pub fn rows_fault(n: u64, starts: &[u64], rows: &[u32]) -> Answer
-    requires few { ⌜ n ≤ maxColumns ⌝ }
-    requires starts_pass { ⌜ startsTest n (now starts) (now rows) ≡ passed ⌝ }
+    requires { ⌜ Started n (now starts) (now rows) ⌝ }
     ensures { λ r. ⌜ r ≡ answerOf (rowsTest n (now (starts .entry)) (now (rows .entry))) ⌝ }
 {
     let mut number = 0;
