@@ -1,5 +1,5 @@
--- The two tasks call each other (Column, Siblings): each relies on the other's contract for calls of a smaller measure, and at every call fewer
--- columns are left, or the same for the siblings' task (Measure).
+-- The two tasks call each other (Column, Siblings): each relies on the other's contract where fewer columns are left, and at every call fewer
+-- are (Measure).
 -- Assumes nothing.
 mod Column
 mod Siblings
