@@ -65,9 +65,13 @@ pub fn siblings(
     ensures { λ r. ⌜ Handed (now (starts .entry)) (now (list .entry)) (now (counts .entry)) j left
         (now (order .entry)) at (now (order .exit)) (r .column) (r .size) (r .at) ⌝ }
 {
-    let end = at + left;
     let first = starts[j] as usize;
     let mut held = child_block(list, counts, first, at);
+    // an only child has all the steps
+    if held.size == left {
+        return held;
+    }
+    let end = at + left;
     let mut a = at + held.size;
     let mut i = first + 1;
     while a < end {

@@ -13,12 +13,12 @@ use Rattle.walk.proofs.child_block.Reads as child-block-reads
 use Rattle.walk.proofs.+column+siblings.Lts-siblings as lts
 
 abbrev Inv : lts.InvT-loop
-Inv starts list counts j left order₀ at end first held₀ a₀ i₀ order held a i =
+Inv starts list counts j left order₀ at first held₀ end a₀ i₀ order held a i =
     Held starts list counts j left order₀ at order i a (held .column) (held .size) (held .at)
 
 -- the steps of the siblings to come
 abbrev μ : lts.MeasureT-loop
-μ starts list counts j left order₀ at end first held₀ a₀ i₀ order held a i = at + left - a
+μ starts list counts j left order₀ at first held₀ end a₀ i₀ order held a i = at + left - a
 
 module _ (t : ℕ) where
   abbrev calls : lts.Claims
@@ -34,6 +34,10 @@ module _ (t : ℕ) where
   abbrev turn : lts.At-loop calls (siblingsAt t) siblings.Post Inv μ → lts.At-loop calls (siblingsAt t) siblings.Post Inv μ
   turn c = c
 
+  -- the entry as seen from the loop: too far back for one search
+  abbrev entry₁ : lts.At-loop calls (siblingsAt t) siblings.Post Inv μ → lts.Start calls (siblingsAt t) siblings.Post Inv μ
+  entry₁ c = entry (search)
+
   abbrev more : lts.In-loop calls (siblingsAt t) siblings.Post Inv μ → lts.In-loop calls (siblingsAt t) siblings.Post Inv μ
   more c = c
 
@@ -48,6 +52,10 @@ module _ (t : ℕ) where
 
   child-block-requires : lts.Need-child-block-requires calls (siblingsAt t) siblings.Post Inv μ
   child-block-requires c κs = first-listed (entry (search) .pre .1) (search needs)
+
+  -- an only child has all the steps
+  returns : lts.Need-returns calls (siblingsAt t) siblings.Post Inv μ
+  returns c = held-stop (first-held (entry (search) .pre .1) (omega arith) (begun (search) .child-block .ensures)) (omega arith)
 
   add-a : lts.Need-add-a calls (siblingsAt t) siblings.Post Inv μ
   add-a c =
@@ -70,17 +78,17 @@ module _ (t : ℕ) where
       let inv = turn (search) .loop .inv in
       let more = more (search) .loop-test .taken in
       let child = read (search) .child-block2 .ensures in
-      (omega (arith, entry (search) .pre .0, two-fit inv more child, c .before .if1 .taken), next-task inv more child)
+      (omega (arith, entry (search) .pre .0, two-fit inv more child, c .before .if2 .taken), next-task inv more child)
 
   add-a-2 : lts.Need-add-a-2 calls (siblingsAt t) siblings.Post Inv μ
   add-a-2 c =
-      let good = entry (search) .good in
+      let good = entry₁ (search) .good in
       let fits = two-fit (turn (search) .loop .inv) (more (search) .loop-test .taken) (read (search) .child-block2 .ensures) in
       search needs
 
   add-i-2 : lts.Need-add-i-2 calls (siblingsAt t) siblings.Post Inv μ
   add-i-2 c =
-      let good = entry (search) .good in
+      let good = entry₁ (search) .good in
       let fits = two-fit (turn (search) .loop .inv) (more (search) .loop-test .taken) (read (search) .child-block2 .ensures) in
       search needs
 
@@ -97,17 +105,17 @@ module _ (t : ℕ) where
       let inv = turn (search) .loop .inv in
       let more = more (search) .loop-test .taken in
       let child = read (search) .child-block2 .ensures in
-      (omega (arith, entry (search) .pre .0, two-fit inv more child, c .before .if1 .left), held-task inv more child)
+      (omega (arith, entry (search) .pre .0, two-fit inv more child, c .before .if2 .left), held-task inv more child)
 
   add-a-3 : lts.Need-add-a-3 calls (siblingsAt t) siblings.Post Inv μ
   add-a-3 c =
-      let good = entry (search) .good in
+      let good = entry₁ (search) .good in
       let fits = two-fit (turn (search) .loop .inv) (more (search) .loop-test .taken) (read (search) .child-block2 .ensures) in
       search needs
 
   add-i-3 : lts.Need-add-i-3 calls (siblingsAt t) siblings.Post Inv μ
   add-i-3 c =
-      let good = entry (search) .good in
+      let good = entry₁ (search) .good in
       let fits = two-fit (turn (search) .loop .inv) (more (search) .loop-test .taken) (read (search) .child-block2 .ensures) in
       search needs
 
@@ -119,8 +127,8 @@ module _ (t : ℕ) where
       (read (search) .child-block2 .ensures)
       (held-done (search) .column2 .ensures)
 
-  returns : lts.Need-returns calls (siblingsAt t) siblings.Post Inv μ
-  returns c = held-stop (turn (search) .loop .inv) (c .loop-test .left)
+  returns-2 : lts.Need-returns-2 calls (siblingsAt t) siblings.Post Inv μ
+  returns-2 c = held-stop (turn (search) .loop .inv) (c .loop-test .left)
 
   pub siblings-closed : {M : Type 1} → lts.Closed calls (siblingsAt t) siblings.Post M
   siblings-closed =
@@ -132,8 +140,9 @@ module _ (t : ℕ) where
       μ
       (λ c. search needs)
       (λ c. search needs)
-      (λ c. search needs)
       child-block-requires
+      returns
+      (λ c. search needs)
       add-a
       add-i
       loop-holds
@@ -149,4 +158,4 @@ module _ (t : ℕ) where
       (λ c. search needs)
       loop-again-2
       (λ c. search needs)
-      returns
+      returns-2
