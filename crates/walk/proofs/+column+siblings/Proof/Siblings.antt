@@ -36,7 +36,7 @@ module _ (t : ℕ) where
 
   -- the entry as seen from the loop: too far back for one search
   abbrev entry₁ : lts.At-loop calls (siblingsAt t) siblings.Post Inv μ → lts.Start calls (siblingsAt t) siblings.Post Inv μ
-  entry₁ c = entry (search)
+  entry₁ c = search
 
   abbrev more : lts.In-loop calls (siblingsAt t) siblings.Post Inv μ → lts.In-loop calls (siblingsAt t) siblings.Post Inv μ
   more c = c
