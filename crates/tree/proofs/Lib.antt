@@ -1,5 +1,4 @@
 pub mod Sums
-pub mod Slices
 pub mod Parts
 pub mod Children
 pub mod Blocks

@@ -1,4 +1,4 @@
--- Halving a number takes a level off, and below 2 ^ k there are at most k levels: so deep do the two tasks call each other.
+-- Halving a number takes a level off, and below 2 ^ k there are at most k levels: what bounds how deep calls nest (Nesting).
 -- Assumes nothing.
 use Prim.Native.Nat.{ℕ, zero, suc, _+_, _*_, _/_, _^_, _<_, _≤_}
 use mathlib.Core.Path.{_≡_, refl}

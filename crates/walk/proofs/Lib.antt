@@ -1,6 +1,7 @@
 pub mod Levels
 pub mod Runs
 pub mod Down
+pub mod Later
 pub mod Held
-pub mod Depth
-pub mod Only
+pub mod Measure
+pub mod Nesting

@@ -9,6 +9,6 @@ unfoldable pub digits : ℕ → ℕ → ℕ
 digits zero x = 0
 digits (suc f) x = elim (eqb x 0) [ true ↦ 0 | false ↦ suc (digits f (x / 2)) ]
 
--- the halvings of x until it is 0: how deep the two tasks call each other in a block of x steps
+-- the halvings of x until it is 0; in a block of x steps calls nest at most twice as deep
 unfoldable pub levels : ℕ → ℕ
 levels x = digits x x

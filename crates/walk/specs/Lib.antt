@@ -1,2 +1,4 @@
 pub mod Tasks
+pub mod Children
 pub mod Levels
+pub mod Nesting

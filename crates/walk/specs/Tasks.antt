@@ -30,3 +30,8 @@ pub record Asked (starts list counts : List ℕ) (j left at room : ℕ) (steps :
   pub known : j < length counts
   pub count : left ≡ length steps
   pub fits : at + left ≤ room
+
+-- what each of the two tasks asks besides: a column is left
+pub record Task (starts list counts : List ℕ) (j left at room : ℕ) (steps : List ℕ) : Type 0 where
+  pub asks : Asked starts list counts j left at room steps
+  pub some : 0 < left

@@ -1,12 +1,12 @@
-// The walk over the tree, by two tasks: `column` writes a column's subtree, `siblings` a list of siblings, and they call each other. The
-// siblings' task hands its largest subtree back to the column's task, so the calls nest no deeper than the number of columns can be halved.
+// The walk over the tree: one task does a column, one does a list of siblings, and each calls the other; the count of columns left falls. Of
+// the siblings the largest is handed back for the column's task to go on with, so the calls nest no deeper than columns can be halved.
 ghost use mathlib.Core.Path.{_≡_};
-ghost use Prim.Native.Nat.{_+_, _<_, _≤_, _^_};
-ghost use lib.ListN.{length, getD};
+ghost use lib.ListN.{length};
 ghost use lib.Seq.{sets};
-ghost use Rattle.walk.specs.Tasks.{Asked, ownSteps, kidsSteps};
+ghost use Rattle.walk.specs.Tasks.{Asked, Task, ownSteps, kidsSteps};
+ghost use Rattle.walk.specs.Children.{Listed, ChildBlock, Handed};
 
-// A column, the number of columns of its subtree, and the first step of that block. Column 0 means no column, with no steps.
+// A column, the count of its subtree's columns, and the first step of that block.
 pub struct Block {
     pub column: usize,
     pub size: usize,
@@ -15,20 +15,16 @@ pub struct Block {
 
 // The block of the child at place i of the lists, which begins at step `at`.
 fn child_block(list: &[u32], counts: &[u64], i: usize, at: usize) -> Block
-    requires { ⌜
-        (i < length (now list)) × (getD (now list) i 0 < length (now counts)) × (getD (now counts) (getD (now list) i 0) 0 + 1 < 2 ^ 64)
-        ⌝ }
-    ensures { λ r. ⌜
-        (r .column ≡ getD (now (list .entry)) i 0) × (r .size ≡ getD (now (counts .entry)) (getD (now (list .entry)) i 0) 0 + 1)
-        × (r .at ≡ at)
-        ⌝ }
+    requires { ⌜ Listed (now list) (now counts) i ⌝ }
+    ensures { λ r. ⌜ ChildBlock (now (list .entry)) (now (counts .entry)) i at (r .column) (r .size) (r .at) ⌝ }
 {
     let column = list[i] as usize;
     let size = counts[column] as usize + 1;
     Block { column, size, at }
 }
 
-// Writes the steps of j's subtree, `left` of them, from `at` on: j last, then the same for the child that the siblings' task hands back.
+// Writes the steps of j's subtree, `left` of them, from `at` on: j last, before it those of its children, and the same for the child that
+// the siblings' task hands back. A block of one is a leaf, which has no children to ask for.
 pub fn column(
     starts: &[u64],
     list: &[u32],
@@ -38,7 +34,7 @@ pub fn column(
     order: &mut [u32],
     at: usize,
 )
-    requires { ⌜ Asked (now starts) (now list) (now counts) j left at (length (now order)) (ownSteps (now starts) (now list) j) ⌝ }
+    requires { ⌜ Task (now starts) (now list) (now counts) j left at (length (now order)) (ownSteps (now starts) (now list) j) ⌝ }
     ensures { λ _. ⌜ now (order .exit) ≡ sets (now (order .entry)) at (ownSteps (now (starts .entry)) (now (list .entry)) j) ⌝ }
 {
     let mut b = Block {
@@ -46,25 +42,16 @@ pub fn column(
         size: left,
         at,
     };
-    while b.column != 0 {
+    while 1 < b.size {
         order[b.at + b.size - 1] = b.column as u32;
-        // many columns are leaves: they have no child, so the siblings' task is not called
-        if b.size == 1 {
-            return;
-        }
-        // many columns have one child: there is nothing to choose, and the loop takes the child itself
-        let c = b.column;
-        let child = child_block(list, counts, starts[c] as usize, b.at);
-        if child.size == b.size - 1 {
-            b = child;
-        } else {
-            b = siblings(starts, list, counts, b.column, b.size - 1, order, b.at);
-        }
+        b = siblings(starts, list, counts, b.column, b.size - 1, order, b.at);
     }
+    let leaf = b.at;
+    order[leaf] = b.column as u32;
 }
 
-// Writes the steps of j's children, `left` of them, from `at` on, except those of the largest child, whose block it hands back. It holds
-// the largest child so far: a child that is no larger is done at once, and a larger one takes its place.
+// Writes the steps of j's children, `left` of them, from `at` on, but for those of the largest child, whose block it hands back. The largest
+// so far is held, at first the first; a child that is no larger is done at once, and a larger one takes its place.
 pub fn siblings(
     starts: &[u64],
     list: &[u32],
@@ -74,25 +61,19 @@ pub fn siblings(
     order: &mut [u32],
     at: usize,
 ) -> Block
-    requires { ⌜ Asked (now starts) (now list) (now counts) j left at (length (now order)) (kidsSteps (now starts) (now list) j) ⌝ }
-    ensures asks { λ r. ⌜
-        Asked (now (starts .entry)) (now (list .entry)) (now (counts .entry)) (r .column) (r .size) (r .at) (at + left)
-        (ownSteps (now (starts .entry)) (now (list .entry)) (r .column))
-        ⌝ }
-    ensures within { λ r. ⌜ (at ≤ r .at) × (0 < j → r .column < j) ⌝ }
-    ensures writes { λ r. ⌜
-        sets (now (order .exit)) (r .at) (ownSteps (now (starts .entry)) (now (list .entry)) (r .column))
-        ≡ sets (now (order .entry)) at (kidsSteps (now (starts .entry)) (now (list .entry)) j)
-        ⌝ }
+    requires { ⌜ Task (now starts) (now list) (now counts) j left at (length (now order)) (kidsSteps (now starts) (now list) j) ⌝ }
+    ensures { λ r. ⌜ Handed (now (starts .entry)) (now (list .entry)) (now (counts .entry)) j left
+        (now (order .entry)) at (now (order .exit)) (r .column) (r .size) (r .at) ⌝ }
 {
+    let first = starts[j] as usize;
+    let mut held = child_block(list, counts, first, at);
+    // an only child has all the steps
+    if held.size == left {
+        return held;
+    }
     let end = at + left;
-    let mut i = starts[j] as usize;
-    let mut a = at;
-    let mut held = Block {
-        column: 0,
-        size: 0,
-        at,
-    };
+    let mut a = at + held.size;
+    let mut i = first + 1;
     while a < end {
         let child = child_block(list, counts, i, a);
         if child.size <= held.size {
@@ -122,6 +103,9 @@ pub fn steps(starts: &[u64], list: &[u32], counts: &[u64], left: usize, order: &
     requires { ⌜ Asked (now starts) (now list) (now counts) 0 left 0 (length (now order)) (kidsSteps (now starts) (now list) 0) ⌝ }
     ensures { λ _. ⌜ now (order .exit) ≡ sets (now (order .entry)) 0 (kidsSteps (now (starts .entry)) (now (list .entry)) 0) ⌝ }
 {
+    if left == 0 {
+        return;
+    }
     let last = siblings(starts, list, counts, 0, left, order, 0);
     column(starts, list, counts, last.column, last.size, order, last.at);
 }

@@ -1,22 +1,22 @@
--- How deep the two tasks call each other, the measure of both: a call for a column has at most half of the siblings' steps, and a call for siblings
--- no more steps than the column.
+-- What falls at each call of the two tasks is the count of columns left: a call for a column's children has that column less, a call for one of
+-- two siblings the columns of the other less.
 -- Assumes nothing.
-use Prim.Native.Nat.{_+_, ℕ, _<_}
+use Prim.Native.Nat.{ℕ, _<_}
 use borrow.Fn.Kinds.{In}
 use borrow.Fn.PlainCycle.{Measures, is, falls, and}
-use Rattle.walk.specs.Levels.{levels}
 use Rattle.walk.proofs.column.Reads as column
 use Rattle.walk.proofs.column.Kinds as column-kinds
 use Rattle.walk.proofs.siblings.Reads as siblings
 use Rattle.walk.proofs.siblings.Kinds as siblings-kinds
 
+-- parameter 4 of both is `left`
 abbrev pub μ-column : Measures 4 column-kinds.ps ℕ
-μ-column κs a = levels (a .1 .1 .1 .1 .0) + levels (a .1 .1 .1 .1 .0) + 1
+μ-column κs a = a .1 .1 .1 .1 .0
 
 abbrev pub μ-siblings : Measures 4 siblings-kinds.ps ℕ
-μ-siblings κs a = levels (a .1 .1 .1 .1 .0) + levels (a .1 .1 .1 .1 .0)
+μ-siblings κs a = a .1 .1 .1 .1 .0
 
--- a task of depth t, and one of less
+-- a task with t columns left, and one with fewer
 module _ (t : ℕ) where
   abbrev pub columnAt : In 4 column-kinds.ps
   columnAt = and 4 column-kinds.ps (is 4 column-kinds.ps μ-column t) column.Pre

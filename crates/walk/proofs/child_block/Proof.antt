@@ -1,0 +1,21 @@
+-- The column is read from its place in the lists, so it is the child that stands there; its subtree is its descendants and itself.
+-- Assumes nothing.
+use mathlib.Core.Path.{refl}
+use borrow.Author.Needs.{needs}
+use Rattle.walk.proofs.child_block.Statement.{statement}
+use Rattle.walk.proofs.child_block.Tie as tie
+
+returns : tie.Need-returns
+returns c = record { child = refl; counted = refl; begins = refl }
+
+pub child-block-spec : {M : Type 1} → statement M
+child-block-spec =
+    tie.close
+    (tie.spec
+    (λ c. search needs)
+    (λ c. search needs)
+    (λ c. search needs)
+    (λ c. search needs)
+    (λ c. search needs)
+    (λ c. search needs)
+    returns)
