@@ -10,7 +10,7 @@ use lib.Seq.{sets}
 use Rattle.list_laws.proofs.Stores.{sets-append}
 use Rattle.tree.specs.Blocks.{kidsAt}
 use Rattle.tree.proofs.Blocks.{block-none, block-is, block-count}
-use Rattle.walk.specs.Tasks.{Laid, Asked, Task, ownSteps, kidsSteps}
+use Rattle.walk.specs.Tasks.{Asked, Task, ownSteps, kidsSteps}
 use Rattle.walk.specs.Children.{Handed}
 use Rattle.walk.proofs.Runs.{set-sets}
 

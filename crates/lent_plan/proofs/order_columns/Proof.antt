@@ -2,7 +2,6 @@
 -- Assumes nothing.
 use mathlib.Core.Path.{sym}
 use lib.Seq.{length-take-le}
-use native.Mathlib.Omega.{arith}
 use Rattle.lent_plan.proofs.Orderings.{order-given, ordering-made}
 use borrow.Author.Needs.{needs}
 use Rattle.lent_plan.proofs.order_columns.Statement.{statement}
