@@ -3,18 +3,19 @@
 ghost use mathlib.Core.Path.{_≡_};
 ghost use Prim.Native.Nat.{_<_, _^_, min, max};
 ghost use Rattle.papers.specs.Refusals.{answer};
+ghost use Rattle.basics.specs.Widened.{Widened};
 use papers::Answer;
 
 // A byte as a number of 64 bits, which stays below 256.
 pub fn wide8(b: u8) -> u64
-    ensures { λ r. ⌜ (r ≡ b) × (r < 256) ⌝ }
+    ensures { λ r. ⌜ Widened b 256 r ⌝ }
 {
     b as u64
 }
 
 // A number of 32 bits as one of 64.
 pub fn wide32(x: u32) -> u64
-    ensures { λ r. ⌜ (r ≡ x) × (r < 2 ^ 32) ⌝ }
+    ensures { λ r. ⌜ Widened x (2 ^ 32) r ⌝ }
 {
     x as u64
 }

@@ -1,11 +1,9 @@
 // Numbers in groups of seven bits: their length and their bytes.
 ghost use mathlib.Core.Path.{_≡_};
-ghost use Prim.Native.Nat.{_+_, _<_};
-ghost use lib.ListN.{length, replicate};
-ghost use lib.Seq.{sets};
-ghost use Rattle.papers.specs.Bounds.{maxGroups};
+ghost use lib.ListN.{length};
 ghost use Rattle.papers.specs.Numbers.{bytesOf};
 ghost use Rattle.groups.specs.Fits.{Fits};
+ghost use Rattle.groups.specs.InArray.{InArray};
 
 // The bytes of a number in a little array: the first count of them, then zeros.
 pub struct Groups {
@@ -28,7 +26,7 @@ pub fn length(x: u64) -> usize
 // The bytes of x. The groups before count are stored, and v is what is left of x.
 pub fn number(x: u64) -> Groups
     requires { ⌜ Fits x ⌝ }
-    ensures { λ r. ⌜ (r .bytes ≡ sets (replicate maxGroups 0) 0 (bytesOf x)) × (r .count ≡ length (bytesOf x)) ⌝ }
+    ensures { λ r. ⌜ InArray x (r .bytes) (r .count) ⌝ }
 {
     let mut bytes = [0u8; papers::MAX_GROUPS];
     let mut v = x;

@@ -1,7 +1,10 @@
--- The loop's invariant: the groups of what is left, stored from count on, make the bytes of x. The measure is what is left.
+-- The groups of what is left, stored from count on, make the bytes of x: this holds at first, and each turn stores the low group. The measure is
+-- what is left.
 -- Assumes nothing.
+use Prim.Native.Nat.{_<_}
 use native.Mathlib.Omega.{arith}
 use borrow.Author.Needs.{needs}
+use Rattle.papers.specs.Bounds.{maxGroups}
 use Rattle.bytes_laws.proofs.Numbers.{bytes-length}
 use Rattle.groups.proofs.Written.{Left, start, turn, stop, inside}
 use Rattle.groups.proofs.number.Statement.{statement}
@@ -17,26 +20,20 @@ abbrev μ-loop : tie.MeasureT-loop
 abbrev entry : tie.Start Inv-loop μ-loop → tie.Start Inv-loop μ-loop
 entry c = c
 
+-- the next group finds a place in the array
+room : (c : tie.At-loop Inv-loop μ-loop) → c .loop .count < maxGroups
+room c = omega (arith, inside (c .loop .inv), bytes-length (entry (search) .args .x))
+
 loop-holds : tie.Need-loop-holds Inv-loop μ-loop
 loop-holds c = start _ 0 _ (c .pre)
-
-array-write-bytes : tie.Need-array-write-bytes Inv-loop μ-loop
-array-write-bytes c = omega (arith, inside (c .before .loop .inv), bytes-length (entry (search) .args .x))
-
-add-count : tie.Need-add-count Inv-loop μ-loop
-add-count c = omega (arith, inside (c .before .loop .inv), bytes-length (entry (search) .args .x))
 
 loop-again : tie.Need-loop-again Inv-loop μ-loop
 loop-again c = turn (c .before .loop .inv) (c .loop-test .taken)
 
-array-write-bytes-2 : tie.Need-array-write-bytes-2 Inv-loop μ-loop
-array-write-bytes-2 c = omega (arith, inside (c .before .loop .inv), bytes-length (entry (search) .args .x))
-
-add-t15 : tie.Need-add-t15 Inv-loop μ-loop
-add-t15 c = omega (arith, inside (c .before .loop .inv), bytes-length (entry (search) .args .x))
-
 returns : tie.Need-returns Inv-loop μ-loop
-returns c = let (stored, place) = stop (c .before .loop .inv) (c .loop-test .left) in (stored, omega arith)
+returns c =
+    let (stored, place) = stop (c .before .loop .inv) (c .loop-test .left) in
+    record { stored = stored; counted = omega arith }
 
 pub number-spec : {M : Type 1} → statement M
 number-spec =
@@ -47,11 +44,11 @@ number-spec =
     loop-holds
     (λ c. search needs)
     (λ c. search needs)
-    array-write-bytes
-    add-count
+    (λ c. omega (arith, room (search)))
+    (λ c. omega (arith, room (search)))
     (λ c. search needs)
     loop-again
     (λ c. search needs)
-    array-write-bytes-2
-    add-t15
+    (λ c. omega (arith, room (search)))
+    (λ c. omega (arith, room (search)))
     returns)

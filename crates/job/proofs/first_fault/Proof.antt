@@ -1,4 +1,5 @@
--- `job::first_fault` meets its contract: it makes the tests of a job in their order and answers for the first that refuses.
+-- The tests are made in their order, and the answer is that of the first that refuses: those before it pass, so the first of all is the first of
+-- those that are left.
 -- Assumes nothing.
 use Prim.Native.Nat.{_<_, _≤_}
 use mathlib.Core.Path.{_≡_, ap, sym, _∙_}
@@ -11,7 +12,7 @@ use Rattle.papers.specs.Job.{Job}
 use Rattle.papers.specs.Refusals.{answer, untouched, Verdict, passed, refused, answerOf, first, columnsTest, markTest}
 use Rattle.papers.specs.Refusals.{limitTest, startsTest, rowsTest, jobTests}
 use Rattle.job_laws.proofs.Firsts.{first-passes, first-refuses, first-answers, first-last, over-refuses, over-passes-iff, answer-refused}
-use Rattle.job_laws.proofs.Untouched.{starts-early, early-zero}
+use Rattle.job_rows.proofs.Started.{started}
 use Rattle.job.proofs.first_fault.Statement.{statement}
 use Rattle.job.proofs.first_fault.Tie as tie
 
@@ -56,40 +57,42 @@ module _ (job : Job) where
             → r ≡ answerOf (first jobTests job)
         rows-decide p r e = e ∙ ap answerOf (sym (limit-passes ∙ first-passes _ _ job p ∙ first-last _ job))
 
--- The places that the answers look back to: `else1 (search)` is the one behind the answer at hand.
-abbrev else1 : tie.Else1 → tie.Else1
-else1 c = c
+-- The places that the answers look back to: `sized (search)` is the one behind the answer at hand.
+abbrev sized : tie.Else1 → tie.Else1
+sized c = c
 
-abbrev else2 : tie.Else2 → tie.Else2
-else2 c = c
+abbrev mark-fine : tie.Else2 → tie.Else2
+mark-fine c = c
 
-abbrev else3 : tie.Else3 → tie.Else3
-else3 c = c
+abbrev limit-fine : tie.Else3 → tie.Else3
+limit-fine c = c
 
-abbrev after-starts-fault : tie.After-starts-fault → tie.After-starts-fault
-after-starts-fault c = c
+abbrev tested-starts : tie.After-starts-fault → tie.After-starts-fault
+tested-starts c = c
 
 returns : tie.Need-returns
 returns c = answer-refused (columns-refuses _ (c .before .if1 .taken)) (c .answered .ensures)
 
 returns-2 : tie.Need-returns-2
-returns-2 c = answer-refused (mark-refuses _ (else1 (search) .if1 .left) (c .before .if2 .taken)) (c .answered2 .ensures)
+returns-2 c = answer-refused (mark-refuses _ (sized (search) .if1 .left) (c .before .if2 .taken)) (c .answered2 .ensures)
 
 returns-3 : tie.Need-returns-3
-returns-3 c = answer-refused (limit-refuses _ (else1 (search) .if1 .left) (else2 (search) .if2 .left) (c .before .if3 .taken)) (c .answered3 .ensures)
+returns-3 c =
+    answer-refused (limit-refuses _ (sized (search) .if1 .left) (mark-fine (search) .if2 .left) (c .before .if3 .taken)) (c .answered3 .ensures)
 
 returns-4 : tie.Need-returns-4
 returns-4 c =
-    starts-refuse _ (else1 (search) .if1 .left) (else2 (search) .if2 .left) (else3 (search) .if3 .left) _
-    (after-starts-fault (search) .starts-fault .ensures) (c .if4 .taken)
+    starts-refuse _ (sized (search) .if1 .left) (mark-fine (search) .if2 .left) (limit-fine (search) .if3 .left) _
+    (tested-starts (search) .starts-fault .ensures) (c .if4 .taken)
 
 rows-fault-requires : tie.Need-rows-fault-requires
-rows-fault-requires c κs = (search needs, early-zero _ (starts-early _ _ _) _ (after-starts-fault (search) .starts-fault .ensures) (c .if4 .left))
+rows-fault-requires c κs = started _ _ _ (sized (search) .if1 .left) (tested-starts (search) .starts-fault .ensures) (c .if4 .left)
 
 returns-5 : tie.Need-returns-5
 returns-5 c =
-    rows-decide _ (else1 (search) .if1 .left) (else2 (search) .if2 .left) (else3 (search) .if3 .left)
-    (early-zero _ (starts-early _ _ _) _ (after-starts-fault (search) .starts-fault .ensures) (c .before .if4 .left)) _ (c .rows-fault .ensures)
+    rows-decide _ (sized (search) .if1 .left) (mark-fine (search) .if2 .left) (limit-fine (search) .if3 .left)
+    (started _ _ _ (sized (search) .if1 .left) (tested-starts (search) .starts-fault .ensures) (c .before .if4 .left) .starts-pass) _
+    (c .rows-fault .ensures)
 
 pub first-fault-spec : {M : Type 1} → statement M
 first-fault-spec =

@@ -1,4 +1,4 @@
--- `job::row_fault` meets its contract: its tests are those of `rowFault`, in the same order.
+-- The tests are those of `rowFault`, in the same order.
 -- Assumes nothing.
 use mathlib.Core.Path.{sym}
 use mathlib.Core.Logic.{⊎-elim}
@@ -12,8 +12,8 @@ use Rattle.job_rows.proofs.row_fault.Tie as tie
 abbrev entry : tie.Start → tie.Start
 entry c = c
 
-abbrev else1 : tie.Else1 → tie.Else1
-else1 c = c
+abbrev above : tie.Else1 → tie.Else1
+above c = c
 
 returns : tie.Need-returns
 returns c = ⊎-elim (λ w. sym (row-low _ _ _ _ (w .taken))) (λ w. sym (row-over _ _ _ _ (w .0 .left) (ltb-true _ _ (w .1 .taken)))) (c .if1 .came)
@@ -21,12 +21,12 @@ returns c = ⊎-elim (λ w. sym (row-low _ _ _ _ (w .taken))) (λ w. sym (row-ov
 returns-2 : tie.Need-returns-2
 returns-2 c =
     let a = entry (search) .args in
-    sym (row-falls (a .n) (a .j) (a .before) (a .row) (else1 (search) .if1 .left) (ltb-false _ _ (c .before .if2 .left)) (omega arith))
+    sym (row-falls (a .n) (a .j) (a .before) (a .row) (above (search) .if1 .left) (ltb-false _ _ (c .before .if2 .left)) (omega arith))
 
 returns-3 : tie.Need-returns-3
 returns-3 c =
     let a = entry (search) .args in
-    sym (row-fine (a .n) (a .j) (a .before) (a .row) (else1 (search) .if1 .left) (ltb-false _ _ (c .before .if2 .left)) (omega arith))
+    sym (row-fine (a .n) (a .j) (a .before) (a .row) (above (search) .if1 .left) (ltb-false _ _ (c .before .if2 .left)) (omega arith))
 
 pub row-fault-spec : {M : Type 1} → statement M
 row-fault-spec = tie.close (tie.spec returns returns-2 returns-3)

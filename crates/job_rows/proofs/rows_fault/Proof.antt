@@ -1,4 +1,5 @@
--- `job::rows_fault` meets its contract: the invariants of its two loops and what each way through them gives stand in `Reading`.
+-- The columns before the one at hand are without fault, and so are its rows before i: the first row at fault is then the one that is found next,
+-- and where none is found none is at fault.
 -- Assumes nothing.
 use borrow.Author.Needs.{needs}
 use Prim.Native.Nat.{_-_}
@@ -36,7 +37,7 @@ abbrev in-rows : tie.In-rows Inv-rows μ-rows Inv-columns μ-columns → tie.In-
 in-rows c = c
 
 columns-holds : tie.Need-columns-holds Inv-rows μ-rows Inv-columns μ-columns
-columns-holds c = first-column (entry (search) .pre .1)
+columns-holds c = first-column (entry (search) .pre .starts-pass)
 
 rows-holds : tie.Need-rows-holds Inv-rows μ-rows Inv-columns μ-columns
 rows-holds c = first-row (at-columns (search) .columns .inv) (in-columns (search) .columns-test .taken)

@@ -34,11 +34,11 @@ loop-holds : tie.Need-loop-holds Inv-loop μ-loop
 loop-holds c = record { written = writes-all _ _ _; room = entry (search) .pre }
 
 write-number-requires : tie.Need-write-number-requires Inv-loop μ-loop
-write-number-requires c κs = listed-room (at-loop (search) .loop .inv) (in-loop (search) .loop-test .taken) (c .before .wide32 .ensures .0)
+write-number-requires c κs = listed-room (at-loop (search) .loop .inv) (in-loop (search) .loop-test .taken) (c .before .wide32 .ensures .same)
 
 loop-again : tie.Need-loop-again Inv-loop μ-loop
 loop-again c =
-    listed-turn (at-loop (search) .loop .inv) (in-loop (search) .loop-test .taken) (after-wide32 (search) .wide32 .ensures .0)
+    listed-turn (at-loop (search) .loop .inv) (in-loop (search) .loop-test .taken) (after-wide32 (search) .wide32 .ensures .same)
     (after-write-number (search) .write-number .ensures .0) (after-write-number (search) .write-number .ensures .1)
 
 same-length : tie.Need-same-length Inv-loop μ-loop

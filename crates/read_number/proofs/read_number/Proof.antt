@@ -22,8 +22,8 @@ at-loop c = c
 abbrev in-loop : tie.In-loop Inv-loop μ-loop → tie.In-loop Inv-loop μ-loop
 in-loop c = c
 
-abbrev after-wide8 : tie.After-wide8 Inv-loop μ-loop → tie.After-wide8 Inv-loop μ-loop
-after-wide8 c = c
+abbrev byte-read : tie.After-wide8 Inv-loop μ-loop → tie.After-wide8 Inv-loop μ-loop
+byte-read c = c
 
 loop-holds : tie.Need-loop-holds Inv-loop μ-loop
 loop-holds c = start _ _
@@ -35,26 +35,20 @@ returns-2 : tie.Need-returns-2 Inv-loop μ-loop
 returns-2 c =
     let inv = at-loop (search) .loop .inv in
     let there = in-loop (search) .loop-test .taken in
-    stop-zero inv there _ (after-wide8 (search) .wide8 .ensures .0) (omega arith) (c .before .if3 .taken) (c .if4 .taken)
+    stop-zero inv there _ (byte-read (search) .wide8 .ensures .same) (omega arith) (c .before .if3 .taken) (c .if4 .taken)
 
 mul-t14 : tie.Need-mul-t14 Inv-loop μ-loop
-mul-t14 c = omega (arith, carried-below (after-wide8 (search) .wide8 .result) (at-loop (search) .loop .inv) (c .before .if2 .taken))
+mul-t14 c = omega (arith, carried-below (byte-read (search) .wide8 .result) (at-loop (search) .loop .inv) (c .before .if2 .taken))
 
 add-t15 : tie.Need-add-t15 Inv-loop μ-loop
-add-t15 c = omega (arith, carried-below (after-wide8 (search) .wide8 .result) (at-loop (search) .loop .inv) (c .before .if2 .taken))
+add-t15 c = omega (arith, carried-below (byte-read (search) .wide8 .result) (at-loop (search) .loop .inv) (c .before .if2 .taken))
 
 returns-3 : tie.Need-returns-3 Inv-loop μ-loop
 returns-3 c =
     let inv = at-loop (search) .loop .inv in
     let there = in-loop (search) .loop-test .taken in
-    stop-value inv there _ (after-wide8 (search) .wide8 .ensures .0) (omega arith) (c .before .if2 .taken)
+    stop-value inv there _ (byte-read (search) .wide8 .ensures .same) (omega arith) (c .before .if2 .taken)
     (⊎-elim (λ t. inl (let h = t .1 .left in omega arith)) (λ t. inr (let h = t .left in omega arith)) (c .if3 .came))
-
-mul-low : tie.Need-mul-low Inv-loop μ-loop
-mul-low c = omega (arith, carried-below (c .before .wide8 .result - 128) (at-loop (search) .loop .inv) (omega arith))
-
-add-low : tie.Need-add-low Inv-loop μ-loop
-add-low c = omega (arith, carried-below (c .before .wide8 .result - 128) (at-loop (search) .loop .inv) (omega arith))
 
 mul-w : tie.Need-mul-w Inv-loop μ-loop
 mul-w c = omega (arith, carried-below 0 (at-loop (search) .loop .inv) (omega arith))
@@ -63,7 +57,7 @@ loop-again : tie.Need-loop-again Inv-loop μ-loop
 loop-again c =
     let inv = at-loop (search) .loop .inv in
     let there = in-loop (search) .loop-test .taken in
-    turn inv there (c .before .wide8 .result) (c .before .wide8 .ensures .0) (omega arith) (c .if2 .left) (c .before .wide8 .ensures .1)
+    turn inv there (c .before .wide8 .result) (c .before .wide8 .ensures .same) (omega arith) (c .if2 .left) (c .before .wide8 .ensures .below)
 
 returns-4 : tie.Need-returns-4 Inv-loop μ-loop
 returns-4 c = stop-end (c .before .loop .inv) (c .loop-test .left)
@@ -83,8 +77,8 @@ read-number-spec =
     add-t15
     (λ c. search needs)
     returns-3
-    mul-low
-    add-low
+    (λ c. omega (arith, carried-below (c .before .wide8 .result - 128) (at-loop (search) .loop .inv) (omega arith)))
+    (λ c. omega (arith, carried-below (c .before .wide8 .result - 128) (at-loop (search) .loop .inv) (omega arith)))
     mul-w
     (λ c. search needs)
     (λ c. search needs)

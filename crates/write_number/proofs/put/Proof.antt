@@ -95,9 +95,9 @@ loop-again : tie.Need-loop-again Inv-loop μ-loop
 loop-again c =
     let x = start (search) .args .x in
     let loop = at-loop (search) .loop in
-    let (stored, count) = after-number (search) .number .ensures in
+    let array = after-number (search) .number .ensures in
     let there : loop .i < length (bytesOf x) = omega (arith, in-loop (search) .loop-test .taken) in
-    copied-more (bytesOf x) maxGroups (loop .i) stored (bytes-length x .1) there (loop .inv) (after-put-byte4 (search) .put-byte4 .ensures)
+    copied-more (bytesOf x) maxGroups (loop .i) (array .stored) (bytes-length x .1) there (loop .inv) (after-put-byte4 (search) .put-byte4 .ensures)
 
 same-length-3 : tie.Need-same-length-3 Inv-loop μ-loop
 same-length-3 c = c .before .loop .inv .long

@@ -1,0 +1,9 @@
+-- What is known of a machine number that was widened.
+-- Assumes nothing.
+use Prim.Native.Nat.{ℕ, _<_}
+use mathlib.Core.Path.{_≡_}
+
+-- the same number, below the limit of the narrower ones
+pub record Widened (x limit r : ℕ) : Type 0 where
+  pub same : r ≡ x
+  pub below : r < limit

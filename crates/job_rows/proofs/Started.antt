@@ -1,0 +1,14 @@
+-- Starts whose fault is none pass their test, so that the test of the rows may follow.
+-- Assumes nothing.
+use Prim.Native.Nat.{ℕ, _≤_}
+use mathlib.Core.Path.{_≡_}
+use mathlib.Core.List.{List}
+use Rattle.papers.specs.declared.Answer.{Answer}
+use Rattle.papers.specs.Bounds.{maxColumns}
+use Rattle.papers.specs.Refusals.{answerOf, startsTest}
+use Rattle.job_laws.proofs.Untouched.{starts-early, early-zero}
+use Rattle.job_rows.specs.Started.{Started}
+
+pub started : (n : ℕ) (starts rows : List ℕ) {r : Answer} → n ≤ maxColumns → r ≡ answerOf (startsTest n starts rows) → r .number ≡ 0
+    → Started n starts rows
+started n starts rows few e z = record { few = few; starts-pass = early-zero (startsTest n starts rows) (starts-early n starts rows) _ e z }

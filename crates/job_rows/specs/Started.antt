@@ -1,0 +1,12 @@
+-- What the test of a job's rows stands on.
+-- Assumes nothing.
+use Prim.Native.Nat.{ℕ, _≤_}
+use mathlib.Core.Path.{_≡_}
+use mathlib.Core.List.{List}
+use Rattle.papers.specs.Bounds.{maxColumns}
+use Rattle.papers.specs.Refusals.{passed, startsTest}
+
+-- n columns within the bound, whose starts pass 4
+pub record Started (n : ℕ) (starts rows : List ℕ) : Type 0 where
+  pub few : n ≤ maxColumns
+  pub starts-pass : startsTest n starts rows ≡ passed
