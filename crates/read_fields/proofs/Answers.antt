@@ -92,19 +92,29 @@ module _ (low high : ℕ) (s : List ℕ) (at : ℕ) {r : Reading} (e : r ≡ rea
   pub field-refused : {number place : ℕ} → r ≡ Refused number place → field low high s at ≡ bad number place
   field-refused g = reading-refused (field low high s at) e g
 
-  -- a field that is found, with its range
-  pub field-found : {v next : ℕ} → r ≡ Found v next → (field low high s at ≡ got v next) × fields.Found low high s at v next
-  field-found {v} {next} g = let f = reading-found (field low high s at) e g in (f, fields.field-got low high s at v next f)
+  -- a field that is found
+  pub field-read : {v next : ℕ} → r ≡ Found v next → field low high s at ≡ got v next
+  field-read g = reading-found (field low high s at) e g
+
+  -- its range, and where it ends
+  pub field-found : {v next : ℕ} → r ≡ Found v next → fields.Found low high s at v next
+  field-found {v} {next} g = fields.field-got low high s at v next (field-read g)
 
 -- a field by a number in its range
 pub field-is : (low high : ℕ) (s : List ℕ) (at : ℕ) {v next : ℕ} → Value v next ≡ readNumber s at → low ≤ v → v ≤ high
     → field low high s at ≡ got v next
-field-is low high s at {v} {next} e l h = field-found low high s at (field-by-number low high s at e (in-range low high at v next l h)) refl .0
+field-is low high s at {v} {next} e l h = field-read low high s at (field-by-number low high s at e (in-range low high at v next l h)) refl
+
+-- a part that is found, and kept
+pub record PartFound {A : Type 0} (f : A → ℕ) (Kept : A → Type 0) (found : Read A) (v next : ℕ) : Type 0 where
+  pub part : A
+  pub read : found ≡ got part next
+  pub value : v ≡ f part
+  pub kept : Kept part
 
 module _ {A : Type 0} {f : A → ℕ} {Kept : A → Type 0} {found : Read A} where
-  -- a part that is found, and kept
-  pub told-found : {r : Reading} {v next : ℕ} → Told f Kept found r → r ≡ Found v next → (a : A) × (found ≡ got a next) × (v ≡ f a) × Kept a
-  told-found {next = next} (finds a m e g k) h = let y : m ≡ next = cc in (a, e ∙ ap (got a) y, cc, k)
+  pub told-found : {r : Reading} {v next : ℕ} → Told f Kept found r → r ≡ Found v next → PartFound f Kept found v next
+  told-found {next = next} (finds a m e g k) h = let y : m ≡ next = cc in record { part = a; read = e ∙ ap (got a) y; value = cc; kept = k }
   told-found (refuses c p e g) h = absurd (let z : _≡_ {A = ℕ} 0 1 = cc in omega arith)
 
   -- a part that is refused

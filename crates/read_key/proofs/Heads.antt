@@ -9,7 +9,7 @@ use Rattle.papers.specs.Bounds.{edition, maxColumns, maxMark, maxLimit}
 use Rattle.papers.specs.Plan.{Read, got, bad, field}
 use Rattle.papers.specs.declared.JobHead.{JobHead}
 use Rattle.bytes_laws.proofs.Fields.{got-inj, then-got, then-bad, then-only, field-got}
-use Rattle.read_key.specs.Keys.{readMark, readHead, headReading}
+use Rattle.read_key.specs.Keys.{readMark, readHead, headReading, CountAsked}
 use Rattle.read_key.specs.declared.HeadReading.{HeadReading}
 use Rattle.read_key.specs.declared.HeadReading.the-variants.{Head, Faulty}
 
@@ -64,8 +64,8 @@ unfolding headReading
 head-faulty (got h m) e g = absurd (let z : _≡_ {A = ℕ} 0 1 = cc in omega arith)
 head-faulty (bad c p) e g = (c, p, refl)
 
--- it has a size within bounds, and ends within the bytes
-pub head-fits : (s : List ℕ) (head : JobHead) (at : ℕ) → readHead s ≡ got head at → (head .n ≤ maxColumns) × (at ≤ length s)
+-- it has a size within bounds, and ends within the bytes: its lists can be counted
+pub head-fits : (s : List ℕ) (head : JobHead) (at : ℕ) → readHead s ≡ got head at → CountAsked s at (head .n)
 unfolding readHead readMark
 head-fits s head at e =
     let (ed, to, f, t) = then-only _ (field edition edition s 0) e in
@@ -73,4 +73,4 @@ head-fits s head at e =
     let (mark, tm, h, v) = then-only _ (field 0 maxMark s tn) u in
     let (limit, tl, k, w) = then-only _ (field 0 maxLimit s tm) v in
     let (p, q) = got-inj w in
-    (rw (← p) (field-got 0 maxColumns s to n tn g .high), rw (← q) (field-got 0 maxLimit s tm limit tl k .inside))
+    record { inside = rw (← q) (field-got 0 maxLimit s tm limit tl k .inside); few = rw (← p) (field-got 0 maxColumns s to n tn g .high) }

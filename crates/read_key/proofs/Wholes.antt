@@ -83,15 +83,15 @@ module _ (s : List ℕ) where
       pub key-whole : {rows : ℕ} → rows ≡ length (flat lists) → length s ≤ end → KeyTold s (Whole head rows at)
       unfolding atEnd
       key-whole c h =
-          let (few, inside) = head-fits s head at e in
+          let fits = head-fits s head at e in
           reads {head = head} (record {
             lists = lists;
             end = end;
             whole = at-end ∙ rw (le-ltb end (length s) h, atEnd);
             stand = f;
             counted = c;
-            few = few;
-            inside = inside;
+            few = fits .few;
+            inside = fits .inside;
           }) refl
 
 -- what is told of a part that is also kept is told of it where nothing is

@@ -30,6 +30,13 @@ unfoldable pub headReading : Read JobHead → HeadReading
 headReading (got head next) = Head head next
 headReading (bad number place) = Faulty
 
+-- ---- the lists
+
+-- the lists of n columns, to be counted from a place inside the key
+pub record CountAsked (key : List ℕ) (at n : ℕ) : Type 0 where
+  pub inside : at ≤ length key
+  pub few : n ≤ maxColumns
+
 -- ---- the whole key
 
 -- the key reads through as the job of a head and of lists, which stand from `at` on and have so many rows

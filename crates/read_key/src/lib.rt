@@ -3,11 +3,10 @@
 ghost use mathlib.Core.Path.{_≡_};
 ghost use Prim.Native.Nat.{_≤_};
 ghost use lib.ListN.{length};
-ghost use Rattle.papers.specs.Bounds.{maxColumns};
 ghost use Rattle.papers.specs.Lists.{flat};
 ghost use Rattle.papers.specs.Plan.{readLists};
 ghost use Rattle.read_fields.specs.Reading.{Told};
-ghost use Rattle.read_key.specs.Keys.{readMark, readHead, headReading, KeyTold};
+ghost use Rattle.read_key.specs.Keys.{readMark, readHead, headReading, CountAsked, KeyTold};
 use papers::JobHead;
 use read_fields::Reading;
 
@@ -94,7 +93,7 @@ fn read_head(key: &[u8]) -> HeadReading
 // The lists of all columns from `at` on, kept nowhere: answers how many rows they have. Those of the columns before j are read, with
 // `total` rows, and the next starts at k.
 fn count_rows(key: &[u8], at: usize, n: u64) -> Reading
-    requires { ⌜ (at ≤ length (now key)) × (n ≤ maxColumns) ⌝ }
+    requires { ⌜ CountAsked (now key) at n ⌝ }
     ensures { λ r. ⌜ Told (λ lists. length (flat lists)) (λ lists. Unit {0}) (readLists n 1 n (now (key .entry)) at) r ⌝ }
 {
     let mut none = [0u32; 0];

@@ -11,7 +11,6 @@ use lib.Seq.{sets}
 use mir.Facts.{fits-of-lt}
 use mir.Syntax.{w64}
 use mir.Val.{Fits}
-use Rattle.papers.specs.Bounds.{maxColumns}
 use Rattle.papers.specs.Plan.{readList, got, bad, field, readRows}
 use Rattle.list_laws.proofs.Stores.{sets-over}
 use Rattle.bytes_laws.proofs.Fields as fields
@@ -21,7 +20,7 @@ use Rattle.read_fields.proofs.Onto.{fails, ends}
 use Rattle.read_fields.specs.Reading.{Told, finds, refuses}
 use Rattle.read_fields.specs.declared.Reading.{Reading}
 use Rattle.read_fields.specs.declared.Reading.the-variants.{Found}
-use Rattle.read_rows.specs.Rows.{RowsRead, QuickRead}
+use Rattle.read_rows.specs.Rows.{ListAsked, RowsAsked, RowsRead, QuickRead}
 use Rattle.read_rows.proofs.Rows.{rows-none}
 use Rattle.read_lists.specs.Lists.{RowsIn}
 
@@ -36,16 +35,27 @@ module _ (n j : ℕ) (s : List ℕ) (at : ℕ) where
   unfolding readList
   list-got e = then-got _ e
 
--- a count that is found, behind which rows are to be kept from place t on, no further on than it is read
-module _ {n at count next : ℕ} {s : List ℕ} (j t : ℕ) (few : n ≤ maxColumns) (before : t ≤ at) (found : fields.Found 0 (n - j) s at count next) where
-  pub place-behind : t ≤ next
-  place-behind = let on = found .on in omega arith
+-- a count that is found: behind it stand its rows
+module _ {s : List ℕ} {at n j t count next : ℕ} (asked : ListAsked s at n j t) (found : fields.Found 0 (n - j) s at count next) where
+  pub rows-asked : RowsAsked s next n j count t
+  rows-asked =
+      let few = asked .few in
+      let behind = asked .behind in
+      let on = found .on in
+      let high = found .high in
+      record { inside = found .inside; few = few; column = asked .column; behind = omega arith; counted = omega arith }
 
-  pub count-few : count ≤ maxColumns
-  count-few = let high = found .high in omega arith
+  pub rows-to-read : ListAsked s next n j t
+  rows-to-read =
+      let r = rows-asked in
+      record { inside = r .inside; few = r .few; column = r .column; behind = r .behind }
 
-  pub total-fits : at ≤ length s → length s * 1 < 2 ^ 63 → Fits w64 (t + count)
-  total-fits inside room = let e : t + count < 2 ^ 64 = let h = count-few in omega arith in fits-of-lt e
+  pub total-fits : length s * 1 < 2 ^ 63 → Fits w64 (t + count)
+  total-fits room =
+      let inside = asked .inside in
+      let behind = asked .behind in
+      let e : t + count < 2 ^ 64 = omega (arith, rows-asked .counted) in
+      fits-of-lt e
 
 -- ---- rows read one by one
 
@@ -68,8 +78,7 @@ module _ {n : ℕ} {s : List ℕ} {j count at t : ℕ} {rows₀ rows : List ℕ}
 module _ {n : ℕ} {s : List ℕ} {j count at t : ℕ} {rows₀ rows : List ℕ} {r : ℕ} (q : QuickRead n s j count at t rows₀ rows r) where
   pub quick-told : r ≢ 0 → Told (λ list. t + length list) (RowsIn t rows₀ rows) (readRows n j count s at) (Found (t + count) r)
   quick-told h =
-      let (e, l) = q .whole h in
-      finds (q .list) r e (ap (λ (v : ℕ). Found (t + v) r) (sym l)) (q .kept)
+      finds (q .list) r (q .whole h) (ap (λ (v : ℕ). Found (t + v) r) (sym (q .many h))) (q .kept)
 
   -- what the other reader keeps covers what was kept
   pub quick-again : {rows′ : List ℕ} {a : Reading} → Told (λ list. t + length list) (RowsIn t rows rows′) (readRows n j count s at) a

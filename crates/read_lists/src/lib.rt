@@ -1,10 +1,10 @@
 // The list of a column read from any bytes. A row that finds no room is counted all the same.
 ghost use mathlib.Core.Path.{_≡_};
-ghost use Prim.Native.Nat.{_+_, _^_, _≤_, _<_};
+ghost use Prim.Native.Nat.{_+_, _^_, _<_};
 ghost use lib.ListN.{length, set};
-ghost use Rattle.papers.specs.Bounds.{maxColumns};
 ghost use Rattle.papers.specs.Plan.{readRows, readList};
 ghost use Rattle.read_fields.specs.Reading.{Told};
+ghost use Rattle.read_rows.specs.Rows.{ListAsked};
 ghost use Rattle.read_lists.specs.Lists.{RowsIn};
 use read_fields::Reading;
 
@@ -30,7 +30,7 @@ fn read_rows(
     t: usize,
     rows: &mut [u32],
 ) -> Reading
-    requires { ⌜ (at ≤ length (now plan)) × (n ≤ maxColumns) × (j ≤ n) × (t ≤ at) ⌝ }
+    requires { ⌜ ListAsked (now plan) at n j t ⌝ }
     ensures { λ r. ⌜
         Told (λ list. t + length list) (RowsIn t (now (rows .entry)) (now (rows .exit))) (readRows n j count (now (plan .entry)) at) r
         ⌝ }
@@ -61,7 +61,7 @@ fn read_rows(
 
 // The list of column j, its count and its gaps: keeps and answers as read_rows does.
 pub fn read_list(plan: &[u8], at: usize, n: u64, j: u64, t: usize, rows: &mut [u32]) -> Reading
-    requires { ⌜ (at ≤ length (now plan)) × (n ≤ maxColumns) × (j ≤ n) × (t ≤ at) ⌝ }
+    requires { ⌜ ListAsked (now plan) at n j t ⌝ }
     ensures { λ r. ⌜
         Told (λ list. t + length list) (RowsIn t (now (rows .entry)) (now (rows .exit))) (readList n j (now (plan .entry)) at) r
         ⌝ }

@@ -72,16 +72,21 @@ lists-start n s at starts rows h =
 
 module _ {n at k j total : ℕ} {s starts₀ rows₀ starts rows : List ℕ} (l : Lists n s at starts₀ rows₀ starts rows k j total) where
   -- the slices keep their lengths
-  pub lists-long : (length starts ≡ length starts₀) × (length rows ≡ length rows₀)
-  lists-long = (ap length (l .begins) ∙ length-sets starts₀ 0 (startsFrom 0 (l .done)), ap length (l .listed) ∙ length-sets rows₀ 0 (flat (l .done)))
+  pub starts-long : length starts ≡ length starts₀
+  starts-long = ap length (l .begins) ∙ length-sets starts₀ 0 (startsFrom 0 (l .done))
+
+  pub rows-long : length rows ≡ length rows₀
+  rows-long = ap length (l .listed) ∙ length-sets rows₀ 0 (flat (l .done))
 
   module _ {rows′ : List ℕ} {r : Reading} (h : j ≤ n) (t : Told (λ list. total + length list) (RowsIn total rows rows′) (readList n j s k) r) where
     pub lists-turn : {starts′ : List ℕ} {v m : ℕ} → r ≡ Found v m → starts′ ≡ set starts j v → Lists n s at starts₀ rows₀ starts′ rows′ m (j + 1) v
     lists-turn {v = v} {m = m} e y =
         let d = l .done in
-        let (list, f, g, kept) = told-found t e in
+        let found = told-found t e in
+        let list = found .part in
+        let g = found .value in
         let q = l .count in
-        let reach = list-reach n s j k list m f in
+        let reach = list-reach n s j k list m (found .read) in
         let on = reach .on in
         let w : n + 1 - j - 1 ≡ n + 1 - (j + 1) = omega arith in
         let c = l .counted in
@@ -89,14 +94,15 @@ module _ {n at k j total : ℕ} {s starts₀ rows₀ starts rows : List ℕ} (l 
         let z : v ≡ 0 + length (flat d) + length list = omega arith in
         record {
           done = d ++ (list ∷ []);
-          whole = rw (← w) (more d (list ∷ []) _ (l .whole) (lists-next n j s k (n + 1 - j) (omega arith) f));
+          whole = rw (← w) (more d (list ∷ []) _ (l .whole) (lists-next n j s k (n + 1 - j) (omega arith) (found .read)));
           count = omega (arith, length-more d list);
           few = omega arith;
           counted = rw (flat-more d list) (omega (arith, length-append (flat d) list));
           inside = reach .inside (l .inside);
           paced = omega arith;
           begins = rw (starts-more 0 d list, ← z) (sets-more (startsFrom 0 d) starts₀ 0 v j (l .begins) y (omega (arith, length-starts 0 d)));
-          listed = rw (flat-more d list, sets-append (flat d) rows₀ 0 list, ← l .listed) (kept ∙ ap (λ (x : ℕ). sets rows x list) (omega arith));
+          listed = rw (flat-more d list, sets-append (flat d) rows₀ 0 list, ← l .listed) (found .kept ∙ ap (λ (x : ℕ). sets rows x list)
+              (omega arith));
         }
 
     pub lists-fault : {number place : ℕ} → r ≡ Refused number place → readLists n 1 n s at ≡ bad number place
@@ -107,4 +113,4 @@ module _ {n at k j total : ℕ} {s starts₀ rows₀ starts rows : List ℕ} (l 
   lists-stop z e h =
       let u : starts ≡ sets (set z 0 0) 0 (startsFrom 0 (l .done)) = rw (← e) (l .begins) in
       finds (l .done) k (ends (l .done) (l .whole) (lists-none n j s k (n + 1 - j) (omega arith))) (ap (λ (x : ℕ). Found x k) (l .counted))
-      (u ∙ starts-again z (l .done), l .listed)
+      (record { begins = u ∙ starts-again z (l .done); listed = l .listed })

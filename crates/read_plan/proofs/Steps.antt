@@ -76,25 +76,29 @@ steps-start n s at order pops h =
 
 module _ {n at k i : ℕ} {s order₀ pops₀ order pops : List ℕ} (l : Steps n s at order₀ pops₀ order pops k i) where
   -- the slices keep their lengths
-  pub steps-long : (length order ≡ length order₀) × (length pops ≡ length pops₀)
-  steps-long = (ap length (l .columns) ∙ length-sets order₀ 0 (columnsIn (l .done)), ap length (l .popped) ∙ length-sets pops₀ 0 (popsIn (l .done)))
+  pub order-long : length order ≡ length order₀
+  order-long = ap length (l .columns) ∙ length-sets order₀ 0 (columnsIn (l .done))
+
+  pub pops-long : length pops ≡ length pops₀
+  pops-long = ap length (l .popped) ∙ length-sets pops₀ 0 (popsIn (l .done))
 
   module _ {order′ pops′ : List ℕ} {r : Reading} (h : i < n) (t : Told (λ step. step .0) (StepIn i order order′ pops pops′) (readStep n s k) r) where
     pub steps-turn : {v m : ℕ} → r ≡ Found v m → Steps n s at order₀ pops₀ order′ pops′ m (i + 1)
     steps-turn {m = m} e =
         let d = l .done in
-        let (x, f, g, kept) = told-found t e in
+        let found = told-found t e in
+        let x = found .part in
         let q = l .count in
         let w : n - i - 1 ≡ n - (i + 1) = omega arith in
         record {
           done = d ++ (x ∷ []);
-          whole = rw (← w) (more d (x ∷ []) _ (l .whole) (steps-next n s k (n - i) (omega arith) f));
+          whole = rw (← w) (more d (x ∷ []) _ (l .whole) (steps-next n s k (n - i) (omega arith) (found .read)));
           count = omega (arith, length-more d x);
           few = omega arith;
-          inside = step-reach n s k x m f .inside (l .inside);
-          columns = rw (map-append _ d (x ∷ [])) (sets-more (columnsIn d) order₀ 0 (x .0) i (l .columns) (kept .0)
+          inside = step-reach n s k x m (found .read) .inside (l .inside);
+          columns = rw (map-append _ d (x ∷ [])) (sets-more (columnsIn d) order₀ 0 (x .0) i (l .columns) (found .kept .column)
               (omega (arith, length-map d (λ (step : ℕ × ℕ). step .0))));
-          popped = rw (map-append _ d (x ∷ [])) (sets-more (popsIn d) pops₀ 0 (x .1) i (l .popped) (kept .1)
+          popped = rw (map-append _ d (x ∷ [])) (sets-more (popsIn d) pops₀ 0 (x .1) i (l .popped) (found .kept .popped)
               (omega (arith, length-map d (λ (step : ℕ × ℕ). step .1))));
         }
 
@@ -106,4 +110,5 @@ module _ {n at k i : ℕ} {s order₀ pops₀ order pops : List ℕ} (l : Steps 
       let q = l .count in
       let f = l .few in
       let z : n ≡ length (l .done) = omega arith in
-      finds (l .done) k (ends (l .done) (l .whole) (steps-none n s k (n - i) (omega arith))) (ap (λ (x : ℕ). Found x k) z) (l .columns, l .popped)
+      finds (l .done) k (ends (l .done) (l .whole) (steps-none n s k (n - i) (omega arith))) (ap (λ (x : ℕ). Found x k) z)
+      (record { columns = l .columns; popped = l .popped })

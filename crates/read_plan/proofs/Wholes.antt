@@ -13,7 +13,7 @@ use Rattle.papers.specs.Lists.{flat}
 use Rattle.papers.specs.Plan.{Plan, Read, got, bad, then, field, readSteps, readLists, atEnd, readPlan}
 use Rattle.bytes_laws.proofs.Fields.{got-bad, then-got, then-bad, then-only}
 use Rattle.bytes_laws.proofs.Plans.{end-only}
-use Rattle.read_plan.specs.Plans.{StepsIn, ListsIn, planReading, readPeak, peakReading, PlanIn, Keeps}
+use Rattle.read_plan.specs.Plans.{StepsIn, ListsIn, planReading, readPeak, peakReading, PlanIn, PlanTold}
 use Rattle.read_plan.specs.declared.PlanReading.the-variants.{Whole, Faulty}
 use Rattle.read_plan.specs.declared.PlanReading.{PlanReading}
 
@@ -48,9 +48,9 @@ module _ (n : ℕ) (s : List ℕ) (at : ℕ) where
 
 -- what is answered, and kept, of a plan at fault
 pub plan-faulty : {found : Read Plan} {order₀ order pops₀ pops starts₀ starts rows₀ rows : List ℕ} {number place : ℕ} → found ≡ bad number place
-    → (Faulty number place ≡ planReading found) × Keeps found order₀ order pops₀ pops starts₀ starts rows₀ rows
+    → PlanTold found order₀ order pops₀ pops starts₀ starts rows₀ rows (Faulty number place)
 unfolding planReading
-plan-faulty e = (rw e, λ plan next f. absurd (got-bad f e))
+plan-faulty e = record { answers = rw e; keeps = λ plan next f. absurd (got-bad f e) }
 
 -- ---- steps and lists are read
 
@@ -81,15 +81,20 @@ pub plan-whole : (n : ℕ) (s : List ℕ) (at : ℕ) {order₀ order pops₀ pop
     {lists : List (List ℕ)} {k m total : ℕ} {r : PlanReading}
     → readSteps n n s at ≡ got steps k → StepsIn order₀ order pops₀ pops steps → readLists n 1 n s k ≡ got lists m → total ≡ length (flat lists)
     → ListsIn starts₀ starts rows₀ rows lists
-    → r ≡ peakReading total (readPeak s m) → (r ≡ planReading (readPlan n s at)) × Keeps (readPlan n s at) order₀ order pops₀ pops starts₀ starts
-    rows₀ rows
+    → r ≡ peakReading total (readPeak s m) → PlanTold (readPlan n s at) order₀ order pops₀ pops starts₀ starts rows₀ rows r
 unfolding readPlan readPeak rest
 plan-whole n s at {order₀} {order} {pops₀} {pops} {starts₀} {starts} {rows₀} {rows} {steps} {lists} {m = m} e in-steps f t in-lists a =
-    let whole : readPlan n s at ≡ rest s steps lists (field 0 maxPeak s m) = then-got _ e ∙ then-got _ f in (
-      a ∙ ap (λ (x : ℕ). peakReading x (readPeak s m)) t ∙ rest-answer s steps lists (field 0 maxPeak s m) ∙ ap planReading (sym whole),
-      λ plan next g. kept plan (rest-kept s steps lists (field 0 maxPeak s m) (sym whole ∙ g)),
-    )
+    let whole : readPlan n s at ≡ rest s steps lists (field 0 maxPeak s m) = then-got _ e ∙ then-got _ f in
+    record {
+      answers = a ∙ ap (λ (x : ℕ). peakReading x (readPeak s m)) t ∙ rest-answer s steps lists (field 0 maxPeak s m) ∙ ap planReading (sym whole);
+      keeps = λ plan next g. kept plan (rest-kept s steps lists (field 0 maxPeak s m) (sym whole ∙ g));
+    }
   where
     kept : (plan : Plan) → (steps ≡ plan .steps) × (lists ≡ plan .lists) → PlanIn plan order₀ order pops₀ pops starts₀ starts rows₀ rows
     kept plan (p, q) =
-        record { columns = rw (← p) (in-steps .0); popped = rw (← p) (in-steps .1); begins = rw (← q) (in-lists .0); listed = rw (← q) (in-lists .1) }
+        record {
+          columns = rw (← p) (in-steps .columns);
+          popped = rw (← p) (in-steps .popped);
+          begins = rw (← q) (in-lists .begins);
+          listed = rw (← q) (in-lists .listed);
+        }

@@ -1,26 +1,62 @@
 -- What the reader of a plan answers, and what it then keeps of the plan in the lent slices. Of a plan at fault nothing is said to be kept.
 -- Assumes nothing.
-use Prim.Native.Nat.{ℕ}
+use Prim.Native.Nat.{ℕ, _+_, _<_, _≤_}
 use mathlib.Core.Path.{_≡_}
 use mathlib.Core.List.{List}
 use lib.ListN.{length, set}
 use lib.Seq.{sets}
-use Rattle.papers.specs.Bounds.{maxPeak}
+use Rattle.papers.specs.Bounds.{maxColumns, maxPeak}
 use Rattle.papers.specs.Lists.{flat, startsFrom}
 use Rattle.papers.specs.Plan.{Plan, columnsIn, popsIn, Read, got, bad, then, field, atEnd}
 use Rattle.read_plan.specs.declared.PlanReading.{PlanReading}
 use Rattle.read_plan.specs.declared.PlanReading.the-variants.{Whole, Faulty}
 
--- step i, and all steps, in two slices
-abbrev pub StepIn : ℕ → List ℕ → List ℕ → List ℕ → List ℕ → ℕ × ℕ → Type 0
-StepIn i order₀ order pops₀ pops step = (order ≡ set order₀ i (step .0)) × (pops ≡ set pops₀ i (step .1))
+-- ---- what is asked
 
-abbrev pub StepsIn : List ℕ → List ℕ → List ℕ → List ℕ → List (ℕ × ℕ) → Type 0
-StepsIn order₀ order pops₀ pops steps = (order ≡ sets order₀ 0 (columnsIn steps)) × (pops ≡ sets pops₀ 0 (popsIn steps))
+-- step i of n, to be read from a place inside the plan, and the slices have its place
+pub record StepAsked (plan : List ℕ) (at n i : ℕ) (order pops : List ℕ) : Type 0 where
+  pub inside : at ≤ length plan
+  pub few : n ≤ maxColumns
+  pub step : i < n
+  pub order-long : n ≤ length order
+  pub pops-long : n ≤ length pops
+
+-- all n steps, likewise
+pub record StepsAsked (plan : List ℕ) (at n : ℕ) (order pops : List ℕ) : Type 0 where
+  pub inside : at ≤ length plan
+  pub few : n ≤ maxColumns
+  pub order-long : n ≤ length order
+  pub pops-long : n ≤ length pops
+
+-- the lists of n columns, to be read from a place inside the plan, and there are places for where each starts
+pub record ListsAsked (plan : List ℕ) (at n : ℕ) (starts : List ℕ) : Type 0 where
+  pub inside : at ≤ length plan
+  pub few : n ≤ maxColumns
+  pub starts-long : n + 1 ≤ length starts
+
+-- the plan of n columns, behind a key that ends inside the bytes
+pub record PlanAsked (n : ℕ) (plan : List ℕ) (at : ℕ) (order pops starts : List ℕ) : Type 0 where
+  pub few : n ≤ maxColumns
+  pub inside : at ≤ length plan
+  pub order-long : n ≤ length order
+  pub pops-long : n ≤ length pops
+  pub starts-long : n + 1 ≤ length starts
+
+-- ---- what is kept
+
+-- step i, and all steps, in two slices
+pub record StepIn (i : ℕ) (order₀ order pops₀ pops : List ℕ) (step : ℕ × ℕ) : Type 0 where
+  pub column : order ≡ set order₀ i (step .0)
+  pub popped : pops ≡ set pops₀ i (step .1)
+
+pub record StepsIn (order₀ order pops₀ pops : List ℕ) (steps : List (ℕ × ℕ)) : Type 0 where
+  pub columns : order ≡ sets order₀ 0 (columnsIn steps)
+  pub popped : pops ≡ sets pops₀ 0 (popsIn steps)
 
 -- lists one after the other: where each starts, and their rows
-abbrev pub ListsIn : List ℕ → List ℕ → List ℕ → List ℕ → List (List ℕ) → Type 0
-ListsIn starts₀ starts rows₀ rows lists = (starts ≡ sets starts₀ 0 (startsFrom 0 lists)) × (rows ≡ sets rows₀ 0 (flat lists))
+pub record ListsIn (starts₀ starts rows₀ rows : List ℕ) (lists : List (List ℕ)) : Type 0 where
+  pub begins : starts ≡ sets starts₀ 0 (startsFrom 0 lists)
+  pub listed : rows ≡ sets rows₀ 0 (flat lists)
 
 -- ---- the whole plan
 
@@ -48,3 +84,8 @@ pub record PlanIn (plan : Plan) (order₀ order pops₀ pops starts₀ starts ro
 abbrev pub Keeps : Read Plan → List ℕ → List ℕ → List ℕ → List ℕ → List ℕ → List ℕ → List ℕ → List ℕ → Type 0
 Keeps found order₀ order pops₀ pops starts₀ starts rows₀ rows =
     (plan : Plan) (next : ℕ) → found ≡ got plan next → PlanIn plan order₀ order pops₀ pops starts₀ starts rows₀ rows
+
+-- what is answered of the bytes behind a key, and what is kept of them
+pub record PlanTold (found : Read Plan) (order₀ order pops₀ pops starts₀ starts rows₀ rows : List ℕ) (r : PlanReading) : Type 0 where
+  pub answers : r ≡ planReading found
+  pub keeps : Keeps found order₀ order pops₀ pops starts₀ starts rows₀ rows

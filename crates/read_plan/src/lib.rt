@@ -1,12 +1,12 @@
 // A plan read from any bytes: its steps, its lists and its peak, or the first number at fault.
 ghost use mathlib.Core.Path.{_≡_};
-ghost use Prim.Native.Nat.{_+_, _≤_, _<_};
+ghost use Prim.Native.Nat.{_≤_};
 ghost use lib.ListN.{length};
-ghost use Rattle.papers.specs.Bounds.{maxColumns};
 ghost use Rattle.papers.specs.Lists.{flat};
 ghost use Rattle.papers.specs.Plan.{readStep, readSteps, readLists, readPlan};
 ghost use Rattle.read_fields.specs.Reading.{Told};
-ghost use Rattle.read_plan.specs.Plans.{StepIn, StepsIn, ListsIn, readPeak, peakReading, planReading, Keeps};
+ghost use Rattle.read_plan.specs.Plans.{StepAsked, StepsAsked, ListsAsked, PlanAsked};
+ghost use Rattle.read_plan.specs.Plans.{StepIn, StepsIn, ListsIn, readPeak, peakReading, PlanTold};
 use read_fields::Reading;
 
 // What reading a whole plan answers: the declared peak, and how many rows its lists have; or a refusal's number and place.
@@ -24,7 +24,7 @@ fn read_step(
     order: &mut [u32],
     pops: &mut [u32],
 ) -> Reading
-    requires { ⌜ (at ≤ length (now plan)) × (n ≤ maxColumns) × (i < n) × (n ≤ length (now order)) × (n ≤ length (now pops)) ⌝ }
+    requires { ⌜ StepAsked (now plan) at n i (now order) (now pops) ⌝ }
     ensures { λ r. ⌜
         Told (λ step. step .0) (StepIn i (now (order .entry)) (now (order .exit)) (now (pops .entry)) (now (pops .exit)))
         (readStep n (now (plan .entry)) at) r
@@ -60,7 +60,7 @@ fn read_step(
 
 // The n steps from `at` on: keeps their columns and pops, answers how many they are. The first i are kept, and the next starts at k.
 fn read_steps(plan: &[u8], at: usize, n: u64, order: &mut [u32], pops: &mut [u32]) -> Reading
-    requires { ⌜ (at ≤ length (now plan)) × (n ≤ maxColumns) × (n ≤ length (now order)) × (n ≤ length (now pops)) ⌝ }
+    requires { ⌜ StepsAsked (now plan) at n (now order) (now pops) ⌝ }
     ensures { λ r. ⌜
         Told length (StepsIn (now (order .entry)) (now (order .exit)) (now (pops .entry)) (now (pops .exit)))
         (readSteps n n (now (plan .entry)) at) r
@@ -85,7 +85,7 @@ fn read_steps(plan: &[u8], at: usize, n: u64, order: &mut [u32], pops: &mut [u32
 // The lists of all columns from `at` on: keeps where each starts, and the rows while there is room; answers how many rows there are.
 // The lists of the columns before j are done, with `total` rows, and the next starts at k.
 pub fn read_lists(plan: &[u8], at: usize, n: u64, starts: &mut [u64], rows: &mut [u32]) -> Reading
-    requires { ⌜ (at ≤ length (now plan)) × (n ≤ maxColumns) × (n + 1 ≤ length (now starts)) ⌝ }
+    requires { ⌜ ListsAsked (now plan) at n (now starts) ⌝ }
     ensures { λ r. ⌜
         Told (λ lists. length (flat lists)) (ListsIn (now (starts .entry)) (now (starts .exit)) (now (rows .entry)) (now (rows .exit)))
         (readLists n 1 n (now (plan .entry)) at) r
@@ -146,13 +146,10 @@ pub fn read_plan(
     starts: &mut [u64],
     rows: &mut [u32],
 ) -> PlanReading
-    requires { ⌜
-        (n ≤ maxColumns) × (at ≤ length (now plan)) × (n ≤ length (now order)) × (n ≤ length (now pops)) × (n + 1 ≤ length (now starts))
-        ⌝ }
-    ensures answers { λ r. ⌜ r ≡ planReading (readPlan n (now (plan .entry)) at) ⌝ }
-    ensures keeps { λ r. ⌜
-        Keeps (readPlan n (now (plan .entry)) at) (now (order .entry)) (now (order .exit)) (now (pops .entry)) (now (pops .exit))
-        (now (starts .entry)) (now (starts .exit)) (now (rows .entry)) (now (rows .exit))
+    requires { ⌜ PlanAsked n (now plan) at (now order) (now pops) (now starts) ⌝ }
+    ensures { λ r. ⌜
+        PlanTold (readPlan n (now (plan .entry)) at) (now (order .entry)) (now (order .exit)) (now (pops .entry)) (now (pops .exit))
+        (now (starts .entry)) (now (starts .exit)) (now (rows .entry)) (now (rows .exit)) r
         ⌝ }
 {
     match read_steps(plan, at, n, order, pops) {

@@ -34,7 +34,7 @@ module _ {n : ℕ} {s : List ℕ} {j count at t : ℕ} {rows₀ rows : List ℕ}
 
     pub quick-turn : {row : ℕ} → 0 < left → row ≡ last + gap
         → RowsRead n s j count at t rows₀ (set rows total row) (k + 2) (last + gap) (left - 1) (total + 1)
-    quick-turn h e = rows-both x (rows-one n s last left k total rows h (x .high) (read, quick-found) (ap (set rows total) e))
+    quick-turn h e = rows-both x (rows-one n s last left k total rows h (x .high) read (ap (set rows total) e))
 
   -- rows behind them that are out of their range
   pub quick-over : {rows′ : List ℕ} {more row : ℕ} → ShortRead s last left k total rows rows′ more row → QuickRead n s j count at t rows₀ rows′ 0
@@ -47,6 +47,7 @@ module _ {n : ℕ} {s : List ℕ} {j count at t : ℕ} {rows₀ rows : List ℕ}
         few = omega (arith, length-append (x .list) (y .list));
         kept = rw (sets-append (x .list) rows₀ t (y .list), ← x .kept, ← x .placed) (y .kept);
         whole = λ h. absurd (h refl);
+        many = λ h. absurd (h refl);
       }
 
   -- all are read
@@ -57,9 +58,12 @@ module _ {n : ℕ} {s : List ℕ} {j count at t : ℕ} {rows₀ rows : List ℕ}
         list = x .list;
         few = omega arith;
         kept = x .kept;
-        whole = λ h. (ends (x .list) (x .whole) (rows-none n last s k left z), omega arith);
+        whole = λ h. ends (x .list) (x .whole) (rows-none n last s k left z);
+        many = λ h. omega arith;
       }
 
   -- the rest is left to the other reader
   pub quick-part : QuickRead n s j count at t rows₀ rows 0
-  quick-part = let a = x .counted in record { list = x .list; few = omega arith; kept = x .kept; whole = λ h. absurd (h refl) }
+  quick-part =
+      let a = x .counted in
+      record { list = x .list; few = omega arith; kept = x .kept; whole = λ h. absurd (h refl); many = λ h. absurd (h refl) }

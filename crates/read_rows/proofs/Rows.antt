@@ -42,10 +42,10 @@ rows-start n s j count at t rows h g =
 
 -- one row, by its gap
 pub rows-one : (n : ℕ) (s : List ℕ) (b left k t : ℕ) (rows : List ℕ) {gap m : ℕ} {rows′ : List ℕ}
-    → 0 < left → b ≤ n → (field 1 (n - b) s k ≡ got gap m) × fields.Found 1 (n - b) s k gap m → rows′ ≡ set rows t (b + gap)
+    → 0 < left → b ≤ n → field 1 (n - b) s k ≡ got gap m → rows′ ≡ set rows t (b + gap)
     → RowsRead n s b left k t rows rows′ m (b + gap) (left - 1) (t + 1)
-rows-one n s b left k t rows {gap} h g f e =
-    let (read, found) = f in
+rows-one n s b left k t rows {gap} {m} h g read e =
+    let found = fields.field-got 1 (n - b) s k gap m read in
     let high = found .high in
     let on = found .on in
     record {

@@ -11,7 +11,6 @@ use lib.Seq.{length-sets}
 use borrow.Author.Tests.{ltb-false}
 use Rattle.papers.specs.Bounds.{maxColumns}
 use Rattle.list_laws.proofs.Stores.{sets-more}
-use Rattle.bytes_laws.proofs.Fields as fields
 use Rattle.read_fields.proofs.Answers.{one-group, field-is}
 use Rattle.read_fields.proofs.Onto.{length-more}
 use Rattle.read_fields.proofs.Places.{before-end}
@@ -69,6 +68,5 @@ module _ {s : List ℕ} {b left at t : ℕ} {rows₀ rows : List ℕ} {i last : 
           let o : left - (i + 1) ≡ left - i - 1 = omega arith in
           let u : t + (i + 1) ≡ t + i + 1 = omega arith in
           let found = field-is 1 (n - last) s (at + i) (one-group s (at + i) there e short) low (omega arith) in
-          let range = fields.field-got 1 (n - last) s (at + i) gap (at + i + 1) found in
-          rw (k, o, u) (rows-both y (rows-one n s last (left - i) (at + i) (t + i) rows (omega arith) (y .high) (found, range)
+          rw (k, o, u) (rows-both y (rows-one n s last (left - i) (at + i) (t + i) rows (omega arith) (y .high) found
           (ap (set rows (t + i)) is)))

@@ -1,9 +1,6 @@
 // The rows of a column read in one go, where each gap has one group or two, as nearly all have. Any other list is left to the reader of
 // lists.
-ghost use Prim.Native.Nat.{_-_, _≤_};
-ghost use lib.ListN.{length};
-ghost use Rattle.papers.specs.Bounds.{maxColumns};
-ghost use Rattle.read_rows.specs.Rows.{ShortRead, QuickRead};
+ghost use Rattle.read_rows.specs.Rows.{ShortAsked, RowsAsked, MostShort, ShortRead, QuickRead};
 
 // Rows read in one go: how many, and the last of them.
 pub struct ShortRows {
@@ -13,7 +10,7 @@ pub struct ShortRows {
 
 // How many gaps of one byte can be read and kept without a look at the ends: those left, the bytes that follow, the room behind place t.
 fn most_short(left: usize, bytes: usize, t: usize, room: usize) -> usize
-    ensures { λ r. ⌜ (r ≤ left) × (r ≤ bytes) × (r ≤ room - t) ⌝ }
+    ensures { λ r. ⌜ MostShort left bytes t room r ⌝ }
 {
     if room <= t {
         return 0;
@@ -25,7 +22,7 @@ fn most_short(left: usize, bytes: usize, t: usize, room: usize) -> usize
 // Most rows are read here. The first i of `left` are kept, `last` is the last of them, or b. Rows only rise, so all are in their range
 // where the last is.
 fn short_rows(plan: &[u8], at: usize, b: u64, left: u64, t: usize, rows: &mut [u32]) -> ShortRows
-    requires { ⌜ (at ≤ length (now plan)) × (b ≤ maxColumns) × (left ≤ maxColumns) ⌝ }
+    requires { ⌜ ShortAsked (now plan) at b left ⌝ }
     ensures { λ r. ⌜ ShortRead (now (plan .entry)) b left at t (now (rows .entry)) (now (rows .exit)) (r .count) (r .last) ⌝ }
 {
     let most = most_short(left as usize, plan.len() - at, t, rows.len());
@@ -55,7 +52,7 @@ pub fn quick_rows(
     t: usize,
     rows: &mut [u32],
 ) -> usize
-    requires { ⌜ (at ≤ length (now plan)) × (n ≤ maxColumns) × (j ≤ n) × (t ≤ at) × (count ≤ maxColumns) ⌝ }
+    requires { ⌜ RowsAsked (now plan) at n j count t ⌝ }
     ensures { λ r. ⌜ QuickRead n (now (plan .entry)) j count at t (now (rows .entry)) (now (rows .exit)) r ⌝ }
 {
     let mut k = at;

@@ -6,23 +6,23 @@ use Rattle.read_fields.proofs.Answers.{field-by-number, one-group}
 use Rattle.read_fields.proofs.read_field.Statement.{statement}
 use Rattle.read_fields.proofs.read_field.Tie as tie
 
--- The places that the answers look back to: `then1 (search)` is the one behind the answer at hand.
-abbrev then1 : tie.Then1 → tie.Then1
-then1 c = c
+-- The places that the answers look back to: `one-there (search)` is the one behind the answer at hand.
+abbrev one-there : tie.Then1 → tie.Then1
+one-there c = c
 
-abbrev after-two-groups : tie.After-two-groups → tie.After-two-groups
-after-two-groups c = c
+abbrev two-read : tie.After-two-groups → tie.After-two-groups
+two-read c = c
 
-abbrev after-wide8 : tie.After-wide8 → tie.After-wide8
-after-wide8 c = c
+abbrev byte-read : tie.After-wide8 → tie.After-wide8
+byte-read c = c
 
 returns : tie.Need-returns
 returns c =
-    field-by-number _ _ _ _ (one-group _ _ (then1 (search) .if1 .taken) (after-wide8 (search) .wide8 .ensures .0) (c .before .if2 .taken))
+    field-by-number _ _ _ _ (one-group _ _ (one-there (search) .if1 .taken) (byte-read (search) .wide8 .ensures .same) (c .before .if2 .taken))
     (c .in-range .ensures)
 
 returns-2 : tie.Need-returns-2
-returns-2 c = field-by-number _ _ _ _ (after-two-groups (search) .two-groups .ensures (c .before .if3 .taken)) (c .in-range2 .ensures)
+returns-2 c = field-by-number _ _ _ _ (two-read (search) .two-groups .ensures (c .before .if3 .taken)) (c .in-range2 .ensures)
 
 pub read-field-spec : {M : Type 1} → statement M
 read-field-spec =

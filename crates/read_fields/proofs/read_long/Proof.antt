@@ -10,11 +10,11 @@ use Rattle.read_fields.proofs.read_long.Tie as tie
 abbrev read : tie.After-read-number → tie.After-read-number
 read c = c
 
-abbrev after-value : tie.After-value → tie.After-value
-after-value c = c
+abbrev has-value : tie.After-value → tie.After-value
+has-value c = c
 
 returns : tie.Need-returns
-returns c = field-by-number _ _ _ _ (sym (after-value (search) .value .given .1) ∙ read (search) .read-number .ensures) (c .in-range .ensures)
+returns c = field-by-number _ _ _ _ (sym (has-value (search) .value .given .1) ∙ read (search) .read-number .ensures) (c .in-range .ensures)
 
 enum-told : tie.Need-enum-told
 enum-told c = search needs

@@ -13,17 +13,17 @@ use Rattle.read_fields.proofs.two_groups.Tie as tie
 abbrev entry : tie.Start → tie.Start
 entry c = c
 
-abbrev else1 : tie.Else1 → tie.Else1
-else1 c = c
+abbrev both-there : tie.Else1 → tie.Else1
+both-there c = c
 
-abbrev after-wide8 : tie.After-wide8 → tie.After-wide8
-after-wide8 c = c
+abbrev first : tie.After-wide8 → tie.After-wide8
+first c = c
 
-abbrev after-wide82 : tie.After-wide82 → tie.After-wide82
-after-wide82 c = c
+abbrev second : tie.After-wide82 → tie.After-wide82
+second c = c
 
-abbrev else2 : tie.Else2 → tie.Else2
-else2 c = c
+abbrev goes-on : tie.Else2 → tie.Else2
+goes-on c = c
 
 returns : tie.Need-returns
 returns c = λ z. absurd (z refl)
@@ -33,12 +33,12 @@ returns-2 c = λ z. absurd (z refl)
 
 returns-3 : tie.Need-returns-3
 returns-3 c =
-    let some : after-wide82 (search) .wide82 .result ≢ 0 = eqb-false (after-wide82 (search) .wide82 .result) 0 (c .before .if3 .left) in
-    let last = ltb-false 127 (after-wide82 (search) .wide82 .result) (c .if4 .left) in
-    let more = else2 (search) .if2 .left in
-    let there = else1 (search) .if1 .left in
+    let some : second (search) .wide82 .result ≢ 0 = eqb-false (second (search) .wide82 .result) 0 (c .before .if3 .left) in
+    let last = ltb-false 127 (second (search) .wide82 .result) (c .if4 .left) in
+    let more = goes-on (search) .if2 .left in
+    let there = both-there (search) .if1 .left in
     let inside = entry (search) .pre in
-    λ z. two-groups _ _ (omega arith) (after-wide8 (search) .wide8 .ensures .0) more (after-wide82 (search) .wide82 .ensures .0) some (omega arith)
+    λ z. two-groups _ _ (omega arith) (first (search) .wide8 .ensures .same) more (second (search) .wide82 .ensures .same) some (omega arith)
 
 pub two-groups-spec : {M : Type 1} → statement M
 two-groups-spec =

@@ -5,7 +5,7 @@ use mathlib.Core.List.{[]}
 use mathlib.Core.Path.{refl}
 use borrow.Author.Needs.{needs}
 use Rattle.read_fields.specs.Reading.{refuses}
-use Rattle.read_plan.proofs.Lists.{lists-long, Lists, lists-start, lists-turn, lists-fault, lists-stop}
+use Rattle.read_plan.proofs.Lists.{rows-long, Lists, lists-start, lists-turn, lists-fault, lists-stop}
 use Rattle.read_key.proofs.Wholes.{told-alone}
 use Rattle.read_key.proofs.count_rows.Statement.{statement}
 use Rattle.read_key.proofs.count_rows.Tie as tie
@@ -30,14 +30,15 @@ abbrev read : tie.After-read-list Inv-loop μ-loop → tie.After-read-list Inv-l
 read c = c
 
 loop-holds : tie.Need-loop-holds Inv-loop μ-loop
-loop-holds c = lists-start _ _ _ [] _ (c .before .pre .0)
+loop-holds c = lists-start _ _ _ [] _ (c .before .pre .inside)
 
 slice-aggregate-read-list : tie.Need-slice-aggregate-read-list Inv-loop μ-loop
-slice-aggregate-read-list c = let h = lists-long (at-loop (search) .loop .inv) .1 in search needs
+slice-aggregate-read-list c = let h = rows-long (at-loop (search) .loop .inv) in search needs
 
 read-list-requires : tie.Need-read-list-requires Inv-loop μ-loop
 read-list-requires c κs =
-    (at-loop (search) .loop .inv .inside, entry (search) .pre .1, c .before .loop-test .taken, at-loop (search) .loop .inv .paced)
+    let l = at-loop (search) .loop .inv in
+    record { inside = l .inside; few = entry (search) .pre .few; column = c .before .loop-test .taken; behind = l .paced }
 
 returns : tie.Need-returns Inv-loop μ-loop
 returns c =

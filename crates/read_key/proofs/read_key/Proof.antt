@@ -11,14 +11,14 @@ use Rattle.read_key.proofs.read_key.Tie as tie
 abbrev read : tie.After-read-head → tie.After-read-head
 read c = c
 
-abbrev after-head : tie.After-head → tie.After-head
-after-head c = c
+abbrev head-read : tie.After-head → tie.After-head
+head-read c = c
 
 abbrev counted : tie.After-count-rows → tie.After-count-rows
 counted c = c
 
-abbrev after-rows : tie.After-rows → tie.After-rows
-after-rows c = c
+abbrev lists-read : tie.After-rows → tie.After-rows
+lists-read c = c
 
 enum-told : tie.Need-enum-told
 enum-told c = search needs
@@ -28,22 +28,22 @@ returns c = let (number, place, e) = head-faulty _ (read (search) .read-head .en
 
 count-rows-requires : tie.Need-count-rows-requires
 count-rows-requires c κs =
-    let (few, inside) = head-fits _ _ _ (head-found _ (read (search) .read-head .ensures) (c .before .head .given .1)) in (inside, few)
+    head-fits _ _ _ (head-found _ (read (search) .read-head .ensures) (c .before .head .given .1))
 
 returns-2 : tie.Need-returns-2
 returns-2 c =
-    no-lists _ (head-found _ (read (search) .read-head .ensures) (after-head (search) .head .given .1))
+    no-lists _ (head-found _ (read (search) .read-head .ensures) (head-read (search) .head .given .1))
     (told-refused (counted (search) .count-rows .ensures) (c .enum-told2 .given .1))
 
 returns-3 : tie.Need-returns-3
 returns-3 c =
-    let (lists, f, g, kept) = told-found (counted (search) .count-rows .ensures) (after-rows (search) .rows .given .1) in
-    bytes-after _ (head-found _ (read (search) .read-head .ensures) (after-head (search) .head .given .1)) f (c .if1 .taken)
+    let lists = told-found (counted (search) .count-rows .ensures) (lists-read (search) .rows .given .1) in
+    bytes-after _ (head-found _ (read (search) .read-head .ensures) (head-read (search) .head .given .1)) (lists .read) (c .if1 .taken)
 
 returns-4 : tie.Need-returns-4
 returns-4 c =
-    let (lists, f, g, kept) = told-found (counted (search) .count-rows .ensures) (after-rows (search) .rows .given .1) in
-    key-whole _ (head-found _ (read (search) .read-head .ensures) (after-head (search) .head .given .1)) f g (c .if1 .left)
+    let lists = told-found (counted (search) .count-rows .ensures) (lists-read (search) .rows .given .1) in
+    key-whole _ (head-found _ (read (search) .read-head .ensures) (head-read (search) .head .given .1)) (lists .read) (lists .value) (c .if1 .left)
 
 pub read-key-spec : {M : Type 1} → statement M
 read-key-spec =

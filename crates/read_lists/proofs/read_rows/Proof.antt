@@ -7,7 +7,7 @@ use mir.Facts.{fits-bits}
 use native.Mathlib.Omega.{arith}
 use Rattle.read_fields.specs.Reading.{refuses}
 use Rattle.read_rows.specs.Rows.{RowsRead}
-use Rattle.read_fields.proofs.Answers.{field-refused, field-found}
+use Rattle.read_fields.proofs.Answers.{field-refused, field-read, field-found}
 use Rattle.read_fields.proofs.Places.{next-fits, none-left, one-less}
 use Rattle.read_rows.proofs.Rows.{rows-start, rows-one, rows-both, rows-long, rows-paced, row-narrow}
 use Rattle.read_lists.proofs.Lists.{rows-fault, rows-stop}
@@ -33,14 +33,14 @@ in-loop c = c
 abbrev read : tie.After-read-field Inv-loop μ-loop → tie.After-read-field Inv-loop μ-loop
 read c = c
 
-abbrev after-gap : tie.After-gap Inv-loop μ-loop → tie.After-gap Inv-loop μ-loop
-after-gap c = c
+abbrev gap-read : tie.After-gap Inv-loop μ-loop → tie.After-gap Inv-loop μ-loop
+gap-read c = c
 
 abbrev kept : tie.After-keep-row Inv-loop μ-loop → tie.After-keep-row Inv-loop μ-loop
 kept c = c
 
 loop-holds : tie.Need-loop-holds Inv-loop μ-loop
-loop-holds c = rows-start _ _ _ _ _ _ _ (entry (search) .pre .0) (entry (search) .pre .2)
+loop-holds c = rows-start _ _ _ _ _ _ _ (entry (search) .pre .inside) (entry (search) .pre .column)
 
 sub-read-field : tie.Need-sub-read-field Inv-loop μ-loop
 sub-read-field c = c .before .loop .inv .high
@@ -58,18 +58,18 @@ returns c =
 
 add-row : tie.Need-add-row Inv-loop μ-loop
 add-row c =
-    let found = field-found _ _ _ _ (read (search) .read-field .ensures) (c .before .gap .given .1) .1 in
-    fits-bits 32 tt (row-narrow (entry (search) .pre .1) (at-loop (search) .loop .inv .high) (found .high))
+    let found = field-found _ _ _ _ (read (search) .read-field .ensures) (c .before .gap .given .1) in
+    fits-bits 32 tt (row-narrow (entry (search) .pre .few) (at-loop (search) .loop .inv .high) (found .high))
 
 keep-row-requires : tie.Need-keep-row-requires Inv-loop μ-loop
 keep-row-requires c κs =
-    let found = field-found _ _ _ _ (read (search) .read-field .ensures) (after-gap (search) .gap .given .1) .1 in
-    row-narrow (entry (search) .pre .1) (at-loop (search) .loop .inv .high) (found .high)
+    let found = field-found _ _ _ _ (read (search) .read-field .ensures) (gap-read (search) .gap .given .1) in
+    row-narrow (entry (search) .pre .few) (at-loop (search) .loop .inv .high) (found .high)
 
 add-total : tie.Need-add-total Inv-loop μ-loop
 add-total c =
-    let found = field-found _ _ _ _ (read (search) .read-field .ensures) (after-gap (search) .gap .given .1) .1 in
-    next-fits (omega (arith, entry (search) .good)) (lt-of-le-of-lt (rows-paced (at-loop (search) .loop .inv) (entry (search) .pre .3))
+    let found = field-found _ _ _ _ (read (search) .read-field .ensures) (gap-read (search) .gap .given .1) in
+    next-fits (omega (arith, entry (search) .good)) (lt-of-le-of-lt (rows-paced (at-loop (search) .loop .inv) (entry (search) .pre .behind))
     (lt-of-lt-of-le (found .on) (found .inside)))
 
 sub-left : tie.Need-sub-left Inv-loop μ-loop
@@ -81,8 +81,8 @@ loop-less c = one-less (in-loop (search) .loop-test .taken)
 loop-again : tie.Need-loop-again Inv-loop μ-loop
 loop-again c =
     let x = at-loop (search) .loop .inv in
-    let found = field-found _ _ _ _ (read (search) .read-field .ensures) (after-gap (search) .gap .given .1) in
-    rows-both x (rows-one _ _ _ _ _ _ _ (in-loop (search) .loop-test .taken) (x .high) found (kept (search) .keep-row .ensures))
+    let gap = field-read _ _ _ _ (read (search) .read-field .ensures) (gap-read (search) .gap .given .1) in
+    rows-both x (rows-one _ _ _ _ _ _ _ (in-loop (search) .loop-test .taken) (x .high) gap (kept (search) .keep-row .ensures))
 
 same-length-2 : tie.Need-same-length-2 Inv-loop μ-loop
 same-length-2 c = rows-long (c .before .loop .inv)

@@ -1,13 +1,13 @@
 -- The loop's invariant: the lists of the columns before j are read and kept, and those left, put onto them, are all. The measure is the columns left.
 -- Assumes nothing.
 use Prim.Native.Nat.{_+_, _-_}
-use mathlib.Core.Path.{refl, _∙_}
+use mathlib.Core.Path.{_≡_, refl, _∙_}
 use native.Mathlib.Omega.{arith}
-use lib.ListN.{length-set}
+use lib.ListN.{length, length-set}
 use borrow.Author.Needs.{needs}
 use denote.Ref.{now}
 use Rattle.read_fields.specs.Reading.{refuses}
-use Rattle.read_plan.proofs.Lists.{Lists, lists-start, lists-long, lists-turn, lists-fault, lists-stop}
+use Rattle.read_plan.proofs.Lists.{Lists, lists-start, starts-long, rows-long, lists-turn, lists-fault, lists-stop}
 use Rattle.read_plan.proofs.read_lists.Statement.{statement}
 use Rattle.read_plan.proofs.read_lists.Tie as tie
 
@@ -30,21 +30,23 @@ in-loop c = c
 abbrev read : tie.After-read-list Inv-loop μ-loop → tie.After-read-list Inv-loop μ-loop
 read c = c
 
+abbrev entry-of : tie.At-loop Inv-loop μ-loop → tie.Start Inv-loop μ-loop
+entry-of c = search
+
+-- the starts keep their length
+starts-kept : (c : tie.At-loop Inv-loop μ-loop) → length (c .loop .starts) ≡ length (now (entry-of c .args .starts))
+starts-kept c = starts-long (c .loop .inv) ∙ length-set (now (entry-of c .args .starts)) 0 0
+
 loop-holds : tie.Need-loop-holds Inv-loop μ-loop
-loop-holds c = lists-start _ _ _ (now (entry (search) .args .starts)) _ (entry (search) .pre .0)
+loop-holds c = lists-start _ _ _ (now (entry (search) .args .starts)) _ (entry (search) .pre .inside)
 
 read-list-requires : tie.Need-read-list-requires Inv-loop μ-loop
 read-list-requires c κs =
     let l = at-loop (search) .loop .inv in
-    (l .inside, entry (search) .pre .1, c .before .loop-test .taken, l .paced)
-
-same-length : tie.Need-same-length Inv-loop μ-loop
-same-length c =
-    let starts = now (entry (search) .args .starts) in
-    lists-long (at-loop (search) .loop .inv) .0 ∙ length-set starts 0 0
+    record { inside = l .inside; few = entry (search) .pre .few; column = c .before .loop-test .taken; behind = l .paced }
 
 same-length-2 : tie.Need-same-length-2 Inv-loop μ-loop
-same-length-2 c = omega (arith, read (search) .read-list .kept, lists-long (at-loop (search) .loop .inv) .1)
+same-length-2 c = omega (arith, read (search) .read-list .kept, rows-long (at-loop (search) .loop .inv))
 
 returns : tie.Need-returns Inv-loop μ-loop
 returns c =
@@ -52,22 +54,15 @@ returns c =
     refuses _ _ (lists-fault l (in-loop (search) .loop-test .taken) (read (search) .read-list .ensures) (c .before .number .given .1)) refl
 
 slice-write-starts-2 : tie.Need-slice-write-starts-2 Inv-loop μ-loop
-slice-write-starts-2 c =
-    let starts = now (entry (search) .args .starts) in
-    let long = lists-long (at-loop (search) .loop .inv) .0 ∙ length-set starts 0 0 in
-    let next = in-loop (search) .loop-test .taken in
-    omega arith
+slice-write-starts-2 c = omega (arith, starts-kept (search), in-loop (search) .loop-test .taken, entry (search) .pre)
 
 loop-again : tie.Need-loop-again Inv-loop μ-loop
 loop-again c =
     let l = at-loop (search) .loop .inv in
     lists-turn l (in-loop (search) .loop-test .taken) (read (search) .read-list .ensures) (c .before .value .given .1) refl
 
-same-length-3 : tie.Need-same-length-3 Inv-loop μ-loop
-same-length-3 c = lists-long (c .before .loop .inv) .0 ∙ length-set (now (entry (search) .args .starts)) 0 0
-
 same-length-4 : tie.Need-same-length-4 Inv-loop μ-loop
-same-length-4 c = lists-long (c .before .loop .inv) .1
+same-length-4 c = rows-long (c .before .loop .inv)
 
 returns-2 : tie.Need-returns-2 Inv-loop μ-loop
 returns-2 c = lists-stop (c .before .loop .inv) (now (entry (search) .args .starts)) refl (c .loop-test .left)
@@ -82,7 +77,7 @@ read-lists-spec =
     loop-holds
     read-list-requires
     (λ c. search needs)
-    same-length
+    (λ c. starts-kept (search))
     same-length-2
     returns
     (λ c. search needs)
@@ -91,6 +86,6 @@ read-lists-spec =
     (λ c. search needs)
     (λ c. search needs)
     loop-again
-    same-length-3
+    (λ c. starts-kept (search))
     same-length-4
     returns-2)

@@ -1,7 +1,7 @@
 -- The peak is a field, and the plan ends behind it or the first byte after it is 15.
 -- Assumes nothing.
 use borrow.Author.Needs.{needs}
-use Rattle.read_fields.proofs.Answers.{field-refused, field-found}
+use Rattle.read_fields.proofs.Answers.{field-refused, field-read}
 use Rattle.read_plan.proofs.Wholes.{no-peak, bytes-after, at-the-end}
 use Rattle.read_plan.proofs.read_peak.Statement.{statement}
 use Rattle.read_plan.proofs.read_peak.Tie as tie
@@ -10,17 +10,17 @@ use Rattle.read_plan.proofs.read_peak.Tie as tie
 abbrev read : tie.After-read-long → tie.After-read-long
 read c = c
 
-abbrev after-peak : tie.After-peak → tie.After-peak
-after-peak c = c
+abbrev peak-read : tie.After-peak → tie.After-peak
+peak-read c = c
 
 returns : tie.Need-returns
 returns c = no-peak _ _ _ (field-refused _ _ _ _ (read (search) .read-long .ensures) (c .before .number .given .1))
 
 returns-2 : tie.Need-returns-2
-returns-2 c = bytes-after _ _ _ (field-found _ _ _ _ (read (search) .read-long .ensures) (after-peak (search) .peak .given .1) .0) (c .if1 .taken)
+returns-2 c = bytes-after _ _ _ (field-read _ _ _ _ (read (search) .read-long .ensures) (peak-read (search) .peak .given .1)) (c .if1 .taken)
 
 returns-3 : tie.Need-returns-3
-returns-3 c = at-the-end _ _ _ (field-found _ _ _ _ (read (search) .read-long .ensures) (after-peak (search) .peak .given .1) .0) (c .if1 .left)
+returns-3 c = at-the-end _ _ _ (field-read _ _ _ _ (read (search) .read-long .ensures) (peak-read (search) .peak .given .1)) (c .if1 .left)
 
 pub read-peak-spec : {M : Type 1} → statement M
 read-peak-spec =

@@ -5,7 +5,7 @@ use mathlib.Core.Path.{refl}
 use native.Mathlib.Omega.{arith}
 use borrow.Author.Needs.{needs}
 use Rattle.read_fields.specs.Reading.{refuses}
-use Rattle.read_plan.proofs.Steps.{Steps, steps-start, steps-long, steps-turn, steps-fault, steps-stop}
+use Rattle.read_plan.proofs.Steps.{Steps, steps-start, order-long, pops-long, steps-turn, steps-fault, steps-stop}
 use Rattle.read_plan.proofs.read_steps.Statement.{statement}
 use Rattle.read_plan.proofs.read_steps.Tie as tie
 
@@ -29,20 +29,25 @@ abbrev read : tie.After-read-step Inv-loop μ-loop → tie.After-read-step Inv-l
 read c = c
 
 loop-holds : tie.Need-loop-holds Inv-loop μ-loop
-loop-holds c = steps-start _ _ _ _ _ (entry (search) .pre .0)
+loop-holds c = steps-start _ _ _ _ _ (entry (search) .pre .inside)
 
 read-step-requires : tie.Need-read-step-requires Inv-loop μ-loop
 read-step-requires c κs =
     let l = at-loop (search) .loop .inv in
-    let (order, pops) = steps-long l in
     let p = entry (search) .pre in
-    (l .inside, p .1, in-loop (search) .loop-test .taken, omega arith, omega arith)
+    record {
+      inside = l .inside;
+      few = p .few;
+      step = in-loop (search) .loop-test .taken;
+      order-long = omega (arith, p .order-long, order-long l);
+      pops-long = omega (arith, p .pops-long, pops-long l);
+    }
 
 same-length : tie.Need-same-length Inv-loop μ-loop
-same-length c = omega (arith, read (search) .read-step .kept, steps-long (at-loop (search) .loop .inv) .0)
+same-length c = omega (arith, read (search) .read-step .kept, order-long (at-loop (search) .loop .inv))
 
 same-length-2 : tie.Need-same-length-2 Inv-loop μ-loop
-same-length-2 c = omega (arith, read (search) .read-step .kept, steps-long (at-loop (search) .loop .inv) .1)
+same-length-2 c = omega (arith, read (search) .read-step .kept, pops-long (at-loop (search) .loop .inv))
 
 returns : tie.Need-returns Inv-loop μ-loop
 returns c =
@@ -55,10 +60,10 @@ loop-again c =
     steps-turn l (in-loop (search) .loop-test .taken) (read (search) .read-step .ensures) (c .before .next .given .1)
 
 same-length-3 : tie.Need-same-length-3 Inv-loop μ-loop
-same-length-3 c = steps-long (c .before .loop .inv) .0
+same-length-3 c = order-long (c .before .loop .inv)
 
 same-length-4 : tie.Need-same-length-4 Inv-loop μ-loop
-same-length-4 c = steps-long (c .before .loop .inv) .1
+same-length-4 c = pops-long (c .before .loop .inv)
 
 returns-2 : tie.Need-returns-2 Inv-loop μ-loop
 returns-2 c = steps-stop (c .before .loop .inv) (c .loop-test .left)

@@ -22,8 +22,8 @@ abbrev μ-loop : tie.MeasureT-loop
 abbrev entry : tie.Start Inv-loop μ-loop → tie.Start Inv-loop μ-loop
 entry c = c
 
-abbrev after-most-short : tie.After-most-short Inv-loop μ-loop → tie.After-most-short Inv-loop μ-loop
-after-most-short c = c
+abbrev limited : tie.After-most-short Inv-loop μ-loop → tie.After-most-short Inv-loop μ-loop
+limited c = c
 
 abbrev at-loop : tie.At-loop Inv-loop μ-loop → tie.At-loop Inv-loop μ-loop
 at-loop c = c
@@ -31,24 +31,24 @@ at-loop c = c
 abbrev in-loop : tie.In-loop Inv-loop μ-loop → tie.In-loop Inv-loop μ-loop
 in-loop c = c
 
-abbrev after-wide8 : tie.After-wide8 Inv-loop μ-loop → tie.After-wide8 Inv-loop μ-loop
-after-wide8 c = c
+abbrev gap-read : tie.After-wide8 Inv-loop μ-loop → tie.After-wide8 Inv-loop μ-loop
+gap-read c = c
 
-abbrev else1 : tie.Else1 Inv-loop μ-loop → tie.Else1 Inv-loop μ-loop
-else1 c = c
+abbrev some-gap : tie.Else1 Inv-loop μ-loop → tie.Else1 Inv-loop μ-loop
+some-gap c = c
 
 sub-most-short : tie.Need-sub-most-short Inv-loop μ-loop
-sub-most-short c = entry (search) .pre .0
+sub-most-short c = entry (search) .pre .inside
 
 loop-holds : tie.Need-loop-holds Inv-loop μ-loop
-loop-holds c = short-start _ _ _ _ _ _ (entry (search) .pre .0)
+loop-holds c = short-start _ _ _ _ _ _ (entry (search) .pre .inside)
 
 add-wide8 : tie.Need-add-wide8 Inv-loop μ-loop
 add-wide8 c =
-    inside-fits (omega (arith, entry (search) .good)) (le-of-lt (before-end _ (c .loop-test .taken) (after-most-short (search) .most-short .ensures .1)))
+    inside-fits (omega (arith, entry (search) .good)) (le-of-lt (before-end _ (c .loop-test .taken) (limited (search) .most-short .ensures .there)))
 
 shared-slice-read-wide8 : tie.Need-shared-slice-read-wide8 Inv-loop μ-loop
-shared-slice-read-wide8 c = before-end _ (c .before .loop-test .taken) (after-most-short (search) .most-short .ensures .1)
+shared-slice-read-wide8 c = before-end _ (c .before .loop-test .taken) (limited (search) .most-short .ensures .there)
 
 same-length : tie.Need-same-length Inv-loop μ-loop
 same-length c = short-long (at-loop (search) .loop .inv)
@@ -59,39 +59,39 @@ returns c = at-loop (search) .loop .inv
 add-last : tie.Need-add-last Inv-loop μ-loop
 add-last c =
     let p = entry (search) .pre in
-    fits-bits 32 tt (short-narrow (at-loop (search) .loop .inv) (p .1) (p .2) (after-wide8 (search) .wide8 .ensures .1))
+    fits-bits 32 tt (short-narrow (at-loop (search) .loop .inv) (p .low) (p .few) (gap-read (search) .wide8 .ensures .below))
 
 narrow32-requires : tie.Need-narrow32-requires Inv-loop μ-loop
 narrow32-requires c κs =
-    let p = entry (search) .pre in short-narrow (at-loop (search) .loop .inv) (p .1) (p .2) (after-wide8 (search) .wide8 .ensures .1)
+    let p = entry (search) .pre in short-narrow (at-loop (search) .loop .inv) (p .low) (p .few) (gap-read (search) .wide8 .ensures .below)
 
 add-rows : tie.Need-add-rows Inv-loop μ-loop
 add-rows c =
     inside-fits (omega (arith, entry (search) .good))
-    (le-of-lt (before-end _ (in-loop (search) .loop-test .taken) (after-most-short (search) .most-short .ensures .2)))
+    (le-of-lt (before-end _ (in-loop (search) .loop-test .taken) (limited (search) .most-short .ensures .kept)))
 
 mul-rows : tie.Need-mul-rows Inv-loop μ-loop
 mul-rows c =
-    bytes-fit (before-end _ (in-loop (search) .loop-test .taken) (after-most-short (search) .most-short .ensures .2))
+    bytes-fit (before-end _ (in-loop (search) .loop-test .taken) (limited (search) .most-short .ensures .kept))
     (omega (arith, entry (search) .good))
 
 slice-write-rows : tie.Need-slice-write-rows Inv-loop μ-loop
 slice-write-rows c =
-    short-place (at-loop (search) .loop .inv) (in-loop (search) .loop-test .taken) (after-most-short (search) .most-short .ensures .2)
+    short-place (at-loop (search) .loop .inv) (in-loop (search) .loop-test .taken) (limited (search) .most-short .ensures .kept)
 
 add-i : tie.Need-add-i Inv-loop μ-loop
-add-i c = count-fits _ (in-loop (search) .loop-test .taken) (after-most-short (search) .most-short .ensures .1) (omega (arith, entry (search) .good))
+add-i c = count-fits _ (in-loop (search) .loop-test .taken) (limited (search) .most-short .ensures .there) (omega (arith, entry (search) .good))
 
 loop-less : tie.Need-loop-less Inv-loop μ-loop
 loop-less c = nearer (in-loop (search) .loop-test .taken)
 
 loop-again : tie.Need-loop-again Inv-loop μ-loop
 loop-again c =
-    let (few, there, room) = after-most-short (search) .most-short .ensures in
+    let most = limited (search) .most-short .ensures in
     let next = in-loop (search) .loop-test .taken in
-    let gap = after-wide8 (search) .wide8 in
-    short-turn (at-loop (search) .loop .inv) (lt-of-lt-of-le next few) (before-end _ next there) (gap .ensures .0)
-    (pos-of-ne-zero (else1 (search) .if1 .left)) (short-gap (c .before .if2 .left)) (c .narrow32 .ensures)
+    let gap = gap-read (search) .wide8 in
+    short-turn (at-loop (search) .loop .inv) (lt-of-lt-of-le next (most .wanted)) (before-end _ next (most .there)) (gap .ensures .same)
+    (pos-of-ne-zero (some-gap (search) .if1 .left)) (short-gap (c .before .if2 .left)) (c .narrow32 .ensures)
 
 same-length-2 : tie.Need-same-length-2 Inv-loop μ-loop
 same-length-2 c = short-long (c .before .loop .inv)
