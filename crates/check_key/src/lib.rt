@@ -1,16 +1,12 @@
 // A plan's bytes held against the job's key, number by number: the bytes of each number are made and compared where they should stand.
 ghost use mathlib.Core.Path.{_≡_};
 ghost use mathlib.Core.List.{[], _∷_};
-ghost use Prim.Native.Nat.{_≤_};
-ghost use lib.ListN.{length};
 ghost use lib.Seq.{slice};
-ghost use Rattle.papers.specs.Bounds.{maxColumns};
 ghost use Rattle.papers.specs.Numbers.{bytesOf, encode};
 ghost use Rattle.papers.specs.Job.{jobOf, columnOf};
 ghost use Rattle.papers.specs.Key.{gapsOf, listNumbers, listsNumbers, listsOf, keyOf};
-ghost use Rattle.papers.specs.Refusals.{passed, first, startsTest, rowsTest, jobTests};
-ghost use Rattle.groups.specs.Fits.{Fits};
-ghost use Rattle.write_gaps.specs.ListAt.{ListAt};
+ghost use Rattle.papers.specs.Refusals.{passed, first, jobTests};
+ghost use Rattle.check_key.specs.Asked.{NumberAsked, TwoAsked, ListAsked, ListsAsked};
 ghost use Rattle.check_key.specs.Matches.{matchFrom, keyMatch};
 use papers::JobHead;
 
@@ -23,7 +19,7 @@ pub enum KeyMatch {
 
 // Holds the bytes of x against the plan from `at` on. The first i are there.
 fn match_groups(plan: &[u8], at: usize, x: u64) -> KeyMatch
-    requires { ⌜ Fits x × (at ≤ length (now plan)) ⌝ }
+    requires { ⌜ NumberAsked (now plan) at x ⌝ }
     ensures { λ r. ⌜ r ≡ matchFrom (bytesOf x) (now (plan .entry)) at ⌝ }
 {
     let groups = groups::number(x);
@@ -46,7 +42,7 @@ fn match_groups(plan: &[u8], at: usize, x: u64) -> KeyMatch
 
 // The same. Most numbers have one group, which is compared without the little array.
 fn match_number(plan: &[u8], at: usize, x: u64) -> KeyMatch
-    requires { ⌜ Fits x × (at ≤ length (now plan)) ⌝ }
+    requires { ⌜ NumberAsked (now plan) at x ⌝ }
     ensures { λ r. ⌜ r ≡ matchFrom (bytesOf x) (now (plan .entry)) at ⌝ }
 {
     if at < plan.len() {
@@ -61,7 +57,7 @@ fn match_number(plan: &[u8], at: usize, x: u64) -> KeyMatch
 
 // Two numbers, one behind the other.
 fn match_two(plan: &[u8], at: usize, x: u64, y: u64) -> KeyMatch
-    requires { ⌜ Fits x × Fits y × (at ≤ length (now plan)) ⌝ }
+    requires { ⌜ TwoAsked (now plan) at x y ⌝ }
     ensures { λ r. ⌜ r ≡ matchFrom (encode (x ∷ y ∷ [])) (now (plan .entry)) at ⌝ }
 {
     match match_number(plan, at, x) {
@@ -77,7 +73,7 @@ fn match_two(plan: &[u8], at: usize, x: u64, y: u64) -> KeyMatch
 // The gaps of the rows of column j, which stand from `from` up to `to`. Those before i are there, up to k; `before` is the last of
 // them, or j.
 fn match_gaps(plan: &[u8], at: usize, rows: &[u32], from: usize, to: usize, j: u64) -> KeyMatch
-    requires { ⌜ (at ≤ length (now plan)) × ListAt j (now rows) from to ⌝ }
+    requires { ⌜ ListAsked (now plan) at (now rows) from to j ⌝ }
     ensures { λ r. ⌜ r ≡ matchFrom (encode (gapsOf j (slice from to (now (rows .entry))))) (now (plan .entry)) at ⌝ }
 {
     let mut k = at;
@@ -101,7 +97,7 @@ fn match_gaps(plan: &[u8], at: usize, rows: &[u32], from: usize, to: usize, j: u
 
 // The list of column j, its count and its gaps.
 fn match_list(plan: &[u8], at: usize, rows: &[u32], from: usize, to: usize, j: u64) -> KeyMatch
-    requires { ⌜ (at ≤ length (now plan)) × ListAt j (now rows) from to ⌝ }
+    requires { ⌜ ListAsked (now plan) at (now rows) from to j ⌝ }
     ensures { λ r. ⌜ r ≡ matchFrom (encode (listNumbers j (slice from to (now (rows .entry))))) (now (plan .entry)) at ⌝ }
 {
     match match_number(plan, at, (to - from) as u64) {
@@ -116,10 +112,7 @@ fn match_list(plan: &[u8], at: usize, rows: &[u32], from: usize, to: usize, j: u
 
 // The lists of the columns 1 to n. Those of the first `done` are there, up to k.
 fn match_lists(n: u64, starts: &[u64], rows: &[u32], plan: &[u8], at: usize) -> KeyMatch
-    requires inside { ⌜ at ≤ length (now plan) ⌝ }
-    requires few { ⌜ n ≤ maxColumns ⌝ }
-    requires starts_pass { ⌜ startsTest n (now starts) (now rows) ≡ passed ⌝ }
-    requires rows_pass { ⌜ rowsTest n (now starts) (now rows) ≡ passed ⌝ }
+    requires { ⌜ ListsAsked n (now starts) (now rows) (now plan) at ⌝ }
     ensures { λ r. ⌜
         r ≡ matchFrom (encode (listsNumbers 1 (listsOf n (columnOf (now (starts .entry)) (now (rows .entry)))))) (now (plan .entry)) at
         ⌝ }

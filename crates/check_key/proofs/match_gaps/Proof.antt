@@ -1,6 +1,7 @@
 -- The loop's invariant: the gaps of the rows before i are there, so those left are held against what follows at k. The measure is the rows left.
 -- Assumes nothing.
-use Prim.Native.Nat.{_-_}
+use Prim.Native.Nat.{ℕ, _-_}
+use mathlib.Core.List.{List}
 use native.Mathlib.Omega.{arith}
 use lib.Seq.{slice}
 use borrow.Author.Needs.{needs}
@@ -10,9 +11,13 @@ use Rattle.check_key.proofs.Numbers.{Left, left-all, left-number, diffe
 use Rattle.check_key.proofs.match_gaps.Statement.{statement}
 use Rattle.check_key.proofs.match_gaps.Tie as tie
 
+-- the gaps of the rows before i are there, up to k
+record Gaps (plan : List ℕ) (at : ℕ) (rows : List ℕ) (from to j k before i : ℕ) : Type 0 where
+  left : RowsLeft rows to before i
+  found : Left (gapsOf j (slice from to rows)) plan at (gapsOf before (slice i to rows)) k
+
 abbrev Inv-loop : tie.InvT-loop
-Inv-loop plan at rows from to j k₀ before₀ i₀ k before i =
-    RowsLeft rows to before i × Left (gapsOf j (slice from to rows)) plan at (gapsOf before (slice i to rows)) k
+Inv-loop plan at rows from to j k₀ before₀ i₀ k before i = Gaps plan at rows from to j k before i
 
 abbrev μ-loop : tie.MeasureT-loop
 μ-loop plan at rows from to j k₀ before₀ i₀ k before i = to - i
@@ -27,41 +32,45 @@ at-loop c = c
 abbrev in-loop : tie.In-loop Inv-loop μ-loop → tie.In-loop Inv-loop μ-loop
 in-loop c = c
 
-abbrev after-wide32 : tie.After-wide32 Inv-loop μ-loop → tie.After-wide32 Inv-loop μ-loop
-after-wide32 c = c
+abbrev row-read : tie.After-wide32 Inv-loop μ-loop → tie.After-wide32 Inv-loop μ-loop
+row-read c = c
 
 abbrev matched : tie.After-match-number Inv-loop μ-loop → tie.After-match-number Inv-loop μ-loop
 matched c = c
 
 loop-holds : tie.Need-loop-holds Inv-loop μ-loop
-loop-holds c = (rows-all (entry (search) .pre .1), left-all (entry (search) .pre .0))
+loop-holds c = record { left = rows-all (entry (search) .pre .list); found = left-all (entry (search) .pre .inside) }
 
 shared-slice-read-wide32 : tie.Need-shared-slice-read-wide32 Inv-loop μ-loop
-shared-slice-read-wide32 c = let h = at-loop (search) .loop .inv .0 .inside in search needs
+shared-slice-read-wide32 c = let h = at-loop (search) .loop .inv .left .inside in search needs
 
 sub-match-number : tie.Need-sub-match-number Inv-loop μ-loop
-sub-match-number c = let h = row-above (at-loop (search) .loop .inv .0) (in-loop (search) .loop-test .taken) (c .wide32 .ensures .0) in omega arith
+sub-match-number c =
+    let h = row-above (at-loop (search) .loop .inv .left) (in-loop (search) .loop-test .taken) (c .wide32 .ensures .same) in omega arith
 
 match-number-requires : tie.Need-match-number-requires Inv-loop μ-loop
-match-number-requires c κs = let h = c .wide32 .ensures .1 in (omega arith, at-loop (search) .loop .inv .1 .inside)
+match-number-requires c κs = let h = c .wide32 .ensures .below in record { fits = omega arith; inside = at-loop (search) .loop .inv .found .inside }
 
 returns : tie.Need-returns Inv-loop μ-loop
 returns c =
-    let (rows, found) = at-loop (search) .loop .inv in
-    differs-number found (gaps-next rows (in-loop (search) .loop-test .taken) (after-wide32 (search) .wide32 .ensures .0))
+    let gaps = at-loop (search) .loop .inv in
+    differs-number (gaps .found) (gaps-next (gaps .left) (in-loop (search) .loop-test .taken) (row-read (search) .wide32 .ensures .same))
     (matched (search) .match-number .ensures) (c .before .place .given .1)
 
 loop-again : tie.Need-loop-again Inv-loop μ-loop
 loop-again c =
-    let (rows, found) = at-loop (search) .loop .inv in
+    let gaps = at-loop (search) .loop .inv in
     let next = in-loop (search) .loop-test .taken in
-    let row = after-wide32 (search) .wide32 .ensures .0 in
-    (rows-next rows next row, left-number found (gaps-next rows next row) (matched (search) .match-number .ensures) (c .before .next .given .1))
+    let row = row-read (search) .wide32 .ensures .same in
+    record {
+      left = rows-next (gaps .left) next row;
+      found = left-number (gaps .found) (gaps-next (gaps .left) next row) (matched (search) .match-number .ensures) (c .before .next .given .1);
+    }
 
 returns-2 : tie.Need-returns-2 Inv-loop μ-loop
 returns-2 c =
-    let (rows, found) = c .before .loop .inv in
-    left-none found (gaps-none rows (c .loop-test .left))
+    let gaps = c .before .loop .inv in
+    left-none (gaps .found) (gaps-none (gaps .left) (c .loop-test .left))
 
 pub match-gaps-spec : {M : Type 1} → statement M
 match-gaps-spec =

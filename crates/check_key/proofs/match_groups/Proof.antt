@@ -23,8 +23,8 @@ abbrev μ-loop : tie.MeasureT-loop
 abbrev entry : tie.Start Inv-loop μ-loop → tie.Start Inv-loop μ-loop
 entry c = c
 
-abbrev after-number : tie.After-number Inv-loop μ-loop → tie.After-number Inv-loop μ-loop
-after-number c = c
+abbrev made : tie.After-number Inv-loop μ-loop → tie.After-number Inv-loop μ-loop
+made c = c
 
 abbrev at-loop : tie.At-loop Inv-loop μ-loop → tie.At-loop Inv-loop μ-loop
 at-loop c = c
@@ -32,18 +32,18 @@ at-loop c = c
 abbrev in-loop : tie.In-loop Inv-loop μ-loop → tie.In-loop Inv-loop μ-loop
 in-loop c = c
 
-abbrev else1 : tie.Else1 Inv-loop μ-loop → tie.Else1 Inv-loop μ-loop
-else1 c = c
+abbrev byte-there : tie.Else1 Inv-loop μ-loop → tie.Else1 Inv-loop μ-loop
+byte-there c = c
 
 number-requires : tie.Need-number-requires Inv-loop μ-loop
-number-requires c κs = c .before .pre .0
+number-requires c κs = c .before .pre .fits
 
 loop-holds : tie.Need-loop-holds Inv-loop μ-loop
-loop-holds c = bytes-start _ _ _ (entry (search) .pre .1)
+loop-holds c = bytes-start _ _ _ (entry (search) .pre .inside)
 
 returns : tie.Need-returns Inv-loop μ-loop
 returns c =
-    let n = after-number (search) .number .ensures .1 in
+    let n = made (search) .number .ensures .counted in
     let h = c .before .loop-test .taken in bytes-lack (at-loop (search) .loop .inv) (omega arith) (c .if1 .taken)
 
 shared-slice-read-if2 : tie.Need-shared-slice-read-if2 Inv-loop μ-loop
@@ -51,29 +51,29 @@ shared-slice-read-if2 c = c .before .if1 .left
 
 array-read-if2 : tie.Need-array-read-if2 Inv-loop μ-loop
 array-read-if2 c =
-    let n = after-number (search) .number .ensures .1 in
+    let n = made (search) .number .ensures .counted in
     let h = in-loop (search) .loop-test .taken in omega (arith, bytes-length (entry (search) .args .x))
 
 returns-2 : tie.Need-returns-2 Inv-loop μ-loop
 returns-2 c =
     let x = entry (search) .args .x in
-    let (stored, count) = after-number (search) .number .ensures in
+    let array = made (search) .number .ensures in
     let next = in-loop (search) .loop-test .taken in
     let h : at-loop (search) .loop .i < length (bytesOf x) = omega arith in
-    bytes-other (at-loop (search) .loop .inv) h (else1 (search) .if1 .left)
-    (λ e. c .if2 .taken (e ∙ sym (array-byte (bytesOf x) maxGroups _ stored (bytes-length x .1) h)))
+    bytes-other (at-loop (search) .loop .inv) h (byte-there (search) .if1 .left)
+    (λ e. c .if2 .taken (e ∙ sym (array-byte (bytesOf x) maxGroups _ (array .stored) (bytes-length x .1) h)))
 
 loop-again : tie.Need-loop-again Inv-loop μ-loop
 loop-again c =
     let x = entry (search) .args .x in
-    let (stored, count) = after-number (search) .number .ensures in
+    let array = made (search) .number .ensures in
     let next = in-loop (search) .loop-test .taken in
     let h : at-loop (search) .loop .i < length (bytesOf x) = omega arith in
-    bytes-turn (at-loop (search) .loop .inv) h (else1 (search) .if1 .left) (c .if2 .left ∙ array-byte (bytesOf x) maxGroups _ stored
+    bytes-turn (at-loop (search) .loop .inv) h (byte-there (search) .if1 .left) (c .if2 .left ∙ array-byte (bytesOf x) maxGroups _ (array .stored)
     (bytes-length x .1) h)
 
 returns-3 : tie.Need-returns-3 Inv-loop μ-loop
-returns-3 c = let n = after-number (search) .number .ensures .1 in let t = c .loop-test .left in bytes-stop (c .before .loop .inv) (omega arith)
+returns-3 c = let n = made (search) .number .ensures .counted in let t = c .loop-test .left in bytes-stop (c .before .loop .inv) (omega arith)
 
 pub match-groups-spec : {M : Type 1} → statement M
 match-groups-spec =

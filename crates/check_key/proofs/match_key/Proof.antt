@@ -3,7 +3,8 @@
 use native.Mathlib.Omega.{arith}
 use borrow.Author.Needs.{needs}
 use Rattle.papers.specs.Job.{jobOf}
-use Rattle.job_laws.proofs.Passed.{passes-iff, lists-iff}
+use Rattle.job_laws.proofs.Passed.{passes-iff}
+use Rattle.column_laws.proofs.Testing.{tested}
 use Rattle.key.proofs.Written.{numbers-fit}
 use Rattle.check_key.proofs.Keys.{size-differs, behind-size, mark-differs, behind-mark, lists-found}
 use Rattle.check_key.proofs.match_key.Statement.{statement}
@@ -13,62 +14,65 @@ use Rattle.check_key.proofs.match_key.Tie as tie
 abbrev entry : tie.Start → tie.Start
 entry c = c
 
-abbrev after-match-two : tie.After-match-two → tie.After-match-two
-after-match-two c = c
+abbrev size-held : tie.After-match-two → tie.After-match-two
+size-held c = c
 
-abbrev after-middle : tie.After-middle → tie.After-middle
-after-middle c = c
+abbrev size-there : tie.After-middle → tie.After-middle
+size-there c = c
 
-abbrev after-match-two2 : tie.After-match-two2 → tie.After-match-two2
-after-match-two2 c = c
+abbrev mark-held : tie.After-match-two2 → tie.After-match-two2
+mark-held c = c
 
-abbrev after-next : tie.After-next → tie.After-next
-after-next c = c
+abbrev mark-there : tie.After-next → tie.After-next
+mark-there c = c
 
 match-two-requires : tie.Need-match-two-requires
 match-two-requires c κs =
     let lent = entry (search) .args in
     let job = jobOf (lent .head) (lent .starts .now) (lent .rows .now) in
     let fit = numbers-fit job (passes-iff job .0 (entry (search) .pre)) in
-    (omega arith, fit .0, omega arith)
+    record { first-fits = omega arith; second-fits = omega arith; inside = omega arith }
 
 returns : tie.Need-returns
 returns c =
     let lent = entry (search) .args in
     let job = jobOf (lent .head) (lent .starts .now) (lent .rows .now) in
-    size-differs job _ (after-match-two (search) .match-two .ensures) (c .before .place .given .1)
+    size-differs job _ (size-held (search) .match-two .ensures) (c .before .place .given .1)
 
 match-two-requires-2 : tie.Need-match-two-requires-2
 match-two-requires-2 c κs =
     let lent = entry (search) .args in
     let job = jobOf (lent .head) (lent .starts .now) (lent .rows .now) in
     let fit = numbers-fit job (passes-iff job .0 (entry (search) .pre)) in
-    (fit .1, fit .2, behind-size job _ (after-match-two (search) .match-two .ensures) (c .before .middle .given .1) .inside)
+    record {
+      first-fits = omega arith;
+      second-fits = omega arith;
+      inside = behind-size job _ (size-held (search) .match-two .ensures) (c .before .middle .given .1) .inside;
+    }
 
 returns-2 : tie.Need-returns-2
 returns-2 c =
     let lent = entry (search) .args in
     let job = jobOf (lent .head) (lent .starts .now) (lent .rows .now) in
-    mark-differs job _ (after-match-two (search) .match-two .ensures) (after-middle (search) .middle .given .1)
-    (after-match-two2 (search) .match-two2 .ensures) (c .before .place2 .given .1)
+    mark-differs job _ (size-held (search) .match-two .ensures) (size-there (search) .middle .given .1)
+    (mark-held (search) .match-two2 .ensures) (c .before .place2 .given .1)
 
 match-lists-requires : tie.Need-match-lists-requires
 match-lists-requires c κs =
     let lent = entry (search) .args in
     let job = jobOf (lent .head) (lent .starts .now) (lent .rows .now) in
-    let passed = passes-iff job .0 (entry (search) .pre) in
-    let tests = lists-iff _ _ _ .1 (passed .lists) in (
-      behind-mark job _ (after-match-two (search) .match-two .ensures) (after-middle (search) .middle .given .1)
-          (after-match-two2 (search) .match-two2 .ensures) (c .before .next .given .1) .inside,
-      (passed .few, (tests .0, tests .1)),
-    )
+    record {
+      inside = behind-mark job _ (size-held (search) .match-two .ensures) (size-there (search) .middle .given .1)
+          (mark-held (search) .match-two2 .ensures) (c .before .next .given .1) .inside;
+      tested = tested job (entry (search) .pre);
+    }
 
 returns-3 : tie.Need-returns-3
 returns-3 c =
     let lent = entry (search) .args in
     let job = jobOf (lent .head) (lent .starts .now) (lent .rows .now) in
-    lists-found job _ (after-match-two (search) .match-two .ensures) (after-middle (search) .middle .given .1)
-    (after-match-two2 (search) .match-two2 .ensures) (after-next (search) .next .given .1) (c .match-lists .ensures)
+    lists-found job _ (size-held (search) .match-two .ensures) (size-there (search) .middle .given .1)
+    (mark-held (search) .match-two2 .ensures) (mark-there (search) .next .given .1) (c .match-lists .ensures)
 
 pub match-key-spec : {M : Type 1} → statement M
 match-key-spec =

@@ -13,23 +13,28 @@ entry c = c
 abbrev matched : tie.After-match-number → tie.After-match-number
 matched c = c
 
-abbrev after-next : tie.After-next → tie.After-next
-after-next c = c
+abbrev count-there : tie.After-next → tie.After-next
+count-there c = c
 
 returns : tie.Need-returns
 returns c =
-    let (inside, list) = entry (search) .pre in
-    differs-number (left-all inside) (list-is list) (matched (search) .match-number .ensures) (c .before .place .given .1)
+    let asked = entry (search) .pre in
+    differs-number (left-all (asked .inside)) (list-is (asked .list)) (matched (search) .match-number .ensures) (c .before .place .given .1)
 
 match-gaps-requires : tie.Need-match-gaps-requires
 match-gaps-requires c κs =
-    let (inside, list) = entry (search) .pre in
-    (left-number (left-all inside) (list-is list) (matched (search) .match-number .ensures) (c .before .next .given .1) .inside, list)
+    let asked = entry (search) .pre in
+    record {
+      inside = left-number (left-all (asked .inside)) (list-is (asked .list)) (matched (search) .match-number .ensures) (c .before .next .given .1)
+          .inside;
+      list = asked .list;
+    }
 
 returns-2 : tie.Need-returns-2
 returns-2 c =
-    let (inside, list) = entry (search) .pre in
-    left-last (left-number (left-all inside) (list-is list) (matched (search) .match-number .ensures) (after-next (search) .next .given .1))
+    let asked = entry (search) .pre in
+    left-last (left-number (left-all (asked .inside)) (list-is (asked .list)) (matched (search) .match-number .ensures)
+    (count-there (search) .next .given .1))
     (c .match-gaps .ensures)
 
 pub match-list-spec : {M : Type 1} → statement M

@@ -35,24 +35,25 @@ at-loop c = c
 abbrev in-loop : tie.In-loop Inv-loop μ-loop → tie.In-loop Inv-loop μ-loop
 in-loop c = c
 
-abbrev after-match-list : tie.After-match-list Inv-loop μ-loop → tie.After-match-list Inv-loop μ-loop
-after-match-list c = c
+abbrev list-held : tie.After-match-list Inv-loop μ-loop → tie.After-match-list Inv-loop μ-loop
+list-held c = c
 
 loop-holds : tie.Need-loop-holds Inv-loop μ-loop
 loop-holds c =
     let p = entry (search) .pre in
-    record { few = p .1 .0; lists = lists-iff _ _ _ .0 (p .1 .1 .0, p .1 .1 .1); matched = left-all (p .0) }
+    let t = p .tested in
+    record { few = t .few; lists = lists-iff _ _ _ .0 (t .starts-pass, t .rows-pass); matched = left-all (p .inside) }
 
 match-list-requires : tie.Need-match-list-requires Inv-loop μ-loop
 match-list-requires c κs =
     let l = at-loop (search) .loop .inv in
-    (l .matched .inside, column-list (l .few) (l .lists) (in-loop (search) .loop-test .taken))
+    record { inside = l .matched .inside; list = column-list (l .few) (l .lists) (in-loop (search) .loop-test .taken) }
 
 returns : tie.Need-returns Inv-loop μ-loop
 returns c =
     let l = at-loop (search) .loop .inv in
     differs-numbers (l .matched) _ _ (numbers-next (l .few) (l .lists) (in-loop (search) .loop-test .taken))
-    (after-match-list (search) .match-list .ensures) (c .before .place .given .1)
+    (list-held (search) .match-list .ensures) (c .before .place .given .1)
 
 loop-again : tie.Need-loop-again Inv-loop μ-loop
 loop-again c =
@@ -61,7 +62,7 @@ loop-again c =
       few = l .few;
       lists = l .lists;
       matched = left-numbers (l .matched) _ _ (numbers-next (l .few) (l .lists) (in-loop (search) .loop-test .taken))
-          (after-match-list (search) .match-list .ensures) (c .before .next .given .1);
+          (list-held (search) .match-list .ensures) (c .before .next .given .1);
     }
 
 returns-2 : tie.Need-returns-2 Inv-loop μ-loop

@@ -6,15 +6,15 @@ use Rattle.check_key.proofs.Bytes.{one-byte}
 use Rattle.check_key.proofs.match_number.Statement.{statement}
 use Rattle.check_key.proofs.match_number.Tie as tie
 
--- The places that the answers look back to: `then1 (search)` is the one behind the answer at hand.
-abbrev then1 : tie.Then1 → tie.Then1
-then1 c = c
+-- The places that the answers look back to: `byte-there (search)` is the one behind the answer at hand.
+abbrev byte-there : tie.Then1 → tie.Then1
+byte-there c = c
 
-abbrev then2 : tie.Then2 → tie.Then2
-then2 c = c
+abbrev one-group : tie.Then2 → tie.Then2
+one-group c = c
 
 returns : tie.Need-returns
-returns c = one-byte _ _ _ (then2 (search) .if2 .taken) (then1 (search) .if1 .taken) (sym (c .before .wide8 .ensures .0) ∙ c .if3 .taken)
+returns c = one-byte _ _ _ (one-group (search) .if2 .taken) (byte-there (search) .if1 .taken) (sym (c .before .wide8 .ensures .same) ∙ c .if3 .taken)
 
 pub match-number-spec : {M : Type 1} → statement M
 match-number-spec =

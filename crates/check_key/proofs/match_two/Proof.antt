@@ -15,23 +15,23 @@ entry c = c
 abbrev matched : tie.After-match-number → tie.After-match-number
 matched c = c
 
-abbrev after-next : tie.After-next → tie.After-next
-after-next c = c
+abbrev first-there : tie.After-next → tie.After-next
+first-there c = c
 
 returns : tie.Need-returns
-returns c = differs-number (left-all (entry (search) .pre .2)) refl (matched (search) .match-number .ensures) (c .before .place .given .1)
+returns c = differs-number (left-all (entry (search) .pre .inside)) refl (matched (search) .match-number .ensures) (c .before .place .given .1)
 
 match-number-requires-2 : tie.Need-match-number-requires-2
-match-number-requires-2 c κs = (
-  entry (search) .pre .1,
-  bytes-inside (bytesOf (entry (search) .args .x)) _ _ (entry (search) .pre .2)
-      (sym (matched (search) .match-number .ensures) ∙ c .before .next .given .1),
-)
+match-number-requires-2 c κs = record {
+  fits = entry (search) .pre .second-fits;
+  inside = bytes-inside (bytesOf (entry (search) .args .x)) _ _ (entry (search) .pre .inside)
+      (sym (matched (search) .match-number .ensures) ∙ c .before .next .given .1);
+}
 
 returns-2 : tie.Need-returns-2
 returns-2 c =
-    left-one (left-number (left-all (entry (search) .pre .2)) refl (matched (search) .match-number .ensures) (after-next (search) .next .given .1))
-    refl (c .match-number2 .ensures)
+    left-one (left-number (left-all (entry (search) .pre .inside)) refl (matched (search) .match-number .ensures)
+    (first-there (search) .next .given .1)) refl (c .match-number2 .ensures)
 
 pub match-two-spec : {M : Type 1} → statement M
 match-two-spec =

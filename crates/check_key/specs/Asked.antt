@@ -1,0 +1,29 @@
+-- What is asked of a job's numbers and lists, and of a place of the plan, before they are held against each other.
+-- Assumes nothing.
+use Prim.Native.Nat.{ℕ, _≤_}
+use mathlib.Core.List.{List}
+use lib.ListN.{length}
+use Rattle.column_laws.specs.Tested.{Tested}
+use Rattle.groups.specs.Fits.{Fits}
+use Rattle.write_gaps.specs.ListAt.{ListAt}
+
+-- a number, against what stands at a place inside the plan
+pub record NumberAsked (plan : List ℕ) (at x : ℕ) : Type 0 where
+  pub fits : Fits x
+  pub inside : at ≤ length plan
+
+-- two numbers
+pub record TwoAsked (plan : List ℕ) (at x y : ℕ) : Type 0 where
+  pub first-fits : Fits x
+  pub second-fits : Fits y
+  pub inside : at ≤ length plan
+
+-- the list of column j
+pub record ListAsked (plan : List ℕ) (at : ℕ) (rows : List ℕ) (from to j : ℕ) : Type 0 where
+  pub inside : at ≤ length plan
+  pub list : ListAt j rows from to
+
+-- the lists of n columns
+pub record ListsAsked (n : ℕ) (starts rows plan : List ℕ) (at : ℕ) : Type 0 where
+  pub inside : at ≤ length plan
+  pub tested : Tested n starts rows
