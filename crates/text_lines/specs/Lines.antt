@@ -13,6 +13,11 @@ use Rattle.text_lines.specs.Narrowed.{narrowed}
 use Rattle.text_lines.specs.declared.Line.{Line}
 use Rattle.text_lines.specs.declared.Line.the-variants.{Rows, Bad}
 
+-- rows to be read from a place inside the text, and kept from place t on, no further on than they are read
+pub record RowsAsked (text : List ℕ) (at t : ℕ) : Type 0 where
+  pub inside : at ≤ length text
+  pub behind : t ≤ at
+
 -- the numbers from `at` to the end of the line, and each kept from place t on
 pub data RowsTold (text : List ℕ) (at t : ℕ) (rows₀ rows : List ℕ) (r : Line) : Type 0 where
   all-rows : (list : List ℕ) (next : ℕ) → r ≡ Rows (length list) next → numbersAt (drop at text) 1 ≡ list → 0 < length list → LineTo text at next

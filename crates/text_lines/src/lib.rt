@@ -2,10 +2,9 @@
 // A line is read to its end or to its first bad word, so that bad text in it is found before anything else is said of it.
 use text_words::Word;
 ghost use mathlib.Core.Path.{_≡_};
-ghost use lib.ListN.{set, length};
+ghost use lib.ListN.{set};
 ghost use Rattle.text_lines.specs.Narrowed.{narrowed};
-ghost use Prim.Native.Nat.{_≤_};
-ghost use Rattle.text_lines.specs.Lines.{RowsTold, LineTold};
+ghost use Rattle.text_lines.specs.Lines.{RowsAsked, RowsTold, LineTold};
 
 // The greatest number of 32 bits.
 const MAX_NARROW: u64 = 4294967295;
@@ -38,7 +37,7 @@ pub enum Line {
 // The numbers from `at` to the end of the line, kept as rows from place t on while there is room. The first `count` are read and kept,
 // the next stands at k.
 fn read_rows(text: &[u8], at: usize, rows: &mut [u32], t: usize) -> Line
-    requires { ⌜ (at ≤ length (now text)) × (t ≤ at) ⌝ }
+    requires { ⌜ RowsAsked (now text) at t ⌝ }
     ensures { λ r. ⌜ RowsTold (now (text .entry)) at t (now (rows .entry)) (now (rows .exit)) r ⌝ }
 {
     let mut k = at;
@@ -67,7 +66,7 @@ fn read_rows(text: &[u8], at: usize, rows: &mut [u32], t: usize) -> Line
 
 // The line of rows that begins at `at`: a count, and that many rows, kept from place t on while there is room.
 pub fn read_line(text: &[u8], at: usize, rows: &mut [u32], t: usize) -> Line
-    requires { ⌜ (at ≤ length (now text)) × (t ≤ at) ⌝ }
+    requires { ⌜ RowsAsked (now text) at t ⌝ }
     ensures { λ r. ⌜ LineTold (now (text .entry)) at t (now (rows .entry)) (now (rows .exit)) r ⌝ }
 {
     match text_words::read_word(text, at) {

@@ -1,16 +1,18 @@
 -- What is read of a job text, and what is kept of it. Rows are kept narrowed, as kept_rows does it; that the job's tests do not see the difference is
 -- a theorem. After a refusal nothing is said of the slices.
 -- Assumes nothing.
-use Prim.Native.Nat.{ℕ}
+use Prim.Native.Nat.{ℕ, _<_, _≤_}
 use mathlib.Core.Path.{_≡_}
 use mathlib.Core.Bool.{false}
 use mathlib.Core.List.{List, [], _∷_, map}
 use lib.ListN.{length}
 use lib.Seq.{sets}
+use Rattle.papers.specs.Bounds.{programColumns}
 use Rattle.papers.specs.Lists.{flat, startsFrom}
 use Rattle.papers.specs.Job.{Job}
 use Rattle.papers.specs.Refusals.{answer, untouched, passed, refused, first}
 use Rattle.papers.specs.Text.{Input, textHead, textLists, textJob, rowLinesTest, endTest, textTests}
+use Rattle.text_words.specs.Words.{LineTo}
 use Rattle.text_lines.specs.Narrowed.{narrowed}
 use Rattle.text_reader.specs.declared.Lines.{Lines}
 use Rattle.text_reader.specs.declared.Lines.the-variants as lines
@@ -24,6 +26,13 @@ columnLists text = textLists text (textHead text .n)
 -- a text that is whole
 abbrev pub whole : List ℕ → Input
 whole text = record { text = text; more = false }
+
+-- the lines of rows, to be read behind line 1, which gives n; and there are places for where each column starts
+pub record LinesAsked (text : List ℕ) (at n : ℕ) (starts : List ℕ) : Type 0 where
+  pub begins : LineTo text 0 at
+  pub size : n ≡ textHead text .n
+  pub few : n ≤ programColumns
+  pub long : programColumns < length starts
 
 -- the lines of rows and what follows them
 pub data LinesTold (text starts₀ rows₀ starts rows : List ℕ) (r : Lines) : Type 0 where

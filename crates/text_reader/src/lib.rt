@@ -1,11 +1,8 @@
 // A job text read into lent slices, line by line, with 25 and 26 by the first line at fault.
-ghost use mathlib.Core.Path.{_≡_};
-ghost use Prim.Native.Nat.{_≤_, _<_};
+ghost use Prim.Native.Nat.{_<_};
 ghost use lib.ListN.{length};
 ghost use Rattle.papers.specs.Bounds.{programColumns};
-ghost use Rattle.papers.specs.Text.{textHead};
-ghost use Rattle.text_words.specs.Words.{LineTo};
-ghost use Rattle.text_reader.specs.Reading.{LinesTold, JobTold};
+ghost use Rattle.text_reader.specs.Reading.{LinesAsked, LinesTold, JobTold};
 use papers::JobHead;
 use text_head::Head;
 use text_lines::Line;
@@ -24,7 +21,7 @@ pub enum JobRead {
 
 // The n lines of rows from `at` on, and the end of the text. The lines of the first j columns are read, up to k, with `total` rows.
 fn read_lines(text: &[u8], at: usize, n: u64, starts: &mut [u64], rows: &mut [u32]) -> Lines
-    requires { ⌜ (LineTo (now text) 0 at) × (n ≡ textHead (now text) .n) × (n ≤ programColumns) × (programColumns < length (now starts)) ⌝ }
+    requires { ⌜ LinesAsked (now text) at n (now starts) ⌝ }
     ensures { λ r. ⌜ LinesTold (now (text .entry)) (now (starts .entry)) (now (rows .entry)) (now (starts .exit)) (now (rows .exit)) r ⌝ }
 {
     let mut j = 0;

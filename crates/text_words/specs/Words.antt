@@ -26,6 +26,11 @@ pub record DigitsRead (text : List ℕ) (at count value : ℕ) : Type 0 where
 abbrev pub Stop : List ℕ → ℕ → ℕ → Type 0
 Stop text at count = (count ≡ maxDigits) ⊎ ((at + count ≡ length text) ⊎ (¬ Digit (getD text (at + count) 0)))
 
+-- all digits from `at` on, as many as a decimal may have
+pub record DigitsFound (text : List ℕ) (at count value : ℕ) : Type 0 where
+  pub reads : DigitsRead text at count value
+  pub stops : Stop text at count
+
 -- the number x at `at`, in front of the byte b, and the place behind that
 pub record Number (text : List ℕ) (at b x next : ℕ) : Type 0 where
   pub short : Short x

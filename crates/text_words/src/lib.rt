@@ -3,7 +3,7 @@ ghost use mathlib.Core.Path.{_≡_};
 ghost use Prim.Native.Nat.{_≤_};
 ghost use lib.ListN.{length, take, drop};
 ghost use Rattle.papers.specs.Text.{isDigit, isDecimal};
-ghost use Rattle.text_words.specs.Words.{DigitsAt, DigitsRead, Stop, WordRead};
+ghost use Rattle.text_words.specs.Words.{DigitsAt, DigitsFound, WordRead};
 
 // What stands at a place of a text: a number in front of a space, or of a newline, and the place behind that; or neither.
 pub enum Word {
@@ -28,8 +28,7 @@ fn is_digit(b: u64) -> bool
 // The digits from `at` on, up to the first byte that is none, at most 13. The first i bytes are digits, of this value.
 fn read_digits(text: &[u8], at: usize) -> Digits
     requires { ⌜ at ≤ length (now text) ⌝ }
-    ensures reads { λ r. ⌜ DigitsRead (now (text .entry)) at (r .count) (r .value) ⌝ }
-    ensures stops { λ r. ⌜ Stop (now (text .entry)) at (r .count) ⌝ }
+    ensures { λ r. ⌜ DigitsFound (now (text .entry)) at (r .count) (r .value) ⌝ }
 {
     let most = basics::lesser(text.len() - at, program_sizes::MAX_DIGITS);
     let mut i = 0;

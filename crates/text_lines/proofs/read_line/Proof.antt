@@ -11,52 +11,52 @@ use Rattle.text_lines.proofs.read_line.Tie as tie
 abbrev entry : tie.Start → tie.Start
 entry c = c
 
-abbrev after-read-word : tie.After-read-word → tie.After-read-word
-after-read-word c = c
+abbrev count-told : tie.After-read-word → tie.After-read-word
+count-told c = c
 
-abbrev after-said : tie.After-said → tie.After-said
-after-said c = c
+abbrev alone : tie.After-said → tie.After-said
+alone c = c
 
-abbrev after-said2 : tie.After-said2 → tie.After-said2
-after-said2 c = c
+abbrev count-read : tie.After-said2 → tie.After-said2
+count-read c = c
 
-abbrev after-read-rows : tie.After-read-rows → tie.After-read-rows
-after-read-rows c = c
+abbrev rows-told : tie.After-read-rows → tie.After-read-rows
+rows-told c = c
 
-abbrev after-count : tie.After-count → tie.After-count
-after-count c = c
+abbrev rows-read : tie.After-count → tie.After-count
+rows-read c = c
 
 enum-told : tie.Need-enum-told
 enum-told c = search needs
 
 returns : tie.Need-returns
-returns c = line-bad (word-bad (after-read-word (search) .read-word .ensures) (c .enum-told .given .1))
+returns c = line-bad (word-bad (count-told (search) .read-word .ensures) (c .enum-told .given .1))
 
 returns-2 : tie.Need-returns-2
-returns-2 c = line-lacks (word-last (after-read-word (search) .read-word .ensures) (after-said (search) .said .given .1)) (c .if1 .taken)
+returns-2 c = line-lacks (word-last (count-told (search) .read-word .ensures) (alone (search) .said .given .1)) (c .if1 .taken)
 
 returns-3 : tie.Need-returns-3
-returns-3 c = line-alone (word-last (after-read-word (search) .read-word .ensures) (after-said (search) .said .given .1)) (c .if1 .left)
+returns-3 c = line-alone (word-last (count-told (search) .read-word .ensures) (alone (search) .said .given .1)) (c .if1 .left)
 
 read-rows-requires : tie.Need-read-rows-requires
 read-rows-requires c κs =
-    let w = word-more (after-read-word (search) .read-word .ensures) (after-said2 (search) .said2 .given .1) in
-    let o = w .on in let p = entry (search) .pre .1 in (w .inside, omega arith)
+    let w = word-more (count-told (search) .read-word .ensures) (count-read (search) .said2 .given .1) in
+    record { inside = w .inside; behind = omega (arith, w .on, entry (search) .pre) }
 
 returns-4 : tie.Need-returns-4
 returns-4 c =
-    line-no-rows (word-more (after-read-word (search) .read-word .ensures) (after-said2 (search) .said2 .given .1))
-    (after-read-rows (search) .read-rows .ensures) (c .enum-told2 .given .1)
+    line-no-rows (word-more (count-told (search) .read-word .ensures) (count-read (search) .said2 .given .1))
+    (rows-told (search) .read-rows .ensures) (c .enum-told2 .given .1)
 
 returns-5 : tie.Need-returns-5
 returns-5 c =
-    line-differs (word-more (after-read-word (search) .read-word .ensures) (after-said2 (search) .said2 .given .1))
-    (after-read-rows (search) .read-rows .ensures) (after-count (search) .count .given .1) (c .if2 .taken)
+    line-differs (word-more (count-told (search) .read-word .ensures) (count-read (search) .said2 .given .1))
+    (rows-told (search) .read-rows .ensures) (rows-read (search) .count .given .1) (c .if2 .taken)
 
 returns-6 : tie.Need-returns-6
 returns-6 c =
-    line-rows (word-more (after-read-word (search) .read-word .ensures) (after-said2 (search) .said2 .given .1))
-    (after-read-rows (search) .read-rows .ensures) (after-count (search) .count .given .1) (c .if2 .left)
+    line-rows (word-more (count-told (search) .read-word .ensures) (count-read (search) .said2 .given .1))
+    (rows-told (search) .read-rows .ensures) (rows-read (search) .count .given .1) (c .if2 .left)
 
 pub read-line-spec : {M : Type 1} → statement M
 read-line-spec =

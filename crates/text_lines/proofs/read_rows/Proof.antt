@@ -1,7 +1,6 @@
 -- The loop's invariant: the numbers before k are read and kept, and the rest of the line, behind them, is the line's. The measure is the text left.
 -- Assumes nothing.
 use Prim.Native.Nat.{_-_}
-use mathlib.Core.Path.{_∙_}
 use native.Mathlib.Omega.{arith}
 use lib.ListN.{length}
 use borrow.Author.Needs.{needs}
@@ -29,20 +28,20 @@ in-loop c = c
 abbrev read : tie.After-read-word Inv-loop μ-loop → tie.After-read-word Inv-loop μ-loop
 read c = c
 
-abbrev after-value : tie.After-value Inv-loop μ-loop → tie.After-value Inv-loop μ-loop
-after-value c = c
+abbrev last-read : tie.After-value Inv-loop μ-loop → tie.After-value Inv-loop μ-loop
+last-read c = c
 
-abbrev after-value2 : tie.After-value2 Inv-loop μ-loop → tie.After-value2 Inv-loop μ-loop
-after-value2 c = c
+abbrev next-read : tie.After-value2 Inv-loop μ-loop → tie.After-value2 Inv-loop μ-loop
+next-read c = c
 
-abbrev after-keep-row : tie.After-keep-row Inv-loop μ-loop → tie.After-keep-row Inv-loop μ-loop
-after-keep-row c = c
+abbrev last-kept : tie.After-keep-row Inv-loop μ-loop → tie.After-keep-row Inv-loop μ-loop
+last-kept c = c
 
-abbrev after-keep-row2 : tie.After-keep-row2 Inv-loop μ-loop → tie.After-keep-row2 Inv-loop μ-loop
-after-keep-row2 c = c
+abbrev next-kept : tie.After-keep-row2 Inv-loop μ-loop → tie.After-keep-row2 Inv-loop μ-loop
+next-kept c = c
 
 loop-holds : tie.Need-loop-holds Inv-loop μ-loop
-loop-holds c = rows-start _ _ _ _ (entry (search) .pre .0)
+loop-holds c = rows-start _ _ _ _ (entry (search) .pre .inside)
 
 read-word-requires : tie.Need-read-word-requires Inv-loop μ-loop
 read-word-requires c κs = c .before .loop .inv .inside
@@ -57,22 +56,22 @@ returns : tie.Need-returns Inv-loop μ-loop
 returns c = rows-bad (at-loop (search) .loop .inv) (word-bad (read (search) .read-word .ensures) (c .enum-told .given .1))
 
 same-length-2 : tie.Need-same-length-2 Inv-loop μ-loop
-same-length-2 c = after-keep-row (search) .keep-row .kept .0 ∙ rows-long (at-loop (search) .loop .inv)
+same-length-2 c = omega (arith, last-kept (search) .keep-row .kept, rows-long (at-loop (search) .loop .inv))
 
 returns-2 : tie.Need-returns-2 Inv-loop μ-loop
 returns-2 c =
-    rows-last (at-loop (search) .loop .inv) (word-last (read (search) .read-word .ensures) (after-value (search) .value .given .1))
-    (after-keep-row (search) .keep-row .ensures)
+    rows-last (at-loop (search) .loop .inv) (word-last (read (search) .read-word .ensures) (last-read (search) .value .given .1))
+    (last-kept (search) .keep-row .ensures)
 
 loop-less : tie.Need-loop-less Inv-loop μ-loop
 loop-less c =
-    let o = word-more (read (search) .read-word .ensures) (after-value2 (search) .value2 .given .1) .on in
+    let o = word-more (read (search) .read-word .ensures) (next-read (search) .value2 .given .1) .on in
     let t = in-loop (search) .loop-test .taken in omega arith
 
 loop-again : tie.Need-loop-again Inv-loop μ-loop
 loop-again c =
-    rows-turn (at-loop (search) .loop .inv) (word-more (read (search) .read-word .ensures) (after-value2 (search) .value2 .given .1))
-    (after-keep-row2 (search) .keep-row2 .ensures)
+    rows-turn (at-loop (search) .loop .inv) (word-more (read (search) .read-word .ensures) (next-read (search) .value2 .given .1))
+    (next-kept (search) .keep-row2 .ensures)
 
 same-length-3 : tie.Need-same-length-3 Inv-loop μ-loop
 same-length-3 c = rows-long (c .before .loop .inv)

@@ -10,23 +10,23 @@ use Rattle.text_reader.proofs.read_job.Tie as tie
 abbrev entry : tie.Start → tie.Start
 entry c = c
 
-abbrev else1 : tie.Else1 → tie.Else1
-else1 c = c
+abbrev all-lent : tie.Else1 → tie.Else1
+all-lent c = c
 
-abbrev else2 : tie.Else2 → tie.Else2
-else2 c = c
+abbrev short : tie.Else2 → tie.Else2
+short c = c
 
-abbrev after-read-head : tie.After-read-head → tie.After-read-head
-after-read-head c = c
+abbrev head-told : tie.After-read-head → tie.After-read-head
+head-told c = c
 
-abbrev after-head : tie.After-head → tie.After-head
-after-head c = c
+abbrev head-read : tie.After-head → tie.After-head
+head-read c = c
 
-abbrev else3 : tie.Else3 → tie.Else3
-else3 c = c
+abbrev size-fits : tie.Else3 → tie.Else3
+size-fits c = c
 
-abbrev after-read-lines : tie.After-read-lines → tie.After-read-lines
-after-read-lines c = c
+abbrev lines-told : tie.After-read-lines → tie.After-read-lines
+lines-told c = c
 
 returns : tie.Need-returns
 returns c = told-more (c .if1 .taken)
@@ -39,29 +39,29 @@ enum-told c = search needs
 
 returns-3 : tie.Need-returns-3
 returns-3 c =
-    told-bad-head (else1 (search) .if1 .left) (else2 (search) .if2 .left) (told-no-head (after-read-head (search) .read-head .ensures)
+    told-bad-head (all-lent (search) .if1 .left) (short (search) .if2 .left) (told-no-head (head-told (search) .read-head .ensures)
     (c .enum-told .given .1))
 
 returns-4 : tie.Need-returns-4
 returns-4 c =
-    told-columns (else1 (search) .if1 .left) (else2 (search) .if2 .left) (told-head (after-read-head (search) .read-head .ensures)
-    (after-head (search) .head .given .1)) (c .if3 .taken)
+    told-columns (all-lent (search) .if1 .left) (short (search) .if2 .left) (told-head (head-told (search) .read-head .ensures)
+    (head-read (search) .head .given .1)) (c .if3 .taken)
 
 read-lines-requires : tie.Need-read-lines-requires
 read-lines-requires c κs =
-    let x = told-head (after-read-head (search) .read-head .ensures) (after-head (search) .head .given .1) in
-    (x .ends, sym (ap (λ q. q .n) (x .is)), else3 (search) .if3 .left, entry (search) .pre)
+    let x = told-head (head-told (search) .read-head .ensures) (head-read (search) .head .given .1) in
+    record { begins = x .ends; size = sym (ap (λ q. q .n) (x .is)); few = size-fits (search) .if3 .left; long = entry (search) .pre }
 
 returns-5 : tie.Need-returns-5
 returns-5 c =
-    told-bad-lines (else1 (search) .if1 .left) (else2 (search) .if2 .left) (told-head (after-read-head (search) .read-head .ensures)
-    (after-head (search) .head .given .1)) (else3 (search) .if3 .left) (after-read-lines (search) .read-lines .ensures)
+    told-bad-lines (all-lent (search) .if1 .left) (short (search) .if2 .left) (told-head (head-told (search) .read-head .ensures)
+    (head-read (search) .head .given .1)) (size-fits (search) .if3 .left) (lines-told (search) .read-lines .ensures)
     (c .before .number .given .1)
 
 returns-6 : tie.Need-returns-6
 returns-6 c =
-    told-job (else1 (search) .if1 .left) (else2 (search) .if2 .left) (told-head (after-read-head (search) .read-head .ensures)
-    (after-head (search) .head .given .1)) (else3 (search) .if3 .left) (after-read-lines (search) .read-lines .ensures)
+    told-job (all-lent (search) .if1 .left) (short (search) .if2 .left) (told-head (head-told (search) .read-head .ensures)
+    (head-read (search) .head .given .1)) (size-fits (search) .if3 .left) (lines-told (search) .read-lines .ensures)
     (c .before .count .given .1)
 
 pub read-job-spec : {M : Type 1} → statement M

@@ -2,9 +2,9 @@
 -- the columns left.
 -- Assumes nothing.
 use Prim.Native.Nat.{_-_}
-use mathlib.Core.Path.{refl, _∙_}
+use mathlib.Core.Path.{_≡_, refl, _∙_}
 use native.Mathlib.Omega.{arith}
-use lib.ListN.{length-set}
+use lib.ListN.{length, length-set}
 use denote.Ref.{now}
 use borrow.Author.Needs.{needs}
 use Rattle.text_reader.proofs.RowLines.{told-rows, told-bad}
@@ -32,27 +32,28 @@ in-loop c = c
 abbrev read : tie.After-read-line Inv-loop μ-loop → tie.After-read-line Inv-loop μ-loop
 read c = c
 
-abbrev after-count : tie.After-count Inv-loop μ-loop → tie.After-count Inv-loop μ-loop
-after-count c = c
+abbrev line-read : tie.After-count Inv-loop μ-loop → tie.After-count Inv-loop μ-loop
+line-read c = c
+
+abbrev entry-of : tie.At-loop Inv-loop μ-loop → tie.Start Inv-loop μ-loop
+entry-of c = search
+
+-- the starts keep their length
+starts-kept : (c : tie.At-loop Inv-loop μ-loop) → length (c .loop .starts) ≡ length (now (entry-of c .args .starts))
+starts-kept c = starts-long (c .loop .inv) ∙ length-set (now (entry-of c .args .starts)) 0 0
 
 loop-holds : tie.Need-loop-holds Inv-loop μ-loop
-loop-holds c = lines-start _ _ (now (entry (search) .args .starts)) _ (entry (search) .pre .0)
+loop-holds c = lines-start _ _ (now (entry (search) .args .starts)) _ (entry (search) .pre .begins)
 
 read-line-requires : tie.Need-read-line-requires Inv-loop μ-loop
-read-line-requires c κs = (at-loop (search) .loop .inv .inside, at-loop (search) .loop .inv .paced)
+read-line-requires c κs = let l = at-loop (search) .loop .inv in record { inside = l .inside; behind = l .paced }
 
 enum-told : tie.Need-enum-told Inv-loop μ-loop
 enum-told c = search needs
 
-same-length : tie.Need-same-length Inv-loop μ-loop
-same-length c = starts-long (at-loop (search) .loop .inv) ∙ length-set (now (entry (search) .args .starts)) 0 0
-
-same-length-2 : tie.Need-same-length-2 Inv-loop μ-loop
-same-length-2 c = omega (arith, read (search) .read-line .kept, rows-long (at-loop (search) .loop .inv))
-
 returns : tie.Need-returns Inv-loop μ-loop
 returns c =
-    told-first (lines-bad (at-loop (search) .loop .inv) (entry (search) .pre .1) (in-loop (search) .loop-test .taken)
+    told-first (lines-bad (at-loop (search) .loop .inv) (entry (search) .pre .size) (in-loop (search) .loop-test .taken)
     (told-bad (read (search) .read-line .ensures) (c .enum-told .given .1)))
 
 add-total : tie.Need-add-total Inv-loop μ-loop
@@ -60,44 +61,24 @@ add-total c =
     let y = told-rows (read (search) .read-line .ensures) (c .before .count .given .1) in
     let p = y .paced in let i = y .ends .inside in let q = at-loop (search) .loop .inv .paced in search needs
 
-same-length-3 : tie.Need-same-length-3 Inv-loop μ-loop
-same-length-3 c = starts-long (at-loop (search) .loop .inv) ∙ length-set (now (entry (search) .args .starts)) 0 0
-
-same-length-4 : tie.Need-same-length-4 Inv-loop μ-loop
-same-length-4 c = omega (arith, read (search) .read-line .kept, rows-long (at-loop (search) .loop .inv))
-
 returns-2 : tie.Need-returns-2 Inv-loop μ-loop
 returns-2 c =
-    told-first (lines-over (at-loop (search) .loop .inv) (told-rows (read (search) .read-line .ensures) (after-count (search) .count .given .1))
-    (entry (search) .pre .1) (in-loop (search) .loop-test .taken) (c .if1 .taken))
+    told-first (lines-over (at-loop (search) .loop .inv) (told-rows (read (search) .read-line .ensures) (line-read (search) .count .given .1))
+    (entry (search) .pre .size) (in-loop (search) .loop-test .taken) (c .if1 .taken))
 
 slice-write-starts-2 : tie.Need-slice-write-starts-2 Inv-loop μ-loop
-slice-write-starts-2 c =
-    let e = starts-long (at-loop (search) .loop .inv) ∙ length-set (now (entry (search) .args .starts)) 0 0 in
-    let t = in-loop (search) .loop-test .taken in let p = entry (search) .pre .2 in let q = entry (search) .pre .3 in omega arith
+slice-write-starts-2 c = omega (arith, starts-kept (search), in-loop (search) .loop-test .taken, entry (search) .pre)
 
 loop-again : tie.Need-loop-again Inv-loop μ-loop
 loop-again c =
-    lines-turn (at-loop (search) .loop .inv) (told-rows (read (search) .read-line .ensures) (after-count (search) .count .given .1))
+    lines-turn (at-loop (search) .loop .inv) (told-rows (read (search) .read-line .ensures) (line-read (search) .count .given .1))
     (in-loop (search) .loop-test .taken) (c .if1 .left) refl
 
-same-length-5 : tie.Need-same-length-5 Inv-loop μ-loop
-same-length-5 c = starts-long (at-loop (search) .loop .inv) ∙ length-set (now (entry (search) .args .starts)) 0 0
-
-same-length-6 : tie.Need-same-length-6 Inv-loop μ-loop
-same-length-6 c = rows-long (at-loop (search) .loop .inv)
-
 returns-3 : tie.Need-returns-3 Inv-loop μ-loop
-returns-3 c = told-first (lines-left (at-loop (search) .loop .inv) (entry (search) .pre .1) (c .before .loop-test .left) (c .if2 .taken))
-
-same-length-7 : tie.Need-same-length-7 Inv-loop μ-loop
-same-length-7 c = starts-long (at-loop (search) .loop .inv) ∙ length-set (now (entry (search) .args .starts)) 0 0
-
-same-length-8 : tie.Need-same-length-8 Inv-loop μ-loop
-same-length-8 c = rows-long (at-loop (search) .loop .inv)
+returns-3 c = told-first (lines-left (at-loop (search) .loop .inv) (entry (search) .pre .size) (c .before .loop-test .left) (c .if2 .taken))
 
 returns-4 : tie.Need-returns-4 Inv-loop μ-loop
-returns-4 c = told-first (lines-done (at-loop (search) .loop .inv) (entry (search) .pre .1) (c .before .loop-test .left) (c .if2 .left))
+returns-4 c = told-first (lines-done (at-loop (search) .loop .inv) (entry (search) .pre .size) (c .before .loop-test .left) (c .if2 .left))
 
 pub read-lines-spec : {M : Type 1} → statement M
 read-lines-spec =
@@ -110,14 +91,14 @@ read-lines-spec =
     read-line-requires
     enum-told
     (λ c. search needs)
-    same-length
-    same-length-2
+    (λ c. starts-kept (search))
+    (λ c. omega (arith, read (search) .read-line .kept, rows-long (at-loop (search) .loop .inv)))
     returns
     (λ c. search needs)
     add-total
     (λ c. search needs)
-    same-length-3
-    same-length-4
+    (λ c. starts-kept (search))
+    (λ c. omega (arith, read (search) .read-line .kept, rows-long (at-loop (search) .loop .inv)))
     returns-2
     (λ c. search needs)
     (λ c. search needs)
@@ -125,9 +106,9 @@ read-lines-spec =
     (λ c. search needs)
     loop-again
     (λ c. search needs)
-    same-length-5
-    same-length-6
+    (λ c. starts-kept (search))
+    (λ c. rows-long (at-loop (search) .loop .inv))
     returns-3
-    same-length-7
-    same-length-8
+    (λ c. starts-kept (search))
+    (λ c. rows-long (at-loop (search) .loop .inv))
     returns-4)

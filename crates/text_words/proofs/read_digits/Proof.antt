@@ -19,8 +19,8 @@ abbrev μ-loop : tie.MeasureT-loop
 abbrev entry : tie.Start Inv-loop μ-loop → tie.Start Inv-loop μ-loop
 entry c = c
 
-abbrev after-lesser : tie.After-lesser Inv-loop μ-loop → tie.After-lesser Inv-loop μ-loop
-after-lesser c = c
+abbrev limited : tie.After-lesser Inv-loop μ-loop → tie.After-lesser Inv-loop μ-loop
+limited c = c
 
 abbrev at-loop : tie.At-loop Inv-loop μ-loop → tie.At-loop Inv-loop μ-loop
 at-loop c = c
@@ -28,47 +28,45 @@ at-loop c = c
 abbrev in-loop : tie.In-loop Inv-loop μ-loop → tie.In-loop Inv-loop μ-loop
 in-loop c = c
 
-abbrev after-wide8 : tie.After-wide8 Inv-loop μ-loop → tie.After-wide8 Inv-loop μ-loop
-after-wide8 c = c
+abbrev byte-read : tie.After-wide8 Inv-loop μ-loop → tie.After-wide8 Inv-loop μ-loop
+byte-read c = c
 
 loop-holds : tie.Need-loop-holds Inv-loop μ-loop
 loop-holds c = digits-start _ _ (entry (search) .pre)
 
 returns : tie.Need-returns Inv-loop μ-loop
-returns c = (
-  at-loop (search) .loop .inv,
-  inr (inr (rw (after-wide8 (search) .wide8 .ensures .0) at (digit-no _ (c .before .is-digit .ensures) (c .if1 .taken)))),
-)
+returns c = record {
+  reads = at-loop (search) .loop .inv;
+  stops = inr (inr (rw (byte-read (search) .wide8 .ensures .same) at (digit-no _ (c .before .is-digit .ensures) (c .if1 .taken))));
+}
 
 mul-value : tie.Need-mul-value Inv-loop μ-loop
 mul-value c =
-    let few = after-lesser (search) .lesser .ensures in
+    let few = limited (search) .lesser .ensures in
     let fit = digits-fit _ _ (at-loop (search) .loop .inv) (omega (arith, in-loop (search) .loop-test .taken)) in omega arith
 
 sub-value : tie.Need-sub-value Inv-loop μ-loop
-sub-value c = digit-yes _ (c .before .is-digit .ensures) (c .if1 .left) .0
+sub-value c = omega (arith, digit-yes _ (c .before .is-digit .ensures) (c .if1 .left))
 
 add-value : tie.Need-add-value Inv-loop μ-loop
 add-value c =
-    let few = after-lesser (search) .lesser .ensures in
+    let few = limited (search) .lesser .ensures in
     let fit = digits-fit _ _ (at-loop (search) .loop .inv) (omega (arith, in-loop (search) .loop-test .taken)) in
-    let high = after-wide8 (search) .wide8 .ensures .1 in omega arith
+    let high = byte-read (search) .wide8 .ensures .below in omega arith
 
 loop-again : tie.Need-loop-again Inv-loop μ-loop
 loop-again c =
-    let few = after-lesser (search) .lesser .ensures in
+    let few = limited (search) .lesser .ensures in
     let t = in-loop (search) .loop-test .taken in
-    digits-turn _ _ (at-loop (search) .loop .inv) (omega arith) (omega arith) (after-wide8 (search) .wide8 .ensures .0)
+    digits-turn _ _ (at-loop (search) .loop .inv) (omega arith) (omega arith) (byte-read (search) .wide8 .ensures .same)
     (digit-yes _ (c .before .is-digit .ensures) (c .if1 .left))
 
 returns-2 : tie.Need-returns-2 Inv-loop μ-loop
 returns-2 c =
-    let few = after-lesser (search) .lesser .ensures in
-    let l = c .loop-test .left in (
-      c .before .loop .inv,
-      digits-stop _ _ (c .before .loop .inv) (let h = c .before .loop .inv .there .inside in let f = c .before .loop .inv .there .few in omega
-          arith),
-    )
+    let read = c .before .loop .inv in
+    let few = limited (search) .lesser .ensures in
+    let all = c .loop-test .left in
+    record { reads = read; stops = digits-stop _ _ read (omega (arith, read .there)) }
 
 pub read-digits-spec : {M : Type 1} → statement M
 read-digits-spec =

@@ -12,39 +12,39 @@ use Rattle.text_words.proofs.read_word.Tie as tie
 abbrev read : tie.After-read-digits → tie.After-read-digits
 read c = c
 
-abbrev else1 : tie.Else1 → tie.Else1
-else1 c = c
+abbrev byte-behind : tie.Else1 → tie.Else1
+byte-behind c = c
 
-abbrev after-is-decimal : tie.After-is-decimal → tie.After-is-decimal
-after-is-decimal c = c
+abbrev judged : tie.After-is-decimal → tie.After-is-decimal
+judged c = c
 
-abbrev else2 : tie.Else2 → tie.Else2
-else2 c = c
+abbrev decimal : tie.Else2 → tie.Else2
+decimal c = c
 
-abbrev else3 : tie.Else3 → tie.Else3
-else3 c = c
+abbrev no-space : tie.Else3 → tie.Else3
+no-space c = c
 
 returns : tie.Need-returns
-returns c = bad refl (none-ended _ _ (read (search) .read-digits .ensures .0) (read (search) .read-digits .ensures .1) (c .if1 .taken))
+returns c = bad refl (none-ended _ _ (read (search) .read-digits .ensures) (c .if1 .taken))
 
 returns-2 : tie.Need-returns-2
 returns-2 c =
-    bad refl (none-bad _ _ (read (search) .read-digits .ensures .0) (read (search) .read-digits .ensures .1)
+    bad refl (none-bad _ _ (read (search) .read-digits .ensures)
     (sym (c .before .is-decimal .ensures) ∙ not-true _ (c .if2 .taken)))
 
 returns-3 : tie.Need-returns-3
 returns-3 c =
-    more _ _ refl (number-here _ _ (read (search) .read-digits .ensures .0) (sym (after-is-decimal (search) .is-decimal .ensures) ∙ not-false _
-    (else2 (search) .if2 .left)) (else1 (search) .if1 .left) (c .if3 .taken))
+    more _ _ refl (number-here _ _ (read (search) .read-digits .ensures) (sym (judged (search) .is-decimal .ensures) ∙ not-false _
+    (decimal (search) .if2 .left)) (byte-behind (search) .if1 .left) (c .if3 .taken))
 
 returns-4 : tie.Need-returns-4
 returns-4 c =
-    last _ _ refl (number-here _ _ (read (search) .read-digits .ensures .0) (sym (after-is-decimal (search) .is-decimal .ensures) ∙ not-false _
-    (else2 (search) .if2 .left)) (else1 (search) .if1 .left) (c .if4 .taken))
+    last _ _ refl (number-here _ _ (read (search) .read-digits .ensures) (sym (judged (search) .is-decimal .ensures) ∙ not-false _
+    (decimal (search) .if2 .left)) (byte-behind (search) .if1 .left) (c .if4 .taken))
 
 returns-5 : tie.Need-returns-5
 returns-5 c =
-    bad refl (none-other _ _ (read (search) .read-digits .ensures .0) (read (search) .read-digits .ensures .1) (else3 (search) .if3 .left)
+    bad refl (none-other _ _ (read (search) .read-digits .ensures) (no-space (search) .if3 .left)
     (c .if4 .left))
 
 pub read-word-spec : {M : Type 1} → statement M
