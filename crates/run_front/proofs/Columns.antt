@@ -11,7 +11,8 @@ use Rattle.papers.specs.Job.{start, columnOf}
 use Rattle.list_laws.proofs.Ascending.{asc-weaken, asc-length}
 use Rattle.job_laws.proofs.Starts.{start-at, start-within}
 use Rattle.job_laws.proofs.Passed.{PassedLists, lists-iff}
-use Rattle.run_front.specs.Factor.{Factor, Column}
+use Rattle.column_laws.specs.Tested.{Tested}
+use Rattle.run_front.specs.Column.{Column, ColumnIn}
 
 -- a part of a list, cut in front first
 slice-part : (a e : ℕ) (l : List ℕ) → slice a e l ≡ take (e - a) (drop a l)
@@ -21,42 +22,44 @@ slice-part (suc a) zero (x ∷ l) = let q : 0 - suc a ≡ 0 = omega arith in rw 
 slice-part (suc a) (suc e) [] = rw take-nil
 slice-part (suc a) (suc e) (x ∷ l) = let q : suc e - suc a ≡ e - a = omega arith in rw q (slice-part a e l)
 
-module _ {n : ℕ} {starts rows : List ℕ} (factor : Factor n starts rows) where
+module _ {n : ℕ} {starts rows : List ℕ} (tested : Tested n starts rows) where
   pub passed-lists : PassedLists n starts rows
-  passed-lists = lists-iff n starts rows .0 (factor .starts-pass, factor .rows-pass)
+  passed-lists = lists-iff n starts rows .0 (tested .starts-pass, tested .rows-pass)
 
   module _ {c : ℕ} (column : Column n c) where
-    -- both starts of a column stand in the starts, in order, and inside the rows
-    pub record Lies (from end : ℕ) : Type 0 where
-      pub listed : c < length starts
-      pub rising : from ≤ end
-      pub within : end ≤ length rows
-
-    pub lies : Lies (getD starts (c - 1) 0) (getD starts c 0)
-    unfolding start
-    lies =
-        let s = passed-lists .whole in
-        let l = s .long in
-        let q : suc (c - 1) ≡ c = omega arith in
-        record {
-          listed = omega arith;
-          rising = rw (← start-at starts c) (s .rising c (column .0) (column .1));
-          within = rw (← start-at starts c) (start-within s (suc c) (omega arith) (omega arith));
-        }
-
-    -- the part between them is the column's rows
-    pub part-is-column : take (getD starts c 0 - getD starts (c - 1) 0) (drop (getD starts (c - 1) 0) rows) ≡ columnOf starts rows c
-    unfolding columnOf start
-    part-is-column = let q : suc c - 1 ≡ c = omega arith in rw (q, slice-part (getD starts (c - 1) 0) (getD starts c 0) rows)
-
-    -- they ascend above the column
+    -- a column's rows ascend above it
     pub column-ascends : Asc 0 (columnOf starts rows c)
-    column-ascends = asc-weaken 0 c (columnOf starts rows c) (omega arith) (passed-lists .ascending c (column .0) (column .1))
+    column-ascends = asc-weaken 0 c (columnOf starts rows c) (omega arith) (passed-lists .ascending c (column .low) (column .high))
 
     -- a column and its rows are at most n
     pub column-fits : c + length (columnOf starts rows c) ≤ n
     column-fits =
-        let h = asc-length n c (columnOf starts rows c) (passed-lists .ascending c (column .0) (column .1))
-        (passed-lists .within c (column .0) (column .1)) in
-        let u = column .1 in
+        let h = asc-length n c (columnOf starts rows c) (passed-lists .ascending c (column .low) (column .high))
+        (passed-lists .within c (column .low) (column .high)) in
+        let u = column .high in
         omega arith
+
+module _ {n : ℕ} {starts rows : List ℕ} {c : ℕ} (in-factor : ColumnIn n starts rows c) where
+  -- both starts of a column stand in the starts, in order, and inside the rows
+  pub record Lies (from end : ℕ) : Type 0 where
+    pub listed : c < length starts
+    pub rising : from ≤ end
+    pub within : end ≤ length rows
+
+  pub lies : Lies (getD starts (c - 1) 0) (getD starts c 0)
+  unfolding start
+  lies =
+      let s = passed-lists (in-factor .tested) .whole in
+      let column = in-factor .column in
+      let l = s .long in
+      let q : suc (c - 1) ≡ c = omega arith in
+      record {
+        listed = omega arith;
+        rising = rw (← start-at starts c) (s .rising c (column .low) (column .high));
+        within = rw (← start-at starts c) (start-within s (suc c) (omega arith) (omega arith));
+      }
+
+  -- the part between them is the column's rows
+  pub part-is-column : take (getD starts c 0 - getD starts (c - 1) 0) (drop (getD starts (c - 1) 0) rows) ≡ columnOf starts rows c
+  unfolding columnOf start
+  part-is-column = let q : suc c - 1 ≡ c = omega arith in rw (q, slice-part (getD starts (c - 1) 0) (getD starts c 0) rows)

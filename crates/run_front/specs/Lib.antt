@@ -1,2 +1,2 @@
-pub mod Factor
+pub mod Column
 pub mod Search

@@ -5,6 +5,7 @@ use mathlib.Core.Path.{_≡_}
 use mathlib.Core.Logic.{_≢_}
 use mathlib.Core.List.{List}
 use lib.ListN.{length, getD}
+use Rattle.papers.specs.Lists.{Asc}
 
 -- the rows before lo are below the row, those from hi on are not: its place lies from lo on and no later than hi
 pub record Bracket (rows : List ℕ) (row lo hi : ℕ) : Type 0 where
@@ -12,6 +13,16 @@ pub record Bracket (rows : List ℕ) (row lo hi : ℕ) : Type 0 where
   pub within : hi ≤ length rows
   pub before : (i : ℕ) → i < lo → getD rows i 0 < row
   pub behind : (i : ℕ) → hi ≤ i → i < length rows → row ≤ getD rows i 0
+
+-- a row to be sought among ascending rows, of which so much is known
+pub record Sought (rows : List ℕ) (row lo hi : ℕ) : Type 0 where
+  pub ascending : Asc 0 rows
+  pub between : Bracket rows row lo hi
+
+-- a front's rows and an update's
+pub record BothAscend (rows update : List ℕ) : Type 0 where
+  pub front-ascends : Asc 0 rows
+  pub update-ascends : Asc 0 update
 
 -- the first `count` rows of two lists are the same
 pub record Same (a b : List ℕ) (count : ℕ) : Type 0 where

@@ -2,16 +2,15 @@
 ghost use mathlib.Core.Path.{_≡_};
 ghost use mathlib.Core.List.{_∷_};
 ghost use lib.ListN.{length};
-ghost use Rattle.papers.specs.Lists.{Asc, member, every};
+ghost use Rattle.papers.specs.Lists.{member, every};
 ghost use Rattle.papers.specs.Job.{columnOf};
 ghost use Rattle.papers.specs.Tree.{t};
-ghost use Rattle.run_front.specs.Factor.{Factor, Column};
-ghost use Rattle.run_front.specs.Search.{Bracket, Alike};
+ghost use Rattle.run_front.specs.Column.{ColumnIn};
+ghost use Rattle.run_front.specs.Search.{Bracket, Sought, BothAscend, Alike};
 
 // The rows of a column, as the part of the factor's rows that holds them.
 pub fn rows_of<'a>(n: u64, starts: &[u64], rows: &'a [u32], column: u64) -> &'a [u32]
-    requires factor { ⌜ Factor n (now starts) (now rows) ⌝ }
-    requires column { ⌜ Column n column ⌝ }
+    requires { ⌜ ColumnIn n (now starts) (now rows) column ⌝ }
     ensures { λ r. ⌜ now r ≡ columnOf (now (starts .entry)) (now (rows .entry)) column ⌝ }
 {
     let c = column as usize;
@@ -22,8 +21,7 @@ pub fn rows_of<'a>(n: u64, starts: &[u64], rows: &'a [u32], column: u64) -> &'a 
 
 // The entries of a column's update.
 pub fn entries_of(n: u64, starts: &[u64], rows: &[u32], column: u64) -> u64
-    requires factor { ⌜ Factor n (now starts) (now rows) ⌝ }
-    requires column { ⌜ Column n column ⌝ }
+    requires { ⌜ ColumnIn n (now starts) (now rows) column ⌝ }
     ensures { λ r. ⌜ r ≡ t (length (columnOf (now (starts .entry)) (now (rows .entry)) column)) ⌝ }
 {
     triangle::entries(rows_of(n, starts, rows, column).len() as u64)
@@ -31,8 +29,7 @@ pub fn entries_of(n: u64, starts: &[u64], rows: &[u32], column: u64) -> u64
 
 // The place of a row among ascending rows, known to lie from lo on and no later than hi. Each turn halves what lies between.
 fn bisect(rows: &[u32], row: u32, lo: usize, hi: usize) -> usize
-    requires ascending { ⌜ Asc 0 (now rows) ⌝ }
-    requires between { ⌜ Bracket (now rows) row lo hi ⌝ }
+    requires { ⌜ Sought (now rows) row lo hi ⌝ }
     ensures { λ r. ⌜ Bracket (now (rows .entry)) row r r ⌝ }
 {
     let mut low = lo;
@@ -51,8 +48,7 @@ fn bisect(rows: &[u32], row: u32, lo: usize, hi: usize) -> usize
 // The place of a row among ascending rows: the first that is not below it. All rows before `from` are below it, and the search looks at
 // places ever further behind `from`, so that it costs by how far the place lies, not by how many rows there are.
 fn seek(rows: &[u32], row: u32, from: usize) -> usize
-    requires ascending { ⌜ Asc 0 (now rows) ⌝ }
-    requires passed { ⌜ Bracket (now rows) row from (length (now rows)) ⌝ }
+    requires { ⌜ Sought (now rows) row from (length (now rows)) ⌝ }
     ensures { λ r. ⌜ Bracket (now (rows .entry)) row r r ⌝ }
 {
     let mut low = from;
@@ -85,8 +81,7 @@ fn alike(a: &[u32], b: &[u32]) -> usize
 // Whether each row of an update is the column itself or one of its rows. Both lists ascend, so a row is searched behind the last one found.
 // Mostly the rows that follow it follow in both lists: these are passed without a search.
 pub fn stands_in(column: u64, rows: &[u32], update: &[u32]) -> bool
-    requires rows_ascending { ⌜ Asc 0 (now rows) ⌝ }
-    requires update_ascending { ⌜ Asc 0 (now update) ⌝ }
+    requires { ⌜ BothAscend (now rows) (now update) ⌝ }
     ensures { λ r. ⌜ r ≡ every (λ i. member i (column ∷ now (rows .entry))) (now (update .entry)) ⌝ }
 {
     let mut found = 0;

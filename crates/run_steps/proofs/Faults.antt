@@ -14,7 +14,7 @@ use Rattle.papers.specs.Run.{RunCall, State, rowsIn, popsAt, fits, stepFault}
 use Rattle.list_laws.proofs.Tests.{below-or}
 use Rattle.order_laws.proofs.Steps.{column-at}
 use Rattle.run_held.specs.declared.Held.{Held}
-use Rattle.run_front.specs.Factor.{Column}
+use Rattle.run_front.specs.Column.{Column}
 use Rattle.run_updates.specs.Kept.{heldIn, stateOf, callOf, factorOf}
 use Rattle.run_updates.proofs.Stack.{held-length}
 use Rattle.run_updates.proofs.Step.{pops-at, used, used-is}
@@ -55,7 +55,7 @@ module _ (n : ℕ) (starts rows columns pops : List ℕ) (room : ℕ) (stack : L
 
   module _ (column : Column n c) where
     known : (leb 1 (columnAt columns (suc done)) && leb (columnAt columns (suc done)) n) ≡ true
-    known = rw (column-at columns done, le-leb 1 c (column .0), le-leb c n (column .1))
+    known = rw (column-at columns done, le-leb 1 c (column .low), le-leb c n (column .high))
 
     -- it pops more than is held
     pub fault-few : held .count < off → 21 ≡ fault
@@ -84,11 +84,15 @@ module _ (n : ℕ) (starts rows columns pops : List ℕ) (room : ℕ) (stack : L
             rw (known, plenty, fits-is, sym e ∙ f, used-is n starts rows columns pops stack held done room, ← g, le-ltb room u h, stepFault)
 
   -- a step without fault has a column of 1 to n and pops no more than is held
-  pub fault-zero : fault ≡ 0 → Column n c × (off ≤ held .count)
+  pub record Fine : Type 0 where
+    pub column : Column n c
+    pub enough : off ≤ held .count
+
+  pub fault-zero : fault ≡ 0 → Fine
   fault-zero z = go (below-or c 1) (below-or n c) (below-or (held .count) off)
     where
-      go : (c < 1) ⊎ (1 ≤ c) → (n < c) ⊎ (c ≤ n) → (held .count < off) ⊎ (off ≤ held .count) → Column n c × (off ≤ held .count)
+      go : (c < 1) ⊎ (1 ≤ c) → (n < c) ⊎ (c ≤ n) → (held .count < off) ⊎ (off ≤ held .count) → Fine
       go (inl a) b d = absurd (omega (arith, fault-low a, z))
       go (inr a) (inl b) d = absurd (omega (arith, fault-high b, z))
-      go (inr a) (inr b) (inl d) = absurd (omega (arith, fault-few (a, b) d, z))
-      go (inr a) (inr b) (inr d) = ((a, b), d)
+      go (inr a) (inr b) (inl d) = absurd (omega (arith, fault-few (record { low = a; high = b }) d, z))
+      go (inr a) (inr b) (inr d) = record { column = record { low = a; high = b }; enough = d }

@@ -13,12 +13,11 @@ use Rattle.papers.specs.Run.{RunCall, State, rowsIn, popsAt, entries, roomIn, f
 use Rattle.papers.specs.Refusals.{answer}
 use Rattle.job_laws.proofs.Faults.{faulty, faults-next}
 use Rattle.run_held.specs.declared.Held.{Held}
-use Rattle.run_front.specs.Factor.{Factor}
 use Rattle.run_updates.specs.Kept.{stateOf, callOf, Kept}
 use Rattle.run_updates.proofs.Stack.{held-none, held-length}
 use Rattle.run_updates.proofs.Entries.{total-none}
 use Rattle.run_steps.proofs.Faults.{fault-zero}
-use Rattle.run_steps.specs.Ready.{Ready}
+use Rattle.run_steps.specs.Ready.{StepsAsked, Ready, StepTaken}
 use Rattle.run_steps.specs.Steps.{stepsAnswer}
 use Rattle.run_steps.proofs.Answers.{answer-fault, answer-left, answer-done}
 
@@ -81,26 +80,32 @@ module _ (n : ℕ) (starts rows columns pops : List ℕ) (room : ℕ) (stack : L
     fault-is = fault-next call done ∙ (rw (← run .state) (sym (f ∙ fault-apart (suc done) (stateOf held now))))
 
     -- without fault the step can be taken
-    pub ready : Factor n starts rows → n ≤ length columns → n ≤ length pops → fault ≡ 0 → Ready n starts rows columns pops now held done
-    ready factor long enough z =
+    pub ready : StepsAsked n starts rows columns pops stack → fault ≡ 0 → Ready n starts rows columns pops now held done
+    ready asked z =
         let fine = fault-zero n starts rows columns pops room now held done (sym f ∙ z) in
         let few = run .few in
-        record { factor = factor; kept = run .kept; listed = (omega arith, omega arith); column = fine .0; enough = fine .1; free = omega arith }
+        record {
+          tested = asked .tested;
+          kept = run .kept;
+          column-listed = omega (arith, asked .columns-long);
+          pops-listed = omega (arith, asked .pops-long);
+          column = fine .column;
+          enough = fine .enough;
+          free = omega arith;
+        }
 
     -- and then one step more is done
     pub running-next : {now′ : List ℕ} {held′ : Held} → fault ≡ 0 → length now′ ≡ length now
-        → Kept n starts rows now′ held′ × ((held′ .count ≤ held .count + 1) × (stateOf held′ now′ ≡ stepped (callOf n starts rows columns pops 0 [])
-        (suc done) (stateOf held now)))
-        → Running now′ held′ (done + 1)
+        → StepTaken n starts rows columns pops now held done now′ held′ → Running now′ held′ (done + 1)
     running-next z same taken =
         let few = run .few in
         rw add-one
         (record {
-          kept = taken .0;
-          few = omega (arith, taken .1 .0);
+          kept = taken .kept;
+          few = omega (arith, taken .grows);
           within = omega arith;
           long = same ∙ run .long;
-          state = taken .1 .1 ∙ step-apart (suc done) (stateOf held now) ∙ (rw (run .state) (sym (state-next call done)));
+          state = taken .state ∙ step-apart (suc done) (stateOf held now) ∙ (rw (run .state) (sym (state-next call done)));
           fine = faults-next (faultAt call) done (run .fine) (fault-is ∙ z);
         })
 

@@ -15,13 +15,19 @@ use Rattle.list_laws.proofs.Tests.{Compare, below, level, above, compare}
 use Rattle.order_laws.proofs.Steps.{column-at}
 use Rattle.run_held.specs.declared.Held.{Held}
 use Rattle.run_held.specs.Record.{steppedOf, Takes}
-use Rattle.run_front.specs.Factor.{Column}
+use Rattle.run_front.specs.Column.{Column}
 use Rattle.run_updates.specs.Kept.{heldIn, stateOf, callOf, Kept}
 use Rattle.run_updates.proofs.Stack.{held-drop, held-push}
 use Rattle.run_updates.proofs.Entries.{total, total-cons, total-parts, total-small, update-small}
 use Rattle.run_updates.proofs.Step.{pops-at, used, used-is}
-use Rattle.run_steps.specs.Ready.{Ready}
+use Rattle.run_steps.specs.Ready.{Ready, StepTaken}
 use Rattle.run_steps.proofs.Pushed.{push-root, push-update}
+
+-- the last of `count` updates, at most n, has its place in the stack list
+pub record Place (n : ℕ) (stack : List ℕ) (count : ℕ) : Type 0 where
+  pub some : 1 ≤ count
+  pub few : count ≤ n
+  pub there : count - 1 < length stack
 
 module _ {n : ℕ} {starts rows columns pops stack : List ℕ} {held : Held} {done : ℕ} (step : Ready n starts rows columns pops stack held done)
     {popped update room : ℕ}
@@ -50,7 +56,7 @@ module _ {n : ℕ} {starts rows columns pops stack : List ℕ} {held : Held} {do
   unfolding t
   takes =
       let few = step .free in
-      let all = step .factor .few in
+      let all = step .tested .few in
       record {
         enough = step .enough;
         entries-enough = omega (arith, entries-stay);
@@ -59,8 +65,8 @@ module _ {n : ℕ} {starts rows columns pops stack : List ℕ} {held : Held} {do
           arith,
           u,
           step .kept .entries-are,
-          total-small n starts rows (step .factor) (step .kept),
-          update-small n starts rows (step .factor) (step .column),
+          total-small n starts rows (step .tested) (step .kept),
+          update-small n starts rows (step .tested) (step .column),
         );
       }
 
@@ -107,8 +113,8 @@ module _ {n : ℕ} {starts rows columns pops stack : List ℕ} {held : Held} {do
       unfolding rowsIn
       state-root = after-is (heldIn (next .count) stack) (rw same-count (sym (push-root call c staying (sym u ∙ none))))
 
-      pub taken-root : Kept n starts rows stack next × ((next .count ≤ held .count + 1) × (stateOf next stack ≡ after))
-      taken-root = (kept-root, (grown, state-root))
+      pub taken-root : StepTaken n starts rows columns pops stack held done stack next
+      taken-root = record { kept = kept-root; grows = grown; state = state-root }
 
     -- any other column is stored behind those that stay
     module _ (some : update ≢ 0) where
@@ -118,17 +124,19 @@ module _ {n : ℕ} {starts rows columns pops stack : List ℕ} {held : Held} {do
       place : next .count - 1 ≡ held .count - off
       place = omega (arith, counted)
 
-      pub store-within : (1 ≤ next .count) × (next .count ≤ n) × (next .count - 1 < length stack)
+      pub store-within : Place n stack (next .count)
       store-within =
-          let free = step .free in let long = step .kept .listed in (omega (arith, one-more), omega (arith, one-more), omega (arith, place))
+          let free = step .free in
+          let long = step .kept .listed in
+          record { some = omega (arith, one-more); few = omega (arith, one-more); there = omega (arith, place) }
 
       stored : heldIn (next .count) (set stack (next .count - 1) c) ≡ c ∷ staying
-      stored = rw (place, one-more) (held-push stack (held .count - off) c (rw (← place) (store-within .2)))
+      stored = rw (place, one-more) (held-push stack (held .count - off) c (rw (← place) (store-within .there)))
 
       kept-update : Kept n starts rows (set stack (next .count - 1) c) next
       kept-update =
           record {
-            few = store-within .1;
+            few = store-within .few;
             listed = rw length-set (step .kept .listed);
             columns = λ i l. each i l (compare i (next .count - 1));
             entries-are = rw stored (omega (arith, added, entries-stay, u, total-cons n starts rows c staying));
@@ -136,7 +144,7 @@ module _ {n : ℕ} {starts rows columns pops stack : List ℕ} {held : Held} {do
         where
           each : (i : ℕ) → i < next .count → Compare i (next .count - 1) → Column n (getD (set stack (next .count - 1) c) i 0)
           each i l (below h) = rw (getD-set-other stack (next .count - 1) i c 0 (λ q. omega arith)) (step .kept .columns i (omega (arith, place)))
-          each i l (level q) = rw (q, getD-set-same stack (next .count - 1) c 0 (store-within .2)) (step .column)
+          each i l (level q) = rw (q, getD-set-same stack (next .count - 1) c 0 (store-within .there)) (step .column)
           each i l (above h) = absurd (omega arith)
 
       state-update : stateOf next (set stack (next .count - 1) c) ≡ after
@@ -144,6 +152,5 @@ module _ {n : ℕ} {starts rows columns pops stack : List ℕ} {held : Held} {do
       state-update =
           after-is (heldIn (next .count) (set stack (next .count - 1) c)) (stored ∙ sym (push-update call c staying (λ z. some (u ∙ z))))
 
-      pub taken-update : Kept n starts rows (set stack (next .count - 1) c) next ×
-          ((next .count ≤ held .count + 1) × (stateOf next (set stack (next .count - 1) c) ≡ after))
-      taken-update = (kept-update, (grown, state-update))
+      pub taken-update : StepTaken n starts rows columns pops stack held done (set stack (next .count - 1) c) next
+      taken-update = record { kept = kept-update; grows = grown; state = state-update }

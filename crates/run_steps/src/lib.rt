@@ -3,12 +3,10 @@ use papers::Answer;
 use run_held::Held;
 ghost use mathlib.Core.Path.{_≡_};
 ghost use mathlib.Core.List.{[]};
-ghost use Prim.Native.Nat.{suc, _+_, _≤_, _<_};
-ghost use Rattle.papers.specs.Run.{State, stepped, stepFault};
-ghost use Rattle.run_updates.specs.Kept.{callOf, stateOf, Kept};
-ghost use Rattle.run_steps.specs.Ready.{Ready};
-ghost use lib.ListN.{length};
-ghost use Rattle.run_front.specs.Factor.{Factor};
+ghost use Prim.Native.Nat.{suc};
+ghost use Rattle.papers.specs.Run.{stepFault};
+ghost use Rattle.run_updates.specs.Kept.{callOf, stateOf};
+ghost use Rattle.run_steps.specs.Ready.{StepsAsked, StepAsked, Ready, StepTaken};
 ghost use Rattle.run_steps.specs.Steps.{stepsAnswer};
 
 // Takes a step without fault, the `done` steps before it taken: pops its updates and puts its own column on the stack list, unless it
@@ -23,13 +21,10 @@ fn take_step(
     held: Held,
     done: u64,
 ) -> Held
-    requires ready { ⌜ Ready n (now starts) (now rows) (now columns) (now pops) (now stack) held done ⌝ }
-    ensures kept { λ r. ⌜ Kept n (now (starts .entry)) (now (rows .entry)) (now (stack .exit)) r ⌝ }
-    ensures grows { λ r. ⌜ r .count ≤ held .count + 1 ⌝ }
-    ensures state { λ r. ⌜
-        _≡_ {A = State} (stateOf r (now (stack .exit)))
-        (stepped (callOf n (now (starts .entry)) (now (rows .entry)) (now (columns .entry)) (now (pops .entry)) 0 []) (suc done)
-        (stateOf held (now (stack .entry))))
+    requires { ⌜ Ready n (now starts) (now rows) (now columns) (now pops) (now stack) held done ⌝ }
+    ensures { λ r. ⌜
+        StepTaken n (now (starts .entry)) (now (rows .entry)) (now (columns .entry)) (now (pops .entry)) (now (stack .entry)) held done
+        (now (stack .exit)) r
         ⌝ }
 {
     let column = columns[done as usize];
@@ -58,9 +53,7 @@ fn step_fault(
     held: Held,
     done: u64,
 ) -> u64
-    requires factor { ⌜ Factor n (now starts) (now rows) ⌝ }
-    requires kept { ⌜ Kept n (now starts) (now rows) (now stack) held ⌝ }
-    requires listed { ⌜ (done < length (now columns)) × (done < length (now pops)) ⌝ }
+    requires { ⌜ StepAsked n (now starts) (now rows) (now columns) (now pops) (now stack) held done ⌝ }
     ensures { λ r. ⌜
         r ≡ stepFault (callOf n (now (starts .entry)) (now (rows .entry)) (now (columns .entry)) (now (pops .entry)) room []) (suc done)
         (stateOf held (now (stack .entry)))
@@ -97,10 +90,7 @@ pub fn steps(
     room: u64,
     stack: &mut [u32],
 ) -> Answer
-    requires factor { ⌜ Factor n (now starts) (now rows) ⌝ }
-    requires columns_listed { ⌜ n ≤ length (now columns) ⌝ }
-    requires pops_listed { ⌜ n ≤ length (now pops) ⌝ }
-    requires stack_long { ⌜ n ≤ length (now stack) ⌝ }
+    requires { ⌜ StepsAsked n (now starts) (now rows) (now columns) (now pops) (now stack) ⌝ }
     ensures { λ r. ⌜
         r ≡ stepsAnswer (callOf n (now (starts .entry)) (now (rows .entry)) (now (columns .entry)) (now (pops .entry)) room
         (now (stack .entry)))

@@ -13,7 +13,8 @@ use Rattle.papers.specs.Tree.{t}
 use Rattle.papers.specs.Run.{entries, rowsIn}
 use Rattle.order_laws.proofs.Triangles.{t-grows}
 use Rattle.run_held.specs.declared.Held.{Held}
-use Rattle.run_front.specs.Factor.{Factor, Column}
+use Rattle.column_laws.specs.Tested.{Tested}
+use Rattle.run_front.specs.Column.{Column}
 use Rattle.run_front.proofs.Columns.{column-fits}
 use Rattle.run_updates.specs.Kept.{heldIn, factorOf, Kept}
 use Rattle.run_updates.proofs.Stack.{held-length, held-each}
@@ -37,19 +38,19 @@ module _ (n : ℕ) (starts rows : List ℕ) where
   total-parts (suc p) [] = omega (arith, total-none)
   total-parts (suc p) (c ∷ held) = omega (arith, total-cons c (take p held), total-cons c held, total-parts p held)
 
-  module _ (factor : Factor n starts rows) where
+  module _ (tested : Tested n starts rows) where
     -- no update has more entries than so many columns
     pub update-small : {c : ℕ} → Column n c → t (length (columnOf starts rows c)) ≤ t maxColumns
     update-small {c} column =
-        let few = factor .few in
-        t-grows (length (columnOf starts rows c)) maxColumns (omega (arith, column-fits factor column))
+        let few = tested .few in
+        t-grows (length (columnOf starts rows c)) maxColumns (omega (arith, column-fits tested column))
 
     -- the front, one row more, has no more either
     pub front-small : {c : ℕ} → Column n c → t (suc (length (columnOf starts rows c))) ≤ t maxColumns
     front-small {c} column =
-        let few = factor .few in
-        let low = column .0 in
-        t-grows (suc (length (columnOf starts rows c))) maxColumns (omega (arith, column-fits factor column))
+        let few = tested .few in
+        let low = column .low in
+        t-grows (suc (length (columnOf starts rows c))) maxColumns (omega (arith, column-fits tested column))
 
     total-each : (held : List ℕ) → ((c : ℕ) → c ∈ held → Column n c) → total held ≤ length held * t maxColumns
     total-each [] h = omega (arith, total-none)
@@ -61,7 +62,7 @@ module _ (n : ℕ) (starts rows : List ℕ) where
     unfolding t
     total-small {stack} {held} kept =
         let few = kept .few in
-        let all = factor .few in
+        let all = tested .few in
         omega (
           arith,
           held-length stack (held .count),

@@ -13,9 +13,8 @@ use Rattle.papers.specs.Room.{roomAt}
 use Rattle.papers.specs.Run.{entries, rowsIn}
 use Rattle.order_laws.proofs.Rooms.{room-none, room-over}
 use Rattle.run_held.specs.declared.Held.{Held}
-use Rattle.run_front.specs.Factor.{Factor, Column}
 use Rattle.run_front.proofs.Columns.{column-fits}
-use Rattle.run_updates.specs.Kept.{heldIn, factorOf, Kept}
+use Rattle.run_updates.specs.Kept.{heldIn, factorOf, FrontOver}
 use Rattle.run_updates.proofs.Stack.{held-top}
 use Rattle.run_updates.proofs.Entries.{total, total-cons, total-small, front-small}
 
@@ -24,7 +23,7 @@ entries-cons : (n : ℕ) (starts rows : List ℕ) (c : ℕ) (cs : List ℕ)
 unfolding entries rowsIn
 entries-cons n starts rows c cs = refl
 
-module _ {n : ℕ} {starts rows stack : List ℕ} {held : Held} (factor : Factor n starts rows) (kept : Kept n starts rows stack held) where
+module _ {n : ℕ} {starts rows stack : List ℕ} {held : Held} {pops c : ℕ} (over : FrontOver n starts rows stack held pops c) where
   -- the entries of the updates held
   abbrev these : List ℕ
   these = entries (factorOf n starts rows) (heldIn (held .count) stack)
@@ -40,16 +39,16 @@ module _ {n : ℕ} {starts rows stack : List ℕ} {held : Held} (factor : Factor
   these-top h = rw (held-top stack (held .count) h) (entries-cons n starts rows top rest)
 
   total-top : 0 < held .count → held .entries ≡ t (length (columnOf starts rows top)) + total n starts rows rest
-  total-top h = kept .entries-are ∙ (rw (held-top stack (held .count) h) (total-cons n starts rows top rest))
+  total-top h = over .kept .entries-are ∙ (rw (held-top stack (held .count) h) (total-cons n starts rows top rest))
 
   -- no more is taken off than is held
   pub top-within : {u update : ℕ} → 0 < held .count → u ≡ top → update ≡ t (length (columnOf starts rows u)) → update ≤ held .entries
   top-within h i e = omega (arith, rw i at e, total-top h)
 
-  module _ {c : ℕ} (column : Column n c) {rs : List ℕ} (e : rs ≡ columnOf starts rows c) where
+  module _ {rs : List ℕ} (e : rs ≡ columnOf starts rows c) where
     -- the rows of a front are few enough for their entries
     pub front-fits : length rs + 1 ≤ maxColumns + 1
-    front-fits = let few = factor .few in rw e (omega (arith, column-fits factor column))
+    front-fits = rw e (omega (arith, over .tested .few, column-fits (over .tested) (over .column)))
 
     module _ {front : ℕ} (f : front ≡ t (length rs + 1)) where
       front-is : front ≡ t (suc (length (columnOf starts rows c)))
@@ -57,21 +56,29 @@ module _ {n : ℕ} {starts rows stack : List ℕ} {held : Held} (factor : Factor
 
       pub room-fits : held .entries + front < 2 ^ 63
       unfolding t
-      room-fits = omega (arith, front-is, kept .entries-are, total-small n starts rows factor kept, front-small n starts rows factor column)
+      room-fits =
+          omega (
+            arith,
+            front-is,
+            over .kept .entries-are,
+            total-small n starts rows (over .tested) (over .kept),
+            front-small n starts rows (over .tested) (over .column),
+          )
 
       -- without pops
-      pub room-above : {pops : ℕ} → pops ≡ 0 → held .entries + front ≡ roomAt pops (length (columnOf starts rows c)) these
-      room-above z = rw z (omega (arith, front-is, kept .entries-are, room-none (length (columnOf starts rows c)) these))
+      pub room-above : pops ≡ 0 → held .entries + front ≡ roomAt pops (length (columnOf starts rows c)) these
+      room-above z = rw z (omega (arith, front-is, over .kept .entries-are, room-none (length (columnOf starts rows c)) these))
 
       -- with pops, over the top update
-      pub room-on-top : {pops u update : ℕ} → 0 < pops → pops ≤ held .count → u ≡ top → update ≡ t (length (columnOf starts rows u))
+      pub room-on-top : {u update : ℕ} → 0 < pops → u ≡ top → update ≡ t (length (columnOf starts rows u))
           → held .entries - update + front ≡ roomAt pops (length (columnOf starts rows c)) these
-      room-on-top {pops} h l i g =
-          rw (these-top (omega arith))
+      room-on-top h i g =
+          let some : 0 < held .count = omega (arith, over .enough) in
+          rw (these-top some)
           (omega (
             arith,
             front-is,
             rw i at g,
-            total-top (omega arith),
+            total-top some,
             room-over pops (length (columnOf starts rows c)) (t (length (columnOf starts rows top))) (entries (factorOf n starts rows) rest) h,
           ))

@@ -1,13 +1,14 @@
 -- How the lent stack list and the record hold the updates of a run.
 -- Assumes nothing.
-use Prim.Native.Nat.{ℕ, zero, suc, _<_, _≤_}
+use Prim.Native.Nat.{ℕ, zero, suc, _-_, _<_, _≤_}
 use mathlib.Core.Path.{_≡_}
 use mathlib.Core.List.{List, [], _∷_}
 use lib.ListN.{length, getD}
 use Rattle.papers.specs.Lists.{sum}
 use Rattle.papers.specs.Run.{RunCall, State, entries}
+use Rattle.column_laws.specs.Tested.{Tested}
 use Rattle.run_held.specs.declared.Held.{Held}
-use Rattle.run_front.specs.Factor.{Column}
+use Rattle.run_front.specs.Column.{Column}
 
 -- the columns held, the top one first: the stack list has them bottom first
 unfoldable pub heldIn : ℕ → List ℕ → List ℕ
@@ -37,3 +38,29 @@ pub record Kept (n : ℕ) (starts rows stack : List ℕ) (held : Held) : Type 0 
   pub listed : n ≤ length stack
   pub columns : Columns n (held .count) stack
   pub entries-are : held .entries ≡ sum (entries (factorOf n starts rows) (heldIn (held .count) stack))
+
+-- ---- what is asked and promised
+
+-- a place of the stack list, counted from 1, up to which it holds columns
+pub record PlaceHeld (n : ℕ) (stack : List ℕ) (place : ℕ) : Type 0 where
+  pub columns : Columns n place stack
+  pub low : 1 ≤ place
+  pub listed : place ≤ length stack
+
+-- the column that stands there
+pub record HeldColumn (n : ℕ) (stack : List ℕ) (place r : ℕ) : Type 0 where
+  pub is : r ≡ getD stack (place - 1) 0
+  pub column : Column n r
+
+-- no more pops than updates held
+pub record PopsHeld (n : ℕ) (starts rows stack : List ℕ) (held : Held) (pops : ℕ) : Type 0 where
+  pub tested : Tested n starts rows
+  pub kept : Kept n starts rows stack held
+  pub enough : pops ≤ held .count
+
+-- the front of a column over the updates held, of which it pops so many
+pub record FrontOver (n : ℕ) (starts rows stack : List ℕ) (held : Held) (pops c : ℕ) : Type 0 where
+  pub tested : Tested n starts rows
+  pub kept : Kept n starts rows stack held
+  pub enough : pops ≤ held .count
+  pub column : Column n c

@@ -2,21 +2,17 @@
 // them.
 use run_held::Held;
 ghost use mathlib.Core.Path.{_≡_};
-ghost use Prim.Native.Nat.{_-_, _≤_};
-ghost use lib.ListN.{length, getD, take};
+ghost use lib.ListN.{length, take};
 ghost use Rattle.papers.specs.Lists.{sum};
 ghost use Rattle.papers.specs.Job.{columnOf};
 ghost use Rattle.papers.specs.Room.{roomAt};
 ghost use Rattle.papers.specs.Run.{entries, fits};
-ghost use Rattle.run_front.specs.Factor.{Factor, Column};
-ghost use Rattle.run_updates.specs.Kept.{heldIn, factorOf, Columns, Kept};
+ghost use Rattle.run_updates.specs.Kept.{heldIn, factorOf, PlaceHeld, HeldColumn, PopsHeld, FrontOver};
 
 // The column of an update held, by its place from the bottom, counted from 1.
 fn held_column(n: u64, stack: &[u32], place: u64) -> u64
-    requires columns { ⌜ Columns n place (now stack) ⌝ }
-    requires listed { ⌜ (1 ≤ place) × (place ≤ length (now stack)) ⌝ }
-    ensures is { λ r. ⌜ r ≡ getD (now (stack .entry)) (place - 1) 0 ⌝ }
-    ensures column { λ r. ⌜ Column n r ⌝ }
+    requires { ⌜ PlaceHeld n (now stack) place ⌝ }
+    ensures { λ r. ⌜ HeldColumn n (now (stack .entry)) place r ⌝ }
 {
     stack[place as usize - 1] as u64
 }
@@ -32,10 +28,7 @@ pub fn popped_fit(
     pops: u64,
     column: u64,
 ) -> bool
-    requires factor { ⌜ Factor n (now starts) (now rows) ⌝ }
-    requires kept { ⌜ Kept n (now starts) (now rows) (now stack) held ⌝ }
-    requires enough { ⌜ pops ≤ held .count ⌝ }
-    requires column { ⌜ Column n column ⌝ }
+    requires { ⌜ FrontOver n (now starts) (now rows) (now stack) held pops column ⌝ }
     ensures { λ r. ⌜
         r ≡ fits (factorOf n (now (starts .entry)) (now (rows .entry))) column (take pops (heldIn (held .count) (now (stack .entry))))
         ⌝ }
@@ -64,9 +57,7 @@ pub fn popped_entries(
     held: Held,
     pops: u64,
 ) -> u64
-    requires factor { ⌜ Factor n (now starts) (now rows) ⌝ }
-    requires kept { ⌜ Kept n (now starts) (now rows) (now stack) held ⌝ }
-    requires enough { ⌜ pops ≤ held .count ⌝ }
+    requires { ⌜ PopsHeld n (now starts) (now rows) (now stack) held pops ⌝ }
     ensures { λ r. ⌜
         r ≡ sum (entries (factorOf n (now (starts .entry)) (now (rows .entry))) (take pops (heldIn (held .count) (now (stack .entry)))))
         ⌝ }
@@ -92,10 +83,7 @@ pub fn room_in_use(
     pops: u64,
     column: u64,
 ) -> u64
-    requires factor { ⌜ Factor n (now starts) (now rows) ⌝ }
-    requires kept { ⌜ Kept n (now starts) (now rows) (now stack) held ⌝ }
-    requires enough { ⌜ pops ≤ held .count ⌝ }
-    requires column { ⌜ Column n column ⌝ }
+    requires { ⌜ FrontOver n (now starts) (now rows) (now stack) held pops column ⌝ }
     ensures { λ r. ⌜
         r ≡ roomAt pops (length (columnOf (now (starts .entry)) (now (rows .entry)) column))
         (entries (factorOf n (now (starts .entry)) (now (rows .entry))) (heldIn (held .count) (now (stack .entry))))

@@ -17,7 +17,8 @@ use Rattle.list_laws.proofs.Tests.{below-or, true-false}
 use Rattle.job_laws.proofs.Firsts.{first-passes, first-refuses, refused-if, passed-if, over-refuses, over-passes-iff}
 use Rattle.job_laws.proofs.Untouched.{Early, starts-early, rows-early, early-zero}
 use Rattle.job_laws.proofs.Outcomes.{outcome-untouched}
-use Rattle.run_front.specs.Factor.{Factor}
+use Rattle.column_laws.specs.Tested.{Tested}
+use Rattle.run_steps.specs.Ready.{StepsAsked}
 use Rattle.run_steps.specs.Steps.{stepsAnswer}
 use Rattle.run_steps.proofs.Answers.{from-steps}
 
@@ -50,14 +51,18 @@ module _ (n : ℕ) (columns pops stack : List ℕ) where
     stack-short h = rw (le-ltb (length columns) n a, le-ltb (length pops) n h)
 
   -- none is
-  pub all-long : {r : Bool} → r ≡ anyShort n columns pops stack → r ≡ false → (n ≤ length columns) × ((n ≤ length pops) × (n ≤ length stack))
+  record AllLong : Type 0 where
+    columns-long : n ≤ length columns
+    pops-long : n ≤ length pops
+    stack-long : n ≤ length stack
+
+  all-long : {r : Bool} → r ≡ anyShort n columns pops stack → r ≡ false → AllLong
   all-long {r} e f = go (below-or (length columns) n) (below-or (length pops) n)
     where
-      go : (length columns < n) ⊎ (n ≤ length columns) → (length pops < n) ⊎ (n ≤ length pops)
-          → (n ≤ length columns) × ((n ≤ length pops) × (n ≤ length stack))
+      go : (length columns < n) ⊎ (n ≤ length columns) → (length pops < n) ⊎ (n ≤ length pops) → AllLong
       go (inl h) q = absurd (true-false refl (columns-short h ∙ sym e ∙ f))
       go (inr a) (inl h) = absurd (true-false refl (pops-short a h ∙ sym e ∙ f))
-      go (inr a) (inr b) = (a, (b, ltb-false (length stack) n (stack-short a b ∙ sym e ∙ f)))
+      go (inr a) (inr b) = record { columns-long = a; pops-long = b; stack-long = ltb-false (length stack) n (stack-short a b ∙ sym e ∙ f) }
 
 -- ---- a run
 
@@ -95,7 +100,7 @@ module _ (call : RunCall) where
           ∙ first-refuses _ _ call (early-refuses (startsTest n (call .starts) (call .rows)) (starts-early n (call .starts) (call .rows)) s h))
 
       module _ (s0 : r .number ≡ 0) where
-        pub starts-pass : startsTest n (call .starts) (call .rows) ≡ passed
+        starts-pass : startsTest n (call .starts) (call .rows) ≡ passed
         starts-pass = early-zero (startsTest n (call .starts) (call .rows)) (starts-early n (call .starts) (call .rows)) r s s0
 
         -- 5 and 6
@@ -112,8 +117,8 @@ module _ (call : RunCall) where
             rows-pass : rowsTest n (call .starts) (call .rows) ≡ passed
             rows-pass = early-zero (rowsTest n (call .starts) (call .rows)) (rows-early n (call .starts) (call .rows)) q p p0
 
-            pub factor-is : Factor n (call .starts) (call .rows)
-            factor-is = record { few = few; starts-pass = starts-pass; rows-pass = rows-pass }
+            tested : Tested n (call .starts) (call .rows)
+            tested = record { few = few; starts-pass = starts-pass; rows-pass = rows-pass }
 
             lists-pass : first runTests call ≡ first (runLengthsTest ∷ stepsTest ∷ leftTest ∷ []) call
             unfolding runTests
@@ -128,7 +133,13 @@ module _ (call : RunCall) where
                   ∙ refuses (lists-pass ∙ first-refuses runLengthsTest (stepsTest ∷ leftTest ∷ []) call (refused-if short (answer 7 0 0) untouched
                   (sym d ∙ h)))
 
-              -- the steps decide
+              -- the steps may begin
+              pub steps-asked : b ≡ false → StepsAsked n (call .starts) (call .rows) (call .columns) (call .pops) (call .stack)
+              steps-asked h =
+                  let long = all-long n (call .columns) (call .pops) (call .stack) d h in
+                  record { tested = tested; columns-long = long .columns-long; pops-long = long .pops-long; stack-long = long .stack-long }
+
+              -- and decide
               pub run-steps : b ≡ false → {a : Answer} {after : List ℕ} → a ≡ stepsAnswer call → after ≡ zeros (call .stack)
                   → _≡_ {A = Outcome (List ℕ)} (record { answer = a; lent = after }) (ran call)
               unfolding ran runLengthsTest

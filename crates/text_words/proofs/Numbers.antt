@@ -47,7 +47,8 @@ module _ (text : List ℕ) (at : ℕ) {count value : ℕ} (found : DigitsFound t
   all-digits : {x b : ℕ} {rest : List ℕ} → Ends b → Short x → drop at text ≡ decimalOf x ++ (b ∷ rest)
       → (digits ≡ decimalOf x) × (drop (at + count) text ≡ b ∷ rest)
   all-digits {x} {b} {rest} n s e =
-      let (u, f, g) = within Digit digits (decimalOf x) b (drop (at + count) text) rest (found .reads .there .digits) (no-digit b n) (sym parts ∙ e) in
+      let (u, f, g) = within Digit digits (decimalOf x) b (drop (at + count) text) rest (found .reads .there .digits) (no-digit b n)
+      (sym parts ∙ e) in
       go u f g
     where
       no-more : (c : ℕ) (u : List ℕ) → decimalOf x ≡ digits ++ (c ∷ u) → drop (at + count) text ≡ c ∷ (u ++ (b ∷ rest)) → Stop text at count → ⊥

@@ -22,13 +22,13 @@ abbrev at-loop : tie.At-loop Inv-loop μ-loop → tie.At-loop Inv-loop μ-loop
 at-loop c = c
 
 loop-holds : tie.Need-loop-holds Inv-loop μ-loop
-loop-holds c = c .pre .1
+loop-holds c = c .pre .between
 
 loop-again : tie.Need-loop-again Inv-loop μ-loop
-loop-again c = narrow-above (entry (search) .pre .0) (at-loop (search) .loop .inv) (omega arith) (c .if1 .taken)
+loop-again c = narrow-above (entry (search) .pre .ascending) (at-loop (search) .loop .inv) (omega arith) (c .if1 .taken)
 
 loop-again-2 : tie.Need-loop-again-2 Inv-loop μ-loop
-loop-again-2 c = narrow-below (entry (search) .pre .0) (at-loop (search) .loop .inv) (omega arith) (omega arith) (c .if1 .left)
+loop-again-2 c = narrow-below (entry (search) .pre .ascending) (at-loop (search) .loop .inv) (omega arith) (omega arith) (c .if1 .left)
 
 returns : tie.Need-returns Inv-loop μ-loop
 returns c = one-place (c .before .loop .inv) (c .loop-test .left)

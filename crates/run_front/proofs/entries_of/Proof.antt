@@ -15,8 +15,8 @@ entry c = c
 
 entries-requires : tie.Need-entries-requires
 entries-requires c κs =
-    let few = entry (search) .pre .0 .few in
-    omega (arith, column-fits (entry (search) .pre .0) (entry (search) .pre .1), ap length (c .rows-of .ensures))
+    let asked = entry (search) .pre in
+    omega (arith, asked .tested .few, column-fits (asked .tested) (asked .column), ap length (c .rows-of .ensures))
 
 returns : tie.Need-returns
 returns c = c .entries .ensures ∙ ap (λ l. t (length l)) (c .before .rows-of .ensures)

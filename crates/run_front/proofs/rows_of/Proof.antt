@@ -11,25 +11,25 @@ abbrev entry : tie.Start → tie.Start
 entry c = c
 
 shared-slice-read-from : tie.Need-shared-slice-read-from
-shared-slice-read-from c = let l = lies (c .before .pre .0) (c .before .pre .1) in omega arith
+shared-slice-read-from c = let l = lies (c .before .pre) in omega arith
 
 shared-slice-read-end : tie.Need-shared-slice-read-end
-shared-slice-read-end c = lies (entry (search) .pre .0) (entry (search) .pre .1) .listed
+shared-slice-read-end c = lies (entry (search) .pre) .listed
 
 mul-result : tie.Need-mul-result
-mul-result c = let l = lies (entry (search) .pre .0) (entry (search) .pre .1) in omega arith
+mul-result c = let l = lies (entry (search) .pre) in omega arith
 
 sub-result : tie.Need-sub-result
-sub-result c = lies (entry (search) .pre .0) (entry (search) .pre .1) .rising
+sub-result c = lies (entry (search) .pre) .rising
 
 part-result-start : tie.Need-part-result-start
-part-result-start c = lies (entry (search) .pre .0) (entry (search) .pre .1) .rising
+part-result-start c = lies (entry (search) .pre) .rising
 
 part-result-end : tie.Need-part-result-end
-part-result-end c = lies (entry (search) .pre .0) (entry (search) .pre .1) .within
+part-result-end c = lies (entry (search) .pre) .within
 
 returns : tie.Need-returns
-returns c = part-is-column (entry (search) .pre .0) (entry (search) .pre .1)
+returns c = part-is-column (entry (search) .pre)
 
 pub rows-of-spec : {M : Type 1} → statement M
 rows-of-spec =

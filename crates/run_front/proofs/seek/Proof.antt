@@ -1,6 +1,7 @@
 -- The loop's invariant: the row's place lies from low on, and low is no later than the place looked at. The measure is how many places are left.
 -- Assumes nothing.
-use Prim.Native.Nat.{_-_, _≤_}
+use Prim.Native.Nat.{ℕ, _-_, _≤_}
+use mathlib.Core.List.{List}
 use native.Mathlib.Omega.{arith}
 use lib.ListN.{length}
 use borrow.Author.Needs.{needs}
@@ -9,8 +10,14 @@ use Rattle.run_front.proofs.Places.{narrow-above, narrow-below}
 use Rattle.run_front.proofs.seek.Statement.{statement}
 use Rattle.run_front.proofs.seek.Tie as tie
 
+-- the row's place lies from low on; the next place looked at is no earlier
+record Looking (rows : List ℕ) (row from low look : ℕ) : Type 0 where
+  between : Bracket rows row low (length rows)
+  ahead : low ≤ look
+  on : from ≤ low
+
 abbrev Inv-loop : tie.InvT-loop
-Inv-loop rows row from low₀ look₀ low look = Bracket rows row low (length rows) × (low ≤ look) × (from ≤ low)
+Inv-loop rows row from low₀ look₀ low look = Looking rows row from low look
 
 abbrev μ-loop : tie.MeasureT-loop
 μ-loop rows row from low₀ look₀ low look = length rows - look
@@ -26,18 +33,22 @@ abbrev in-loop : tie.In-loop Inv-loop μ-loop → tie.In-loop Inv-loop μ-loop
 in-loop c = c
 
 bisect-requires : tie.Need-bisect-requires Inv-loop μ-loop
-bisect-requires c κs = (
-  entry (search) .pre .0,
-  narrow-below (entry (search) .pre .0) (at-loop (search) .loop .inv .0) (at-loop (search) .loop .inv .1)
-      (in-loop (search) .loop-test .taken) (c .if1 .taken),
-)
+bisect-requires c κs =
+    let ascending = entry (search) .pre .ascending in
+    let l = at-loop (search) .loop .inv in
+    record {
+      ascending = ascending;
+      between = narrow-below ascending (l .between) (l .ahead) (in-loop (search) .loop-test .taken) (c .if1 .taken);
+    }
 
 loop-again : tie.Need-loop-again Inv-loop μ-loop
-loop-again c = (
-  narrow-above (entry (search) .pre .0) (at-loop (search) .loop .inv .0) (in-loop (search) .loop-test .taken) (c .if1 .left),
-  omega arith,
-  omega arith,
-)
+loop-again c =
+    let l = at-loop (search) .loop .inv in
+    record {
+      between = narrow-above (entry (search) .pre .ascending) (l .between) (in-loop (search) .loop-test .taken) (c .if1 .left);
+      ahead = omega arith;
+      on = omega arith;
+    }
 
 pub seek-spec : {M : Type 1} → statement M
 seek-spec =

@@ -25,11 +25,11 @@ at-loop c = c
 abbrev in-loop : tie.In-loop Inv-loop μ-loop → tie.In-loop Inv-loop μ-loop
 in-loop c = c
 
-abbrev else1 : tie.Else1 Inv-loop μ-loop → tie.Else1 Inv-loop μ-loop
-else1 c = c
+abbrev other-row : tie.Else1 Inv-loop μ-loop → tie.Else1 Inv-loop μ-loop
+other-row c = c
 
-abbrev after-seek : tie.After-seek Inv-loop μ-loop → tie.After-seek Inv-loop μ-loop
-after-seek c = c
+abbrev sought : tie.After-seek Inv-loop μ-loop → tie.After-seek Inv-loop μ-loop
+sought c = c
 
 loop-holds : tie.Need-loop-holds Inv-loop μ-loop
 loop-holds c = swept-start _ _ _
@@ -38,19 +38,24 @@ cast-if1 : tie.Need-cast-if1 Inv-loop μ-loop
 cast-if1 c = omega (arith, c .shared-slice-known3 .given (at-loop (search) .loop .i))
 
 loop-again : tie.Need-loop-again Inv-loop μ-loop
-loop-again c = swept-column (at-loop (search) .loop .inv) (in-loop (search) .loop-test .taken) (entry (search) .pre .1) (c .if1 .taken)
+loop-again c = swept-column (at-loop (search) .loop .inv) (in-loop (search) .loop-test .taken) (entry (search) .pre .update-ascends) (c .if1 .taken)
 
 seek-requires : tie.Need-seek-requires Inv-loop μ-loop
-seek-requires c κs = (entry (search) .pre .0, to-seek (at-loop (search) .loop .inv) (in-loop (search) .loop-test .taken))
+seek-requires c κs = record {
+  ascending = entry (search) .pre .front-ascends;
+  between = to-seek (at-loop (search) .loop .inv) (in-loop (search) .loop-test .taken);
+}
 
 returns : tie.Need-returns Inv-loop μ-loop
 returns c =
-    swept-missing (at-loop (search) .loop .inv) (in-loop (search) .loop-test .taken) (entry (search) .pre .0) (else1 (search) .if1 .left)
-    (after-seek (search) .seek .ensures) (rw (c .if2 .taken) at (c .before .alike .ensures))
+    swept-missing (at-loop (search) .loop .inv) (in-loop (search) .loop-test .taken) (entry (search) .pre .front-ascends)
+    (other-row (search) .if1 .left)
+    (sought (search) .seek .ensures) (rw (c .if2 .taken) at (c .before .alike .ensures))
 
 loop-again-2 : tie.Need-loop-again-2 Inv-loop μ-loop
 loop-again-2 c =
-    swept-alike (entry (search) .pre .1) (at-loop (search) .loop .inv) (in-loop (search) .loop-test .taken) (after-seek (search) .seek .ensures)
+    swept-alike (entry (search) .pre .update-ascends) (at-loop (search) .loop .inv) (in-loop (search) .loop-test .taken)
+    (sought (search) .seek .ensures)
     (c .before .alike .ensures)
 
 returns-2 : tie.Need-returns-2 Inv-loop μ-loop

@@ -28,21 +28,28 @@ after-loop c = c
 abbrev in-loop : tie.In-loop Inv-loop μ-loop → tie.In-loop Inv-loop μ-loop
 in-loop c = c
 
-abbrev after-step-fault : tie.After-step-fault Inv-loop μ-loop → tie.After-step-fault Inv-loop μ-loop
-after-step-fault c = c
+abbrev tested-step : tie.After-step-fault Inv-loop μ-loop → tie.After-step-fault Inv-loop μ-loop
+tested-step c = c
 
-abbrev else1 : tie.Else1 Inv-loop μ-loop → tie.Else1 Inv-loop μ-loop
-else1 c = c
+abbrev fine : tie.Else1 Inv-loop μ-loop → tie.Else1 Inv-loop μ-loop
+fine c = c
 
 abbrev taken : tie.After-take-step Inv-loop μ-loop → tie.After-take-step Inv-loop μ-loop
 taken c = c
 
 loop-holds : tie.Need-loop-holds Inv-loop μ-loop
-loop-holds c = running-start _ _ _ _ _ _ _ (entry (search) .pre .1 .1 .1)
+loop-holds c = running-start _ _ _ _ _ _ _ (entry (search) .pre .stack-long)
 
 step-fault-requires : tie.Need-step-fault-requires Inv-loop μ-loop
 step-fault-requires c κs =
-    let few = at-loop (search) .loop .inv .within in (entry (search) .pre .0, (at-loop (search) .loop .inv .kept, (omega arith, omega arith)))
+    let asked = entry (search) .pre in
+    let next = c .before .loop-test .taken in
+    record {
+      tested = asked .tested;
+      kept = at-loop (search) .loop .inv .kept;
+      column-listed = omega (arith, asked .columns-long);
+      pops-listed = omega (arith, asked .pops-long);
+    }
 
 same-length : tie.Need-same-length Inv-loop μ-loop
 same-length c = at-loop (search) .loop .inv .long
@@ -50,18 +57,17 @@ same-length c = at-loop (search) .loop .inv .long
 returns : tie.Need-returns Inv-loop μ-loop
 returns c =
     c .answered .ensures ∙ answers-fault _ _ _ _ _ _ _ (at-loop (search) .loop .inv) (in-loop (search) .loop-test .taken)
-    (after-step-fault (search) .step-fault .ensures) (c .before .if1 .taken)
+    (tested-step (search) .step-fault .ensures) (c .before .if1 .taken)
 
 take-step-requires : tie.Need-take-step-requires Inv-loop μ-loop
 take-step-requires c κs =
-    let pre = entry (search) .pre in
-    ready _ _ _ _ _ _ _ (at-loop (search) .loop .inv) (in-loop (search) .loop-test .taken) (after-step-fault (search) .step-fault .ensures) (pre .0)
-    (pre .1 .0) (pre .1 .1 .0) (c .before .if1 .left)
+    ready _ _ _ _ _ _ _ (at-loop (search) .loop .inv) (in-loop (search) .loop-test .taken) (tested-step (search) .step-fault .ensures)
+    (entry (search) .pre) (c .before .if1 .left)
 
 loop-again : tie.Need-loop-again Inv-loop μ-loop
 loop-again c =
-    running-next _ _ _ _ _ _ _ (at-loop (search) .loop .inv) (in-loop (search) .loop-test .taken) (after-step-fault (search) .step-fault .ensures)
-    (else1 (search) .if1 .left) (omega (arith, taken (search) .take-step .kept)) (taken (search) .take-step .ensures)
+    running-next _ _ _ _ _ _ _ (at-loop (search) .loop .inv) (in-loop (search) .loop-test .taken) (tested-step (search) .step-fault .ensures)
+    (fine (search) .if1 .left) (omega (arith, taken (search) .take-step .kept)) (taken (search) .take-step .ensures)
 
 same-length-2 : tie.Need-same-length-2 Inv-loop μ-loop
 same-length-2 c = at-loop (search) .loop .inv .long

@@ -1,8 +1,10 @@
--- What is computed of the step is what the record takes; a column with rows is stored behind those that stay.
+-- The entries popped, the step's own and the room are computed, and that is what the record takes. A column with rows is stored behind those that
+-- stay, where there is a place for it.
 -- Assumes nothing.
 use native.Mathlib.Omega.{arith}
 use borrow.Author.Needs.{needs}
-use Rattle.run_steps.proofs.Taken.{takes, taken-root, store-within, taken-update}
+use denote.Ref.{now}
+use Rattle.run_steps.proofs.Taken.{Place, takes, taken-root, store-within, taken-update}
 use Rattle.run_steps.proofs.take_step.Statement.{statement}
 use Rattle.run_steps.proofs.take_step.Tie as tie
 
@@ -10,45 +12,40 @@ use Rattle.run_steps.proofs.take_step.Tie as tie
 abbrev entry : tie.Start → tie.Start
 entry c = c
 
-abbrev after-popped-entries : tie.After-popped-entries → tie.After-popped-entries
-after-popped-entries c = c
+abbrev popped : tie.After-popped-entries → tie.After-popped-entries
+popped c = c
 
-abbrev after-room-in-use : tie.After-room-in-use → tie.After-room-in-use
-after-room-in-use c = c
+abbrev used : tie.After-room-in-use → tie.After-room-in-use
+used c = c
 
-abbrev after-entries-of : tie.After-entries-of → tie.After-entries-of
-after-entries-of c = c
+abbrev updated : tie.After-entries-of → tie.After-entries-of
+updated c = c
+
+abbrev advanced : tie.After-advance → tie.After-advance
+advanced c = c
 
 advance-requires : tie.Need-advance-requires
 advance-requires c κs =
-    takes (entry (search) .pre) (after-popped-entries (search) .popped-entries .ensures) (c .entries-of .ensures) (c .before .room-in-use .ensures)
+    takes (entry (search) .pre) (popped (search) .popped-entries .ensures) (c .entries-of .ensures) (c .before .room-in-use .ensures)
 
 returns : tie.Need-returns
 returns c =
-    taken-root (entry (search) .pre) (after-popped-entries (search) .popped-entries .ensures) (after-entries-of (search) .entries-of .ensures)
-    (after-room-in-use (search) .room-in-use .ensures) (c .before .advance .ensures) (c .if1 .taken)
+    taken-root (entry (search) .pre) (popped (search) .popped-entries .ensures) (updated (search) .entries-of .ensures)
+    (used (search) .room-in-use .ensures) (c .before .advance .ensures) (c .if1 .taken)
 
-sub-stack : tie.Need-sub-stack
-sub-stack c =
-    store-within (entry (search) .pre) (after-popped-entries (search) .popped-entries .ensures) (after-entries-of (search) .entries-of .ensures)
-    (after-room-in-use (search) .room-in-use .ensures) (c .before .advance .ensures) (c .if1 .left) .0
+-- the column's own update finds its place
+place : (c : tie.Else1) → Place (entry (search) .args .n) (now (entry (search) .args .stack)) (advanced (search) .advance .result .count)
+place c =
+    store-within (entry (search) .pre) (popped (search) .popped-entries .ensures) (updated (search) .entries-of .ensures)
+    (used (search) .room-in-use .ensures) (c .before .advance .ensures) (c .if1 .left)
 
 mul-stack : tie.Need-mul-stack
-mul-stack c =
-    let pre = entry (search) .pre in
-    let within = store-within pre (after-popped-entries (search) .popped-entries .ensures) (after-entries-of (search) .entries-of .ensures)
-    (after-room-in-use (search) .room-in-use .ensures) (c .before .advance .ensures) (c .if1 .left) in
-    let few = pre .factor .few in omega arith
-
-slice-write-stack : tie.Need-slice-write-stack
-slice-write-stack c =
-    store-within (entry (search) .pre) (after-popped-entries (search) .popped-entries .ensures) (after-entries-of (search) .entries-of .ensures)
-    (after-room-in-use (search) .room-in-use .ensures) (c .before .advance .ensures) (c .if1 .left) .2
+mul-stack c = omega (arith, place (search), entry (search) .pre .tested .few)
 
 returns-2 : tie.Need-returns-2
 returns-2 c =
-    taken-update (entry (search) .pre) (after-popped-entries (search) .popped-entries .ensures) (after-entries-of (search) .entries-of .ensures)
-    (after-room-in-use (search) .room-in-use .ensures) (c .before .advance .ensures) (c .if1 .left)
+    taken-update (entry (search) .pre) (popped (search) .popped-entries .ensures) (updated (search) .entries-of .ensures)
+    (used (search) .room-in-use .ensures) (c .before .advance .ensures) (c .if1 .left)
 
 pub take-step-spec : {M : Type 1} → statement M
 take-step-spec =
@@ -67,8 +64,8 @@ take-step-spec =
     advance-requires
     (λ c. search needs)
     returns
-    sub-stack
+    (λ c. place (search) .some)
     mul-stack
-    slice-write-stack
+    (λ c. place (search) .there)
     (λ c. search needs)
     returns-2)

@@ -11,7 +11,7 @@ cast-result : tie.Need-cast-result
 cast-result c = omega (arith, c .shared-slice-known .given (c .before .args .place - 1))
 
 returns : tie.Need-returns
-returns c = (refl, c .before .pre .0 (c .before .args .place - 1) (omega arith))
+returns c = record { is = refl; column = c .before .pre .columns (c .before .args .place - 1) (omega arith) }
 
 pub held-column-spec : {M : Type 1} → statement M
 held-column-spec =

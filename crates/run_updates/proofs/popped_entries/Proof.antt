@@ -27,27 +27,31 @@ abbrev in-loop : tie.In-loop Inv-loop μ-loop → tie.In-loop Inv-loop μ-loop
 in-loop c = c
 
 loop-holds : tie.Need-loop-holds Inv-loop μ-loop
-loop-holds c = added-start _ _ _ _ _ _ (entry (search) .pre .1 .1)
+loop-holds c = added-start _ _ _ _ _ _ (entry (search) .pre .enough)
 
 held-column-requires : tie.Need-held-column-requires Inv-loop μ-loop
-held-column-requires c κs = (λ i l. entry (search) .pre .1 .0 .columns i (omega arith), (omega arith, omega arith))
+held-column-requires c κs = record {
+  columns = λ i l. entry (search) .pre .kept .columns i (omega arith);
+  low = omega arith;
+  listed = omega arith;
+}
 
 entries-of-requires : tie.Need-entries-of-requires Inv-loop μ-loop
-entries-of-requires c κs = (entry (search) .pre .0, c .held-column .ensures .1)
+entries-of-requires c κs = record { tested = entry (search) .pre .tested; column = c .held-column .ensures .column }
 
 add-total : tie.Need-add-total Inv-loop μ-loop
 add-total c =
-    let pre = entry (search) .pre in
+    let asked = entry (search) .pre in
     omega (
       arith,
-      added-within _ _ _ _ (at-loop (search) .loop .inv) (in-loop (search) .loop-test .taken) (c .before .held-column .ensures .0)
+      added-within _ _ _ _ (at-loop (search) .loop .inv) (in-loop (search) .loop-test .taken) (c .before .held-column .ensures .is)
           (c .entries-of .ensures),
-      popped-small _ _ _ (pre .0) (pre .1 .0) (entry (search) .args .pops),
+      popped-small _ _ _ (asked .tested) (asked .kept) (entry (search) .args .pops),
     )
 
 loop-again : tie.Need-loop-again Inv-loop μ-loop
 loop-again c =
-    added-next _ _ _ _ (at-loop (search) .loop .inv) (in-loop (search) .loop-test .taken) (c .before .held-column .ensures .0)
+    added-next _ _ _ _ (at-loop (search) .loop .inv) (in-loop (search) .loop-test .taken) (c .before .held-column .ensures .is)
     (c .entries-of .ensures)
 
 returns : tie.Need-returns Inv-loop μ-loop

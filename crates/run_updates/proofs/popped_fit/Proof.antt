@@ -20,8 +20,8 @@ abbrev μ-loop : tie.MeasureT-loop
 abbrev entry : tie.Start Inv-loop μ-loop → tie.Start Inv-loop μ-loop
 entry c = c
 
-abbrev after-rows-of : tie.After-rows-of Inv-loop μ-loop → tie.After-rows-of Inv-loop μ-loop
-after-rows-of c = c
+abbrev front-rows : tie.After-rows-of Inv-loop μ-loop → tie.After-rows-of Inv-loop μ-loop
+front-rows c = c
 
 abbrev at-loop : tie.At-loop Inv-loop μ-loop → tie.At-loop Inv-loop μ-loop
 at-loop c = c
@@ -29,38 +29,43 @@ at-loop c = c
 abbrev in-loop : tie.In-loop Inv-loop μ-loop → tie.In-loop Inv-loop μ-loop
 in-loop c = c
 
-abbrev after-held-column : tie.After-held-column Inv-loop μ-loop → tie.After-held-column Inv-loop μ-loop
-after-held-column c = c
+abbrev update-found : tie.After-held-column Inv-loop μ-loop → tie.After-held-column Inv-loop μ-loop
+update-found c = c
 
-abbrev after-rows-of2 : tie.After-rows-of2 Inv-loop μ-loop → tie.After-rows-of2 Inv-loop μ-loop
-after-rows-of2 c = c
+abbrev update-rows : tie.After-rows-of2 Inv-loop μ-loop → tie.After-rows-of2 Inv-loop μ-loop
+update-rows c = c
 
 loop-holds : tie.Need-loop-holds Inv-loop μ-loop
-loop-holds c = looked-start _ _ _ _ _ _ _ (entry (search) .pre .1 .1 .0)
+loop-holds c = looked-start _ _ _ _ _ _ _ (entry (search) .pre .enough)
 
 held-column-requires : tie.Need-held-column-requires Inv-loop μ-loop
-held-column-requires c κs = (λ i l. entry (search) .pre .1 .0 .columns i (omega arith), (omega arith, omega arith))
+held-column-requires c κs = record {
+  columns = λ i l. entry (search) .pre .kept .columns i (omega arith);
+  low = omega arith;
+  listed = omega arith;
+}
 
 rows-of-requires-2 : tie.Need-rows-of-requires-2 Inv-loop μ-loop
-rows-of-requires-2 c κs = (entry (search) .pre .0, c .held-column .ensures .1)
+rows-of-requires-2 c κs = record { tested = entry (search) .pre .tested; column = c .held-column .ensures .column }
 
 stands-in-requires : tie.Need-stands-in-requires Inv-loop μ-loop
 stands-in-requires c κs =
-    let pre = entry (search) .pre in (
-      rw (after-rows-of (search) .rows-of .ensures) (column-ascends (pre .0) (pre .1 .1 .1)),
-      rw (c .rows-of2 .ensures) (column-ascends (pre .0) (c .before .held-column .ensures .1)),
-    )
+    let asked = entry (search) .pre in
+    record {
+      front-ascends = rw (front-rows (search) .rows-of .ensures) (column-ascends (asked .tested) (asked .column));
+      update-ascends = rw (c .rows-of2 .ensures) (column-ascends (asked .tested) (c .before .held-column .ensures .column));
+    }
 
 loop-again : tie.Need-loop-again Inv-loop μ-loop
 loop-again c =
-    looked-next _ _ _ _ _ (at-loop (search) .loop .inv) (in-loop (search) .loop-test .taken) (after-rows-of (search) .rows-of .ensures)
-    (after-held-column (search) .held-column .ensures .0) (after-rows-of2 (search) .rows-of2 .ensures) (c .before .stands-in .ensures)
+    looked-next _ _ _ _ _ (at-loop (search) .loop .inv) (in-loop (search) .loop-test .taken) (front-rows (search) .rows-of .ensures)
+    (update-found (search) .held-column .ensures .is) (update-rows (search) .rows-of2 .ensures) (c .before .stands-in .ensures)
     (c .if1 .taken)
 
 returns : tie.Need-returns Inv-loop μ-loop
 returns c =
-    looked-outside _ _ _ _ _ (at-loop (search) .loop .inv) (in-loop (search) .loop-test .taken) (after-rows-of (search) .rows-of .ensures)
-    (after-held-column (search) .held-column .ensures .0) (after-rows-of2 (search) .rows-of2 .ensures) (c .before .stands-in .ensures)
+    looked-outside _ _ _ _ _ (at-loop (search) .loop .inv) (in-loop (search) .loop-test .taken) (front-rows (search) .rows-of .ensures)
+    (update-found (search) .held-column .ensures .is) (update-rows (search) .rows-of2 .ensures) (c .before .stands-in .ensures)
     (c .if1 .left)
 
 returns-2 : tie.Need-returns-2 Inv-loop μ-loop

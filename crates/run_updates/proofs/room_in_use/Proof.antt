@@ -1,5 +1,6 @@
 -- The record has the entries held; the top update, read from the list, is one of them, so nothing goes below 0.
 -- Assumes nothing.
+use Prim.Native.Nat.{_+_, _^_, _<_}
 use native.Mathlib.Omega.{arith}
 use borrow.Author.Needs.{needs}
 use Rattle.run_updates.proofs.Uses.{top-within, front-fits, room-fits, room-above, room-on-top}
@@ -10,44 +11,39 @@ use Rattle.run_updates.proofs.room_in_use.Tie as tie
 abbrev entry : tie.Start → tie.Start
 entry c = c
 
-abbrev after-rows-of : tie.After-rows-of → tie.After-rows-of
-after-rows-of c = c
+abbrev front-rows : tie.After-rows-of → tie.After-rows-of
+front-rows c = c
 
-abbrev after-entries : tie.After-entries → tie.After-entries
-after-entries c = c
+abbrev front-counted : tie.After-entries → tie.After-entries
+front-counted c = c
 
-abbrev after-held-column : tie.After-held-column → tie.After-held-column
-after-held-column c = c
+abbrev top-found : tie.After-held-column → tie.After-held-column
+top-found c = c
+
+abbrev entry-of : tie.After-entries → tie.Start
+entry-of c = search
+
+-- the entries held and those of the front together fit 64 bits
+fits : (c : tie.After-entries) → entry-of c .args .held .entries + c .entries .result < 2 ^ 63
+fits c = room-fits (entry (search) .pre) (front-rows (search) .rows-of .ensures) (c .entries .ensures)
 
 entries-requires : tie.Need-entries-requires
-entries-requires c κs = front-fits (entry (search) .pre .0) (entry (search) .pre .1 .0) (entry (search) .pre .1 .1 .1) (c .rows-of .ensures)
-
-add-result : tie.Need-add-result
-add-result c =
-    let pre = entry (search) .pre in
-    omega (arith, room-fits (pre .0) (pre .1 .0) (pre .1 .1 .1) (after-rows-of (search) .rows-of .ensures) (after-entries (search) .entries .ensures))
+entries-requires c κs = front-fits (entry (search) .pre) (c .rows-of .ensures)
 
 returns : tie.Need-returns
 returns c =
-    let pre = entry (search) .pre in
-    room-above (pre .0) (pre .1 .0) (pre .1 .1 .1) (after-rows-of (search) .rows-of .ensures) (after-entries (search) .entries .ensures)
+    room-above (entry (search) .pre) (front-rows (search) .rows-of .ensures) (front-counted (search) .entries .ensures)
     (c .before .if1 .taken)
 
 sub-result : tie.Need-sub-result
 sub-result c =
-    top-within (entry (search) .pre .0) (entry (search) .pre .1 .0) (omega arith) (after-held-column (search) .held-column .ensures .0)
+    top-within (entry (search) .pre) (omega arith) (top-found (search) .held-column .ensures .is)
     (c .before .entries-of .ensures)
-
-add-result-2 : tie.Need-add-result-2
-add-result-2 c =
-    let pre = entry (search) .pre in
-    omega (arith, room-fits (pre .0) (pre .1 .0) (pre .1 .1 .1) (after-rows-of (search) .rows-of .ensures) (after-entries (search) .entries .ensures))
 
 returns-2 : tie.Need-returns-2
 returns-2 c =
-    let pre = entry (search) .pre in
-    room-on-top (pre .0) (pre .1 .0) (pre .1 .1 .1) (after-rows-of (search) .rows-of .ensures) (after-entries (search) .entries .ensures)
-    (omega arith) (pre .1 .1 .0) (after-held-column (search) .held-column .ensures .0) (c .before .entries-of .ensures)
+    room-on-top (entry (search) .pre) (front-rows (search) .rows-of .ensures) (front-counted (search) .entries .ensures)
+    (omega arith) (top-found (search) .held-column .ensures .is) (c .before .entries-of .ensures)
 
 pub room-in-use-spec : {M : Type 1} → statement M
 room-in-use-spec =
@@ -56,10 +52,10 @@ room-in-use-spec =
     (λ c κs. search needs)
     (λ c. search needs)
     entries-requires
-    add-result
+    (λ c. omega (arith, fits (search)))
     returns
     (λ c κs. search needs)
     (λ c κs. search needs)
     sub-result
-    add-result-2
+    (λ c. omega (arith, fits (search)))
     returns-2)

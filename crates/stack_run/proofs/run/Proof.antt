@@ -1,9 +1,10 @@
--- A law for each way out: 1, 4, 5 and 6, 7, and the steps, after which the stack list is cleared.
+-- Each test before the steps refuses and leaves the stack list as it was, or passes; where all pass the steps decide, and the list is cleared after
+-- them.
 -- Assumes nothing.
 use borrow.Author.Needs.{needs}
-use native.Mathlib.Omega.{arith}
 use Rattle.run_updates.specs.Kept.{callOf}
-use Rattle.stack_run.proofs.Outcomes.{run-many, run-starts, starts-pass, run-rows, factor-is, all-long, run-short, run-steps}
+use Rattle.job_rows.proofs.Started.{started}
+use Rattle.stack_run.proofs.Outcomes.{run-many, run-starts, run-rows, run-short, steps-asked, run-steps}
 use Rattle.stack_run.proofs.run.Statement.{statement}
 use Rattle.stack_run.proofs.run.Tie as tie
 
@@ -11,29 +12,29 @@ use Rattle.stack_run.proofs.run.Tie as tie
 abbrev entry : tie.Start → tie.Start
 entry c = c
 
-abbrev else1 : tie.Else1 → tie.Else1
-else1 c = c
+abbrev few : tie.Else1 → tie.Else1
+few c = c
 
-abbrev after-starts-fault : tie.After-starts-fault → tie.After-starts-fault
-after-starts-fault c = c
+abbrev tested-starts : tie.After-starts-fault → tie.After-starts-fault
+tested-starts c = c
 
-abbrev else2 : tie.Else2 → tie.Else2
-else2 c = c
+abbrev starts-pass : tie.Else2 → tie.Else2
+starts-pass c = c
 
-abbrev after-rows-fault : tie.After-rows-fault → tie.After-rows-fault
-after-rows-fault c = c
+abbrev tested-rows : tie.After-rows-fault → tie.After-rows-fault
+tested-rows c = c
 
-abbrev else3 : tie.Else3 → tie.Else3
-else3 c = c
+abbrev rows-pass : tie.Else3 → tie.Else3
+rows-pass c = c
 
-abbrev after-too-short : tie.After-too-short → tie.After-too-short
-after-too-short c = c
+abbrev measured : tie.After-too-short → tie.After-too-short
+measured c = c
 
-abbrev else4 : tie.Else4 → tie.Else4
-else4 c = c
+abbrev long : tie.Else4 → tie.Else4
+long c = c
 
-abbrev after-steps : tie.After-steps → tie.After-steps
-after-steps c = c
+abbrev stepped : tie.After-steps → tie.After-steps
+stepped c = c
 
 abbrev cleared : tie.After-clear32 → tie.After-clear32
 cleared c = c
@@ -42,43 +43,35 @@ returns : tie.Need-returns
 returns c = run-many _ (c .before .if1 .taken) (c .answered .ensures)
 
 returns-2 : tie.Need-returns-2
-returns-2 c = run-starts _ (else1 (search) .if1 .left) (after-starts-fault (search) .starts-fault .ensures) (c .if2 .taken)
+returns-2 c = run-starts _ (few (search) .if1 .left) (tested-starts (search) .starts-fault .ensures) (c .if2 .taken)
 
 rows-fault-requires : tie.Need-rows-fault-requires
-rows-fault-requires c κs =
-    let a = entry (search) .args in (
-      else1 (search) .if1 .left,
-      starts-pass (callOf (a .n) (a .starts .now) (a .rows .now) (a .columns .now) (a .pops .now) (a .room) (a .stack .now))
-          (else1 (search) .if1 .left) (after-starts-fault (search) .starts-fault .ensures) (c .if2 .left),
-    )
+rows-fault-requires c κs = started _ _ _ (few (search) .if1 .left) (tested-starts (search) .starts-fault .ensures) (c .if2 .left)
 
 returns-3 : tie.Need-returns-3
 returns-3 c =
-    run-rows _ (else1 (search) .if1 .left) (after-starts-fault (search) .starts-fault .ensures) (else2 (search) .if2 .left)
-    (after-rows-fault (search) .rows-fault .ensures) (c .if3 .taken)
+    run-rows _ (few (search) .if1 .left) (tested-starts (search) .starts-fault .ensures) (starts-pass (search) .if2 .left)
+    (tested-rows (search) .rows-fault .ensures) (c .if3 .taken)
 
 returns-4 : tie.Need-returns-4
 returns-4 c =
-    run-short _ (else1 (search) .if1 .left) (after-starts-fault (search) .starts-fault .ensures) (else2 (search) .if2 .left)
-    (after-rows-fault (search) .rows-fault .ensures) (else3 (search) .if3 .left) (after-too-short (search) .too-short .ensures)
+    run-short _ (few (search) .if1 .left) (tested-starts (search) .starts-fault .ensures) (starts-pass (search) .if2 .left)
+    (tested-rows (search) .rows-fault .ensures) (rows-pass (search) .if3 .left) (measured (search) .too-short .ensures)
     (c .before .if4 .taken) (c .answered2 .ensures)
 
 steps-requires : tie.Need-steps-requires
 steps-requires c κs =
-    let a = entry (search) .args in (
-      factor-is (callOf (a .n) (a .starts .now) (a .rows .now) (a .columns .now) (a .pops .now) (a .room) (a .stack .now)) (else1 (search) .if1 .left)
-          (after-starts-fault (search) .starts-fault .ensures) (else2 (search) .if2 .left) (after-rows-fault (search) .rows-fault .ensures)
-          (else3 (search) .if3 .left),
-      all-long (a .n) (a .columns .now) (a .pops .now) (a .stack .now) (after-too-short (search) .too-short .ensures)
-          (c .before .if4 .left),
-    )
+    let a = entry (search) .args in
+    steps-asked (callOf (a .n) (a .starts .now) (a .rows .now) (a .columns .now) (a .pops .now) (a .room) (a .stack .now)) (few (search) .if1 .left)
+    (tested-starts (search) .starts-fault .ensures) (starts-pass (search) .if2 .left) (tested-rows (search) .rows-fault .ensures)
+    (rows-pass (search) .if3 .left) (measured (search) .too-short .ensures) (c .before .if4 .left)
 
 returns-5 : tie.Need-returns-5
 returns-5 c =
-    let steps = after-steps (search) .steps in
-    run-steps _ (else1 (search) .if1 .left) (after-starts-fault (search) .starts-fault .ensures) (else2 (search) .if2 .left)
-    (after-rows-fault (search) .rows-fault .ensures) (else3 (search) .if3 .left) (after-too-short (search) .too-short .ensures)
-    (else4 (search) .if4 .left) (steps .ensures)
+    let steps = stepped (search) .steps in
+    run-steps _ (few (search) .if1 .left) (tested-starts (search) .starts-fault .ensures) (starts-pass (search) .if2 .left)
+    (tested-rows (search) .rows-fault .ensures) (rows-pass (search) .if3 .left) (measured (search) .too-short .ensures)
+    (long (search) .if4 .left) (steps .ensures)
     (let kept = steps .kept in cc (cleared (search) .clear32 .ensures))
 
 pub run-spec : {M : Type 1} → statement M
