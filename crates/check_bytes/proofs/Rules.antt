@@ -1,11 +1,12 @@
--- From what the reading and the judgement answer to what is known of the check.
+-- From what the key, the reading and the judgement answer to what is known of the check. Each of them decides the first test that refuses, or leaves
+-- it to the next; what the reading keeps stands at the front of slices that were cleared, so that a plan that passes is left in them with zeros behind.
 -- Assumes nothing.
 use Prim.Native.Nat.{ℕ, _<_, _≤_}
 use mathlib.Core.Path.{_≡_, refl, sym, ap, _∙_}
 use mathlib.Core.List.{List, map}
 use native.Mathlib.Omega.{arith}
 use lib.ListN.{length, getD}
-use lib.Seq.{sets}
+use lib.Seq.{sets, length-sets}
 use Rattle.papers.specs.declared.Answer.{Answer}
 use Rattle.papers.specs.Lists.{upTo, flat, zeros}
 use Rattle.papers.specs.Job.{Job, pattern}
@@ -19,17 +20,19 @@ use Rattle.bytes_laws.proofs.Plans.{Fit, plan-only}
 use Rattle.job_laws.specs.Parts.{InSlices}
 use Rattle.lent.specs.Six.{six, LongEnough}
 use Rattle.lent.proofs.Sixes.{each-zero}
+use Rattle.lent.proofs.Alike.{Alike, zero-long, long-alike}
+use Rattle.column_laws.proofs.Testing.{tested}
 use Rattle.check_key.specs.declared.KeyMatch.{KeyMatch}
-use Rattle.check_key.specs.declared.KeyMatch.the-variants.{Begins}
+use Rattle.check_key.specs.declared.KeyMatch.the-variants.{Begins, Differs}
 use Rattle.check_key.specs.Matches.{keyMatch}
 use Rattle.check_key.proofs.Answers.{begins-key}
 use Rattle.read_plan.specs.declared.PlanReading.{PlanReading}
 use Rattle.read_plan.specs.declared.PlanReading.the-variants.{Whole, Faulty}
-use Rattle.read_plan.specs.Plans.{planReading, Keeps}
+use Rattle.read_plan.specs.Plans.{PlanAsked, planReading, PlanIn, PlanTold}
 use Rattle.check_judge.specs.Judged.{InFront, HoldPlan, judgeTests, ruling, Judged}
 use Rattle.check_judge.proofs.Rulings.{Told, refusal, clean, told, number-of}
-use Rattle.check_bytes.specs.Ruled.{callOf, Ruled, refuses, passes, HeldIfWhole, Followed, fault, over, judged}
-use Rattle.check_bytes.proofs.Ways.{passes-11, refuses-12, refuses-8, from-16}
+use Rattle.check_bytes.specs.Ruled.{callOf, Checkable, Ruled, refuses, passes, Judgeable, Followed, fault, over, judged}
+use Rattle.check_bytes.proofs.Ways.{refuses-11, passes-11, refuses-12, refuses-8, from-16}
 use Rattle.check_bytes.proofs.Fronts.{in-slices, held-in-front, done-holds}
 
 -- ---- the answer of the reading
@@ -79,52 +82,103 @@ module _ (job : Job) (bytes : List ℕ) (lent : Lent) (p : first jobTests job �
             let a : r ≡ answer 0 0 (plan .peak) = f ∙ ap (answer 0 0) (sym declared) in
             passes (from-16 job bytes lent p long begins read fits ∙ q) (number-of f) ((λ i. record { answer = a i; lent = h i }) ∙ sym done-is)
 
--- ---- from the bytes, the key and what stands behind it
-module _ (job : Job) (bytes : List ℕ) (lent : Lent) (p : first jobTests job ≡ passed) (long : LongEnough (job .n) lent) {m : KeyMatch}
-    (matched : m ≡ keyMatch (keyOf job) bytes)
-    {at : ℕ} (behind : m ≡ Begins at) {g : PlanReading} (answered : g ≡ planReading (readPlan (job .n) bytes at))
-  where
-    begins : keyTest (callOf job bytes lent) ≡ passed
-    begins = passes-11 job bytes lent p long matched behind
+-- ---- from the key on
 
-    at-key : at ≡ length (keyOf job)
-    at-key = begins-key (keyOf job) bytes matched behind .1
+-- the plan begins with the job's key, and what stands behind it, from `at` on, is to be read
+pub record Begun (job : Job) (bytes : List ℕ) (lent : Lent) (at : ℕ) : Type 0 where
+  pub asked : Checkable job lent
+  pub begins : keyMatch (keyOf job) bytes ≡ Begins at
+  pub each-byte : (i : ℕ) → getD bytes i 0 < 256
 
-    found : g ≡ planReading (planRead (callOf job bytes lent))
-    unfolding planRead
-    found = rw at-key at answered
+-- 11: it does not
+pub ruled-key : {job : Job} {bytes : List ℕ} {lent : Lent} {parents order pops starts rows : List ℕ} {m : KeyMatch} {place : ℕ} {r : Answer}
+    → Checkable job lent → m ≡ keyMatch (keyOf job) bytes → m ≡ Differs place → r ≡ answer 11 place 0
+    → Ruled (callOf job bytes lent) parents order pops starts rows r
+ruled-key asked matched differs e =
+    refuses (refuses-11 _ _ _ (asked .passes) (asked .long) matched differs e) (λ n. omega (arith, number-of e))
 
-    -- 12 to 15
-    ruled-faulty : {number place : ℕ} {parents order pops starts rows : List ℕ} {r : Answer} → g ≡ Faulty number place → r ≡ answer number place 0
-        → Ruled (callOf job bytes lent) parents order pops starts rows r
-    ruled-faulty f e = let (v, z) = refuses-12 job bytes lent p long begins (reading-faulty _ found f) e in refuses v (λ n. omega arith)
+module _ {job : Job} {bytes : List ℕ} {lent : Lent} {at : ℕ} (begun : Begun job bytes lent at) where
+  p : first jobTests job ≡ passed
+  p = begun .asked .passes
 
-    module _ {peak count : ℕ} (f : g ≡ Whole peak count) where
-      whole : WholePlan (planRead (callOf job bytes lent)) peak count
-      whole = reading-whole _ found f
+  long : LongEnough (job .n) lent
+  long = begun .asked .long
 
-      -- 8
-      ruled-rows : {parents order pops starts rows : List ℕ} {r : Answer} → length (lent .factorRows) < count → r ≡ answer 8 0 count
-          → Ruled (callOf job bytes lent) parents order pops starts rows r
-      ruled-rows l e =
-          refuses (refuses-8 job bytes lent p long begins (whole .read) (omega (arith, whole .counted)) (e ∙ ap (answer 8 0) (sym (whole .counted))))
-          (λ n. omega (arith, number-of e))
+  begins : keyTest (callOf job bytes lent) ≡ passed
+  begins = passes-11 job bytes lent p long refl (begun .begins)
 
-      -- 16 to 20 and 9, on the plan that the reading keeps in the cleared slices
-      module _ (each-byte : (i : ℕ) → getD bytes i 0 < 256) (fits : count ≤ length (lent .factorRows)) {p₁ o₁ q₁ s₁ r₁ w₁ o q s r : List ℕ}
-          (cleared : six p₁ o₁ q₁ s₁ r₁ w₁ ≡ allZero lent)
-          (keeps : Keeps (readPlan (job .n) bytes at) o₁ o q₁ q s₁ s r₁ r)
-        where
+  at-key : at ≡ length (keyOf job)
+  at-key = begins-key (keyOf job) bytes refl (begun .begins) .1
+
+  -- what is read, is read into cleared slices
+  module _ {p₁ o₁ q₁ s₁ r₁ w₁ : List ℕ} (cleared : six p₁ o₁ q₁ s₁ r₁ w₁ ≡ allZero lent) where
+    -- these are as long as they were
+    alike : Alike lent (six p₁ o₁ q₁ s₁ r₁ w₁)
+    alike =
+        let each = each-zero lent _ cleared in
+        record {
+          parents = zero-long (lent .parents) (each .parents);
+          order = zero-long (lent .order) (each .order);
+          pops = zero-long (lent .pops) (each .pops);
+          starts = zero-long (lent .factorStarts) (each .starts);
+          rows = zero-long (lent .factorRows) (each .rows);
+          work = zero-long (lent .work) (each .work);
+        }
+
+    -- so there is room for the plan's steps and starts
+    pub plan-asked : PlanAsked (job .n) bytes at o₁ q₁ s₁
+    plan-asked =
+        let room = long-alike alike long in
+        record {
+          few = tested job p .few;
+          inside = begins-key (keyOf job) bytes refl (begun .begins) .2;
+          order-long = room .order;
+          pops-long = room .pops;
+          starts-long = room .starts;
+        }
+
+    module _ {reading : PlanReading} {o q s r : List ℕ} (told : PlanTold (readPlan (job .n) bytes at) o₁ o q₁ q s₁ s r₁ r reading) where
+      found : reading ≡ planReading (planRead (callOf job bytes lent))
+      unfolding planRead
+      found = rw at-key at (told .answers)
+
+      -- 12 to 15
+      ruled-faulty : {number place : ℕ} {parents : List ℕ} {a : Answer} → reading ≡ Faulty number place → a ≡ answer number place 0
+          → Ruled (callOf job bytes lent) parents o q s r a
+      ruled-faulty f e = let (v, z) = refuses-12 job bytes lent p long begins (reading-faulty _ found f) e in refuses v (λ n. omega arith)
+
+      -- a plan was read to its end
+      module _ {peak count : ℕ} (f : reading ≡ Whole peak count) where
+        whole : WholePlan (planRead (callOf job bytes lent)) peak count
+        whole = reading-whole _ found f
+
+        in-them : PlanIn (whole .plan) o₁ o q₁ q s₁ s r₁ r
+        unfolding planRead
+        in-them = told .keeps (whole .plan) (whole .at) (ap (readPlan (job .n) bytes) at-key ∙ whole .read)
+
+        -- the slice of rows is as long as it was
+        as-many : length r ≡ length (lent .factorRows)
+        as-many = ap length (in-them .listed) ∙ length-sets r₁ 0 (flat (whole .plan .lists)) ∙ alike .rows
+
+        -- 8
+        ruled-rows : {parents : List ℕ} {a : Answer} → length r < count → a ≡ answer 8 0 count → Ruled (callOf job bytes lent) parents o q s r a
+        ruled-rows l e =
+            refuses (refuses-8 job bytes lent p long begins (whole .read) (omega (arith, whole .counted, as-many))
+            (e ∙ ap (answer 8 0) (sym (whole .counted)))) (λ n. omega (arith, number-of e))
+
+        -- 16 to 20 and 9: its rows find room, so it stands in the slices
+        module _ (fits : count ≤ length r) where
           fit : Fit (job .n) (whole .plan)
           unfolding planRead
-          fit = plan-only (job .n) bytes each-byte (whole .plan) (length (keyOf job)) (whole .at) (whole .read) .1
+          fit = plan-only (job .n) bytes (begun .each-byte) (whole .plan) (length (keyOf job)) (whole .at) (whole .read) .1
+
+          room : length (flat (whole .plan .lists)) ≤ length (lent .factorRows)
+          room = omega (arith, whole .counted, as-many)
 
           kept : InSlices (whole .plan) lent o q s r
-          unfolding planRead
           kept =
               let each = each-zero lent _ cleared in
-              in-slices fit lent long (omega (arith, whole .counted)) (each .order) (each .pops) (each .starts) (each .rows)
-              (keeps (whole .plan) (whole .at) (ap (readPlan (job .n) bytes) at-key ∙ whole .read))
+              in-slices fit lent long room (each .order) (each .pops) (each .starts) (each .rows) in-them
 
           front : InFront (job .n) (whole .plan) peak o q s r
           front = held-in-front fit lent kept (whole .declared)
@@ -136,17 +190,19 @@ module _ (job : Job) (bytes : List ℕ) (lent : Lent) (p : first jobTests job �
               → (a .number ≡ 0 → parents ≡ sets p₁ 0 (map (parent (pattern job)) (upTo (job .n))))
               → Ruled (callOf job bytes lent) parents o q s r a
           ruled-judged e stores =
-              judged-plan job bytes lent p long begins (whole .read) (omega (arith, whole .counted)) (whole .declared) (e (whole .plan) front)
+              judged-plan job bytes lent p long begins (whole .read) room (whole .declared) (e (whole .plan) front)
               (λ z. done-holds job (whole .plan) lent (long .parents) (each-zero lent _ cleared .parents) (stores z) kept)
 
-    -- what the reading answered, and what followed
-    module _ (each-byte : (i : ℕ) → getD bytes i 0 < 256) {p₁ o₁ q₁ s₁ r₁ w₁ o q s r : List ℕ} (cleared : six p₁ o₁ q₁ s₁ r₁ w₁ ≡ allZero lent)
-        (keeps : Keeps (readPlan (job .n) bytes at) o₁ o q₁ q s₁ s r₁ r) (as-many : length r ≡ length (lent .factorRows))
-      where
-        pub whole-held : HeldIfWhole (job .n) g o q s r
-        whole-held peak count f h = plan-held f each-byte (omega arith) cleared keeps
+      -- what was read can be judged
+      pub judgeable : Alike (six p₁ o₁ q₁ s₁ r₁ w₁) (six p₁ o q s r w₁) → Judgeable job reading (six p₁ o q s r w₁)
+      judgeable same = record {
+        passes = p;
+        held = λ peak count f h. plan-held f h;
+        long = long-alike same (long-alike alike long);
+      }
 
-        pub ruled : {parents : List ℕ} {a : Answer} → Followed job g p₁ o q s r parents a → Ruled (callOf job bytes lent) parents o q s r a
-        ruled (fault number place f e) = ruled-faulty f e
-        ruled (over peak count f h e) = ruled-rows f (omega arith) e
-        ruled (judged peak count f h e stores) = ruled-judged f each-byte (omega arith) cleared keeps e stores
+      -- and what followed is known of the check
+      pub ruled : {parents : List ℕ} {a : Answer} → Followed job reading p₁ o q s r parents a → Ruled (callOf job bytes lent) parents o q s r a
+      ruled (fault number place f e) = ruled-faulty f e
+      ruled (over peak count f h e) = ruled-rows f h e
+      ruled (judged peak count f h e stores) = ruled-judged f h e stores

@@ -10,15 +10,20 @@ use Rattle.papers.specs.declared.Answer.{Answer}
 use Rattle.papers.specs.Lists.{upTo, zeros}
 use Rattle.papers.specs.Job.{Job, pattern}
 use Rattle.papers.specs.Tree.{parent}
-use Rattle.papers.specs.Refusals.{answer, zeroed, passed, refused, first, Outcome, Lent}
+use Rattle.papers.specs.Refusals.{answer, zeroed, passed, refused, first, jobTests, Outcome, Lent}
 use Rattle.papers.specs.Check.{CheckCall, checkTests, checkDone}
-use Rattle.lent.specs.Six.{six}
+use Rattle.lent.specs.Six.{six, LongEnough}
 use Rattle.read_plan.specs.declared.PlanReading.{PlanReading}
 use Rattle.read_plan.specs.declared.PlanReading.the-variants.{Whole, Faulty}
 use Rattle.check_judge.specs.Judged.{HoldPlan, Judged}
 
 abbrev pub callOf : Job → List ℕ → Lent → CheckCall
 callOf job plan lent = record { job = job; plan = plan; lent = lent }
+
+-- what the check of a plan's bytes stands on: a job that passed its tests, and slices that are long enough for it
+pub record Checkable (job : Job) (lent : Lent) : Type 0 where
+  pub passes : first jobTests job ≡ passed
+  pub long : LongEnough (job .n) lent
 
 -- a refusal that is to leave zeros; or a plan that passes and stands in the slices, and work is still to be cleared
 pub data Ruled (call : CheckCall) (parents order pops starts rows : List ℕ) (r : Answer) : Type 0 where
@@ -31,6 +36,12 @@ pub data Ruled (call : CheckCall) (parents order pops starts rows : List ℕ) (r
 abbrev pub HeldIfWhole : ℕ → PlanReading → List ℕ → List ℕ → List ℕ → List ℕ → Type 0
 HeldIfWhole n reading order pops starts rows =
     (peak count : ℕ) → reading ≡ Whole peak count → count ≤ length rows → HoldPlan n peak order pops starts rows
+
+-- what the judgement on a reading stands on: the same, and that the slices hold the plan
+pub record Judgeable (job : Job) (reading : PlanReading) (lent : Lent) : Type 0 where
+  pub passes : first jobTests job ≡ passed
+  pub held : HeldIfWhole (job .n) reading (lent .order) (lent .pops) (lent .factorStarts) (lent .factorRows)
+  pub long : LongEnough (job .n) lent
 
 -- what becomes of an answer of the reading: its fault, or rows without room, or the judgement on the plan, which stores the parents where it passes
 pub data Followed (job : Job) (reading : PlanReading) (parents₀ order pops starts rows parents : List ℕ) (r : Answer) : Type 0 where

@@ -3,11 +3,9 @@ use check_key::KeyMatch;
 use papers::Answer;
 use papers::JobHead;
 use read_plan::PlanReading;
-ghost use mathlib.Core.Path.{_≡_};
 ghost use Rattle.papers.specs.Job.{jobOf};
-ghost use Rattle.papers.specs.Refusals.{passed, first, jobTests};
-ghost use Rattle.lent.specs.Six.{six, LongEnough};
-ghost use Rattle.check_bytes.specs.Ruled.{callOf, Ruled, HeldIfWhole, Followed};
+ghost use Rattle.lent.specs.Six.{six};
+ghost use Rattle.check_bytes.specs.Ruled.{callOf, Checkable, Ruled, Judgeable, Followed};
 
 // A fault that the reading found, or 8, or 16 to 20 and 9 of the plan that was read.
 fn judge_reading(
@@ -22,9 +20,10 @@ fn judge_reading(
     frows: &[u32],
     work: &mut [u64],
 ) -> Answer
-    requires passes { ⌜ first jobTests (jobOf head (now starts) (now rows)) ≡ passed ⌝ }
-    requires held { ⌜ HeldIfWhole (head .n) reading (now order) (now pops) (now fstarts) (now frows) ⌝ }
-    requires long { ⌜ LongEnough (head .n) (six (now parents) (now order) (now pops) (now fstarts) (now frows) (now work)) ⌝ }
+    requires { ⌜
+        Judgeable (jobOf head (now starts) (now rows)) reading
+        (six (now parents) (now order) (now pops) (now fstarts) (now frows) (now work))
+        ⌝ }
     ensures { λ r. ⌜
         Followed (jobOf head (now (starts .entry)) (now (rows .entry))) reading (now (parents .entry)) (now (order .entry))
         (now (pops .entry)) (now (fstarts .entry)) (now (frows .entry)) (now (parents .exit)) r
@@ -68,13 +67,14 @@ pub fn judge_bytes(
     frows: &mut [u32],
     work: &mut [u64],
 ) -> Answer
-    requires passes { ⌜ first jobTests (jobOf head (now starts) (now rows)) ≡ passed ⌝ }
-    requires long { ⌜ LongEnough (head .n) (six (now parents) (now order) (now pops) (now fstarts) (now frows) (now work)) ⌝ }
+    requires { ⌜
+        Checkable (jobOf head (now starts) (now rows)) (six (now parents) (now order) (now pops) (now fstarts) (now frows) (now work))
+        ⌝ }
     ensures { λ r. ⌜
-        Ruled (callOf (jobOf head (now (starts .entry)) (now (rows .entry))) (now (plan .entry))
-        (six (now (parents .entry)) (now (order .entry)) (now (pops .entry)) (now (fstarts .entry)) (now (frows .entry))
-        (now (work .entry)))) (now (parents .exit)) (now (order .exit)) (now (pops .exit)) (now (fstarts .exit)) (now (frows .exit))
-        r
+        Ruled
+        (callOf (jobOf head (now (starts .entry)) (now (rows .entry))) (now (plan .entry))
+        (six (now (parents .entry)) (now (order .entry)) (now (pops .entry)) (now (fstarts .entry)) (now (frows .entry)) (now (work .entry))))
+        (now (parents .exit)) (now (order .exit)) (now (pops .exit)) (now (fstarts .exit)) (now (frows .exit)) r
         ⌝ }
 {
     match check_key::match_key(head, starts, rows, plan) {

@@ -1,14 +1,15 @@
--- The key's bytes differ, or what stands behind the key is read into the cleared slices and judged there.
+-- Where the plan's bytes do not begin with the key, the answer is 11. Else what stands behind the key is read into the cleared slices and judged
+-- there; each way it may go is one way that the tests of the papers may go (`Rules`).
 -- Assumes nothing.
+use Prim.Native.Nat.{ℕ}
+use mathlib.Core.Path.{refl, sym, _∙_}
 use native.Mathlib.Omega.{arith}
 use borrow.Author.Needs.{needs}
-use Rattle.check_key.proofs.Answers.{begins-key}
-use Rattle.lent.proofs.Alike.{long-alike}
-use Rattle.column_laws.proofs.Testing.{tested}
-use Rattle.check_judge.proofs.Rulings.{number-of}
-use Rattle.check_bytes.specs.Ruled.{refuses}
-use Rattle.check_bytes.proofs.Ways.{refuses-11}
-use Rattle.check_bytes.proofs.Rules.{whole-held, ruled}
+use denote.Ref.{now}
+use Rattle.papers.specs.Job.{Job, jobOf}
+use Rattle.papers.specs.Refusals.{Lent}
+use Rattle.lent.specs.Six.{six}
+use Rattle.check_bytes.proofs.Rules.{Begun, ruled-key, plan-asked, judgeable, ruled}
 use Rattle.check_bytes.proofs.judge_bytes.Statement.{statement}
 use Rattle.check_bytes.proofs.judge_bytes.Tie as tie
 
@@ -16,14 +17,14 @@ use Rattle.check_bytes.proofs.judge_bytes.Tie as tie
 abbrev entry : tie.Start → tie.Start
 entry c = c
 
+abbrev plan-known : tie.After-shared-slice-known3 → tie.After-shared-slice-known3
+plan-known c = c
+
 abbrev matched : tie.After-match-key → tie.After-match-key
 matched c = c
 
-abbrev after-next : tie.After-next → tie.After-next
-after-next c = c
-
-abbrev after-place : tie.After-place → tie.After-place
-after-place c = c
+abbrev differs : tie.After-place → tie.After-place
+differs c = c
 
 abbrev cleared : tie.After-clear-all → tie.After-clear-all
 cleared c = c
@@ -34,86 +35,58 @@ read c = c
 abbrev judged : tie.After-judge-reading → tie.After-judge-reading
 judged c = c
 
-abbrev entry₁ : tie.After-match-key → tie.Start
-entry₁ c = search
+-- From behind the judgement one search does not reach these: they are found from the reading.
+abbrev begins-before : tie.After-read-plan → tie.After-next
+begins-before c = search
 
-abbrev after-shared-slice-known3₁ : tie.After-match-key → tie.After-shared-slice-known3
-after-shared-slice-known3₁ c = search
+abbrev cleared-before : tie.After-read-plan → tie.After-clear-all
+cleared-before c = search
 
-abbrev entry₂ : tie.After-read-plan → tie.Start
-entry₂ c = entry₁ (search)
+-- The job, and the slices as they are lent.
+abbrev job : tie.Start → Job
+job c = jobOf (c .args .head) (now (c .args .starts)) (now (c .args .rows))
 
-abbrev after-shared-slice-known3₂ : tie.After-read-plan → tie.After-shared-slice-known3
-after-shared-slice-known3₂ c = after-shared-slice-known3₁ (search)
+abbrev lent : tie.Start → Lent
+lent c =
+    six (now (c .args .parents)) (now (c .args .order)) (now (c .args .pops)) (now (c .args .fstarts)) (now (c .args .frows)) (now (c .args .work))
 
-abbrev matched₂ : tie.After-read-plan → tie.After-match-key
-matched₂ c = search
+-- The place behind the key.
+abbrev behind : tie.After-next → ℕ
+behind c = c .next .given .0 .0
 
-abbrev after-next₂ : tie.After-read-plan → tie.After-next
-after-next₂ c = search
+-- What is known once the plan is found to begin with the key.
+begun : (c : tie.After-next) → Begun (job (entry (search))) (now (entry (search) .args .plan)) (lent (entry (search))) (behind c)
+begun c = record {
+  asked = entry (search) .pre;
+  begins = sym (matched (search) .match-key .ensures) ∙ c .next .given .1;
+  each-byte = λ i. omega (arith, plan-known (search) .shared-slice-known3 .given i);
+}
 
-abbrev cleared₂ : tie.After-read-plan → tie.After-clear-all
-cleared₂ c = search
-
+-- The bytes do not begin with the key: 11.
 returns : tie.Need-returns
-returns c =
-    refuses (refuses-11 _ _ _ (entry (search) .pre .0) (entry (search) .pre .1) (matched (search) .match-key .ensures)
-    (after-place (search) .place .given .1) (c .answered .ensures)) (λ n. omega (arith, number-of (c .answered .ensures)))
+returns c = ruled-key (entry (search) .pre) (matched (search) .match-key .ensures) (differs (search) .place .given .1) (c .answered .ensures)
 
+-- The cleared slices have room for a plan's steps and starts.
 read-plan-requires : tie.Need-read-plan-requires
-read-plan-requires c κs =
-    let long = entry₁ (search) .pre .1 in (
-      tested _ (entry₁ (search) .pre .0) .few,
-      begins-key _ _ (matched (search) .match-key .ensures) (after-next (search) .next .given .1) .2,
-      omega (arith, long .order, cleared (search) .clear-all .kept),
-      omega (arith, long .pops, cleared (search) .clear-all .kept),
-      omega (arith, long .starts, cleared (search) .clear-all .kept),
-    )
+read-plan-requires c κs = plan-asked (begun (search)) (cleared (search) .clear-all .ensures)
 
+-- What was read can be judged where it stands.
 judge-reading-requires : tie.Need-judge-reading-requires
-judge-reading-requires c κs = (
-  entry₂ (search) .pre .0,
-  (
-    whole-held _ _ _ (entry₂ (search) .pre .0) (entry₂ (search) .pre .1) (matched₂ (search) .match-key .ensures)
-        (after-next₂ (search) .next .given .1) (read (search) .read-plan .ensures .0)
-        (λ i. omega (arith, after-shared-slice-known3₂ (search) .shared-slice-known3 .given i)) (cleared₂ (search) .clear-all .ensures)
-        (read (search) .read-plan .ensures .1)
-        (omega (arith, read (search) .read-plan .kept, cleared₂ (search) .clear-all .kept)),
-    long-alike (record {
-      parents = cleared₂ (search) .clear-all .kept .0;
-      order = omega (arith, read (search) .read-plan .kept, cleared₂ (search) .clear-all .kept);
-      pops = omega (arith, read (search) .read-plan .kept, cleared₂ (search) .clear-all .kept);
-      starts = omega (arith, read (search) .read-plan .kept, cleared₂ (search) .clear-all .kept);
-      rows = omega (arith, read (search) .read-plan .kept, cleared₂ (search) .clear-all .kept);
-      work = omega (arith, cleared₂ (search) .clear-all .kept);
-    }) (entry₂ (search) .pre .1),
-  ),
-)
+judge-reading-requires c κs =
+    let kept = read (search) .read-plan .kept in
+    judgeable (begun (search)) (cleared (search) .clear-all .ensures) (read (search) .read-plan .ensures) (record {
+      parents = refl;
+      order = omega arith;
+      pops = omega arith;
+      starts = omega arith;
+      rows = omega arith;
+      work = refl;
+    })
 
-same-length : tie.Need-same-length
-same-length c = omega (arith, judged (search) .judge-reading .kept, cleared₂ (search) .clear-all .kept)
-
-same-length-2 : tie.Need-same-length-2
-same-length-2 c = omega (arith, read (search) .read-plan .kept, cleared₂ (search) .clear-all .kept)
-
-same-length-3 : tie.Need-same-length-3
-same-length-3 c = omega (arith, read (search) .read-plan .kept, cleared₂ (search) .clear-all .kept)
-
-same-length-4 : tie.Need-same-length-4
-same-length-4 c = omega (arith, read (search) .read-plan .kept, cleared₂ (search) .clear-all .kept)
-
-same-length-5 : tie.Need-same-length-5
-same-length-5 c = omega (arith, read (search) .read-plan .kept, cleared₂ (search) .clear-all .kept)
-
-same-length-6 : tie.Need-same-length-6
-same-length-6 c = omega (arith, judged (search) .judge-reading .kept, cleared₂ (search) .clear-all .kept)
-
+-- What followed is known of the check.
 returns-2 : tie.Need-returns-2
 returns-2 c =
-    ruled _ _ _ (entry₂ (search) .pre .0) (entry₂ (search) .pre .1) (matched₂ (search) .match-key .ensures) (after-next₂ (search) .next .given .1)
-    (read (search) .read-plan .ensures .0) (λ i. omega (arith, after-shared-slice-known3₂ (search) .shared-slice-known3 .given i))
-    (cleared₂ (search) .clear-all .ensures) (read (search) .read-plan .ensures .1)
-    (omega (arith, read (search) .read-plan .kept, cleared₂ (search) .clear-all .kept))
+    ruled (begun (begins-before (search))) (cleared-before (search) .clear-all .ensures) (read (search) .read-plan .ensures)
     (judged (search) .judge-reading .ensures)
 
 pub judge-bytes-spec : {M : Type 1} → statement M
@@ -128,10 +101,10 @@ judge-bytes-spec =
     (λ c κs. search needs)
     read-plan-requires
     judge-reading-requires
-    same-length
-    same-length-2
-    same-length-3
-    same-length-4
-    same-length-5
-    same-length-6
+    (λ c. omega (arith, judged (search) .judge-reading .kept, cleared-before (search) .clear-all .kept))
+    (λ c. omega (arith, read (search) .read-plan .kept, cleared-before (search) .clear-all .kept))
+    (λ c. omega (arith, read (search) .read-plan .kept, cleared-before (search) .clear-all .kept))
+    (λ c. omega (arith, read (search) .read-plan .kept, cleared-before (search) .clear-all .kept))
+    (λ c. omega (arith, read (search) .read-plan .kept, cleared-before (search) .clear-all .kept))
+    (λ c. omega (arith, judged (search) .judge-reading .kept, cleared-before (search) .clear-all .kept))
     returns-2)

@@ -1,4 +1,5 @@
--- Each answer of the reading has its case; the slices hold the plan where its rows found room.
+-- A fault that the reading found is the answer. Of a plan that was read, rows without room are 8; else the slices hold it, and its judgement is the
+-- answer.
 -- Assumes nothing.
 use borrow.Author.Needs.{needs}
 use native.Mathlib.Omega.{arith}
@@ -10,43 +11,37 @@ use Rattle.check_bytes.proofs.judge_reading.Tie as tie
 abbrev entry : tie.Start → tie.Start
 entry c = c
 
-abbrev after-reading : tie.After-reading → tie.After-reading
-after-reading c = c
+abbrev faulty : tie.After-reading → tie.After-reading
+faulty c = c
 
-abbrev after-reading2 : tie.After-reading2 → tie.After-reading2
-after-reading2 c = c
+abbrev whole : tie.After-reading2 → tie.After-reading2
+whole c = c
 
-abbrev else1 : tie.Else1 → tie.Else1
-else1 c = c
+abbrev rows-fit : tie.Else1 → tie.Else1
+rows-fit c = c
 
-abbrev after-judge : tie.After-judge → tie.After-judge
-after-judge c = c
+abbrev told : tie.After-judge → tie.After-judge
+told c = c
 
 returns : tie.Need-returns
-returns c = fault _ _ (after-reading (search) .reading .given .1) (c .answered .ensures)
+returns c = fault _ _ (faulty (search) .reading .given .1) (c .answered .ensures)
 
 returns-2 : tie.Need-returns-2
-returns-2 c = over _ _ (after-reading2 (search) .reading2 .given .1) (c .before .if1 .taken) (c .answered2 .ensures)
+returns-2 c = over _ _ (whole (search) .reading2 .given .1) (c .before .if1 .taken) (c .answered2 .ensures)
 
 judge-requires : tie.Need-judge-requires
 judge-requires c κs = (
-  entry (search) .pre .0,
+  entry (search) .pre .passes,
   (
-    entry (search) .pre .1 .0 _ _ (after-reading2 (search) .reading2 .given .1) (else1 (search) .if1 .left),
-    entry (search) .pre .1 .1,
+    entry (search) .pre .held _ _ (whole (search) .reading2 .given .1) (rows-fit (search) .if1 .left),
+    entry (search) .pre .long,
   ),
 )
 
-same-length : tie.Need-same-length
-same-length c = omega (arith, after-judge (search) .judge .kept)
-
-same-length-2 : tie.Need-same-length-2
-same-length-2 c = omega (arith, after-judge (search) .judge .kept)
-
 returns-3 : tie.Need-returns-3
 returns-3 c =
-    judged _ _ (after-reading2 (search) .reading2 .given .1) (else1 (search) .if1 .left) (after-judge (search) .judge .ensures .0)
-    (after-judge (search) .judge .ensures .1)
+    judged _ _ (whole (search) .reading2 .given .1) (rows-fit (search) .if1 .left) (told (search) .judge .ensures .0)
+    (told (search) .judge .ensures .1)
 
 pub judge-reading-spec : {M : Type 1} → statement M
 judge-reading-spec =
@@ -59,6 +54,6 @@ judge-reading-spec =
     (λ c κs. search needs)
     returns-2
     judge-requires
-    same-length
-    same-length-2
+    (λ c. omega (arith, told (search) .judge .kept))
+    (λ c. omega (arith, told (search) .judge .kept))
     returns-3)
