@@ -40,13 +40,13 @@ module _ {key : List ℕ} {head : JobHead} {count at : ℕ} (parts : KeyParts ke
       let c = lists-reach (head .n) key 1 (head .n) at (parts .lists) (parts .end) (parts .stand) .0 in
       let l = length-starts 0 (parts .lists) in
       let q : head .n + 1 ≡ length (startsFrom 0 (parts .lists)) = omega arith in
-      rw (kept-there told (parts .stand) .0, q) (front-stored (replicate (programColumns + 1) 0) (startsFrom 0 (parts .lists))
+      rw (kept-there told (parts .stand) .begins, q) (front-stored (replicate (programColumns + 1) 0) (startsFrom 0 (parts .lists))
       (rw length-replicate (omega arith)))
 
   rows-stored : take count rows ≡ flat (parts .lists)
   rows-stored =
       let c = parts .counted in
-      rw (kept-there told (parts .stand) .1, c) (front-stored (replicate programRows 0) (flat (parts .lists)) (rw length-replicate (omega arith)))
+      rw (kept-there told (parts .stand) .listed, c) (front-stored (replicate programRows 0) (flat (parts .lists)) (rw length-replicate (omega arith)))
 
   -- the answer of the check is that of the call
   pub key-answer : (plan : List ℕ) {a : Answer} → a ≡ checked (jobOf head (take (head .n + 1) starts) (take count rows)) plan buffers .answer

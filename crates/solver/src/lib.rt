@@ -3,13 +3,11 @@ use papers::Answer;
 use papers::JobHead;
 use read_key::KeyReading;
 ghost use mathlib.Core.Path.{_≡_};
-ghost use Prim.Native.Nat.{_≤_};
-ghost use Rattle.papers.specs.Bounds.{programColumns, programRows};
 ghost use Rattle.papers.specs.Job.{jobOf};
 ghost use Rattle.papers.specs.Check.{checked};
 ghost use Rattle.papers.specs.Text.{buffers};
 ghost use Rattle.papers.specs.Call.{solverAnswer, called};
-ghost use Rattle.read_key.specs.Keys.{KeyParts};
+ghost use Rattle.solver.specs.Within.{WithinSizes};
 
 // The check of a plan's bytes for a job, in zeroed buffers of the program's sizes.
 fn check_in_buffers(head: JobHead, starts: &[u64], rows: &[u32], plan: &[u8]) -> Answer
@@ -38,9 +36,7 @@ fn check_in_buffers(head: JobHead, starts: &[u64], rows: &[u32], plan: &[u8]) ->
 // The check of a plan's bytes for the job of a key that was read through and is within the sizes: its lists, which start at `at` and
 // have `count` rows, are read once more, into buffers of their own.
 fn check_for_key(key: &[u8], head: JobHead, count: u64, at: usize, plan: &[u8]) -> Answer
-    requires lists { ⌜ KeyParts (now key) head count at ⌝ }
-    requires columns { ⌜ head .n ≤ programColumns ⌝ }
-    requires rows { ⌜ count ≤ programRows ⌝ }
+    requires { ⌜ WithinSizes (now key) head count at ⌝ }
     ensures { λ r. ⌜ r ≡ solverAnswer (record { key = now (key .entry); plan = now (plan .entry) }) ⌝ }
 {
     let n = head.n as usize;

@@ -13,8 +13,8 @@ use Rattle.solver.proofs.check.Tie as tie
 abbrev read : tie.After-read-key → tie.After-read-key
 read c = c
 
-abbrev after-head : tie.After-head → tie.After-head
-after-head c = c
+abbrev key-whole : tie.After-head → tie.After-head
+key-whole c = c
 
 abbrev checked : tie.After-check-for-key → tie.After-check-for-key
 checked c = c
@@ -27,12 +27,16 @@ returns c = let (number, place, e) = told-unreadable (read (search) .read-key .e
 
 returns-2 : tie.Need-returns-2
 returns-2 c =
-    over-is-26 _ _ (told-whole (read (search) .read-key .ensures) (after-head (search) .head .given .1))
+    over-is-26 _ _ (told-whole (read (search) .read-key .ensures) (key-whole (search) .head .given .1))
     (⊎-elim (λ x. inl (x .taken)) (λ x. inr (ltb-true _ _ (x .1 .taken))) (c .if1 .came))
 
 check-for-key-requires : tie.Need-check-for-key-requires
 check-for-key-requires c κs =
-    (told-whole (read (search) .read-key .ensures) (after-head (search) .head .given .1), (c .before .if1 .left, ltb-false _ _ (c .if2 .left)))
+    record {
+      parts = told-whole (read (search) .read-key .ensures) (key-whole (search) .head .given .1);
+      columns-fit = c .before .if1 .left;
+      rows-fit = ltb-false _ _ (c .if2 .left);
+    }
 
 mul-result-3 : tie.Need-mul-result-3
 mul-result-3 c = let w = answer-bounded _ _ (c .before .check-for-key .ensures) in let h = w .number in search needs

@@ -17,16 +17,16 @@ read c = c
 
 slice-aggregate-check-in-buffers : tie.Need-slice-aggregate-check-in-buffers
 slice-aggregate-check-in-buffers c =
-    let h = entry (search) .pre .1 .0 in let k = read (search) .read-lists .kept in sym (length-take-le _ _ (omega arith))
+    sym (length-take-le _ _ (omega (arith, entry (search) .pre .columns-fit, read (search) .read-lists .kept)))
 
 slice-aggregate-check-in-buffers-2 : tie.Need-slice-aggregate-check-in-buffers-2
 slice-aggregate-check-in-buffers-2 c =
-    let h = entry (search) .pre .1 .1 in let k = read (search) .read-lists .kept in sym (length-take-le _ _ (omega arith))
+    sym (length-take-le _ _ (omega (arith, entry (search) .pre .rows-fit, read (search) .read-lists .kept)))
 
 returns : tie.Need-returns
 returns c =
-    key-answer (entry (search) .pre .0) (entry (search) .pre .1 .0) (entry (search) .pre .1 .1) (read (search) .read-lists .ensures) _
-    (c .check-in-buffers .ensures)
+    let within = entry (search) .pre in
+    key-answer (within .parts) (within .columns-fit) (within .rows-fit) (read (search) .read-lists .ensures) _ (c .check-in-buffers .ensures)
 
 pub check-for-key-spec : {M : Type 1} → statement M
 check-for-key-spec =

@@ -19,12 +19,12 @@ in-buffers : (job : Job) (plan : List ℕ) {a : Answer} {lent : Lent} → record
 unfolding buffers
 in-buffers job plan e = ap (λ (o : Outcome Lent). o .answer) e
 
--- The places that the answers look back to: `after-check-plan (search)` is the one behind the answer at hand.
-abbrev after-check-plan : tie.After-check-plan → tie.After-check-plan
-after-check-plan c = c
+-- The places that the answers look back to: `checked-plan (search)` is the one behind the answer at hand.
+abbrev checked-plan : tie.After-check-plan → tie.After-check-plan
+checked-plan c = c
 
 returns : tie.Need-returns
-returns c = in-buffers _ _ (after-check-plan (search) .check-plan .ensures)
+returns c = in-buffers _ _ (checked-plan (search) .check-plan .ensures)
 
 pub check-in-buffers-spec : {M : Type 1} → statement M
 check-in-buffers-spec =
