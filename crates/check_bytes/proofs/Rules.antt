@@ -1,5 +1,5 @@
--- From what the key, the reading and the judgement answer to what is known of the check. Each of them decides the first test that refuses, or leaves
--- it to the next; what the reading keeps stands at the front of slices that were cleared, so that a plan that passes is left in them with zeros behind.
+-- From what the key, the reading and the judgement answer to what is known of the check. Each of them decides, or leaves it to the next; what the
+-- reading keeps stands at the front of cleared slices, so that a plan that passes is left in them with zeros behind it.
 -- Assumes nothing.
 use Prim.Native.Nat.{ℕ, _<_, _≤_}
 use mathlib.Core.Path.{_≡_, refl, sym, ap, _∙_}

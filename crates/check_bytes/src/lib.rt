@@ -73,7 +73,8 @@ pub fn judge_bytes(
     ensures { λ r. ⌜
         Ruled
         (callOf (jobOf head (now (starts .entry)) (now (rows .entry))) (now (plan .entry))
-        (six (now (parents .entry)) (now (order .entry)) (now (pops .entry)) (now (fstarts .entry)) (now (frows .entry)) (now (work .entry))))
+        (six (now (parents .entry)) (now (order .entry)) (now (pops .entry)) (now (fstarts .entry)) (now (frows .entry))
+        (now (work .entry))))
         (now (parents .exit)) (now (order .exit)) (now (pops .exit)) (now (fstarts .exit)) (now (frows .exit)) r
         ⌝ }
 {

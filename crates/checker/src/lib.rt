@@ -24,7 +24,8 @@ pub fn check_plan(
         EndsAs r
         (six (now (parents .exit)) (now (order .exit)) (now (pops .exit)) (now (fstarts .exit)) (now (frows .exit)) (now (work .exit)))
         (checked (jobOf head (now (starts .entry)) (now (rows .entry))) (now (plan .entry))
-        (six (now (parents .entry)) (now (order .entry)) (now (pops .entry)) (now (fstarts .entry)) (now (frows .entry)) (now (work .entry))))
+        (six (now (parents .entry)) (now (order .entry)) (now (pops .entry)) (now (fstarts .entry)) (now (frows .entry))
+        (now (work .entry))))
         ⌝ }
 {
     let fault = job::first_fault(head, starts, rows);

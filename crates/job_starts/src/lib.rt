@@ -8,7 +8,7 @@ ghost use Rattle.papers.specs.Refusals.{answerOf, startsTest};
 // 4: not n + 1 starts, or the first not 0; the first column that would end before it begins; the last start not the row count.
 // One pass over the columns: no start of the first `done` columns falls.
 pub fn starts_fault(n: u64, starts: &[u64], rows: &[u32]) -> Answer
-    requires few { ⌜ n ≤ maxColumns ⌝ }
+    requires { ⌜ n ≤ maxColumns ⌝ }
     ensures { λ r. ⌜ r ≡ answerOf (startsTest n (now (starts .entry)) (now (rows .entry))) ⌝ }
 {
     if starts.len() as u64 != n + 1 {

@@ -46,7 +46,8 @@ module _ {key : List ℕ} {head : JobHead} {count at : ℕ} (parts : KeyParts ke
   rows-stored : take count rows ≡ flat (parts .lists)
   rows-stored =
       let c = parts .counted in
-      rw (kept-there told (parts .stand) .listed, c) (front-stored (replicate programRows 0) (flat (parts .lists)) (rw length-replicate (omega arith)))
+      rw (kept-there told (parts .stand) .listed, c) (front-stored (replicate programRows 0) (flat (parts .lists))
+      (rw length-replicate (omega arith)))
 
   -- the answer of the check is that of the call
   pub key-answer : (plan : List ℕ) {a : Answer} → a ≡ checked (jobOf head (take (head .n + 1) starts) (take count rows)) plan buffers .answer

@@ -1,4 +1,5 @@
--- `job::starts_fault` meets its contract: the loop's invariant and what each way through the function gives stand in `Rising`.
+-- No start of the first `done` columns falls: so the first that does is found where the next column ends before it begins, and at the end only the
+-- last start is left to test.
 -- Assumes nothing.
 use borrow.Author.Needs.{needs}
 use Prim.Native.Nat.{_-_}
@@ -14,9 +15,9 @@ Inv-loop n starts rows done₀ done = Rising n starts done
 abbrev μ-loop : tie.MeasureT-loop
 μ-loop n starts rows done₀ done = n - done
 
--- The places that the answers look back to: `else1 (search)` is the one behind the answer at hand.
-abbrev else1 : tie.Else1 Inv-loop μ-loop → tie.Else1 Inv-loop μ-loop
-else1 c = c
+-- The places that the answers look back to: `as-many (search)` is the one behind the answer at hand.
+abbrev as-many : tie.Else1 Inv-loop μ-loop → tie.Else1 Inv-loop μ-loop
+as-many c = c
 
 abbrev at-loop : tie.At-loop Inv-loop μ-loop → tie.At-loop Inv-loop μ-loop
 at-loop c = c
@@ -31,10 +32,10 @@ returns : tie.Need-returns Inv-loop μ-loop
 returns c = answer-refused (starts-few _ _ _ (c .before .if1 .taken)) (c .answered .ensures)
 
 returns-2 : tie.Need-returns-2 Inv-loop μ-loop
-returns-2 c = answer-refused (starts-from _ _ _ (else1 (search) .if1 .left) (rw (start-at _ 0) (c .before .if2 .taken))) (c .answered2 .ensures)
+returns-2 c = answer-refused (starts-from _ _ _ (as-many (search) .if1 .left) (rw (start-at _ 0) (c .before .if2 .taken))) (c .answered2 .ensures)
 
 loop-holds : tie.Need-loop-holds Inv-loop μ-loop
-loop-holds c = begin _ (else1 (search) .if1 .left) (c .if2 .left)
+loop-holds c = begin _ (as-many (search) .if1 .left) (c .if2 .left)
 
 returns-3 : tie.Need-returns-3 Inv-loop μ-loop
 returns-3 c =

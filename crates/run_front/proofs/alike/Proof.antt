@@ -14,9 +14,9 @@ Inv-loop a b end i₀ i = Same a b i
 abbrev μ-loop : tie.MeasureT-loop
 μ-loop a b end i₀ i = end - i
 
--- The places that the answers look back to: `after-lesser (search)` is the one behind the answer at hand.
-abbrev after-lesser : tie.After-lesser Inv-loop μ-loop → tie.After-lesser Inv-loop μ-loop
-after-lesser c = c
+-- The places that the answers look back to: `limited (search)` is the one behind the answer at hand.
+abbrev limited : tie.After-lesser Inv-loop μ-loop → tie.After-lesser Inv-loop μ-loop
+limited c = c
 
 abbrev at-loop : tie.At-loop Inv-loop μ-loop → tie.At-loop Inv-loop μ-loop
 at-loop c = c
@@ -26,7 +26,7 @@ in-loop c = c
 
 loop-again : tie.Need-loop-again Inv-loop μ-loop
 loop-again c =
-    same-next (at-loop (search) .loop .inv) (omega (arith, in-loop (search) .loop-test .taken, after-lesser (search) .lesser .ensures)) (c .if1 .left)
+    same-next (at-loop (search) .loop .inv) (omega (arith, in-loop (search) .loop-test .taken, limited (search) .lesser .ensures)) (c .if1 .left)
 
 pub alike-spec : {M : Type 1} → statement M
 alike-spec =

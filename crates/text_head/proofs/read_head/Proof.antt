@@ -10,8 +10,8 @@ use Rattle.text_head.proofs.read_head.Tie as tie
 abbrev read : tie.After-read-word → tie.After-read-word
 read c = c
 
-abbrev after-n : tie.After-n → tie.After-n
-after-n c = c
+abbrev size-read : tie.After-n → tie.After-n
+size-read c = c
 
 enum-told : tie.Need-enum-told
 enum-told c = search needs
@@ -23,7 +23,7 @@ read-limit-requires : tie.Need-read-limit-requires
 read-limit-requires c κs = word-more (read (search) .read-word .ensures) (c .before .n .given .1) .inside
 
 returns-2 : tie.Need-returns-2
-returns-2 c = head-further (word-more (read (search) .read-word .ensures) (after-n (search) .n .given .1)) _ (c .read-limit .ensures)
+returns-2 c = head-further (word-more (read (search) .read-word .ensures) (size-read (search) .n .given .1)) _ (c .read-limit .ensures)
 
 returns-3 : tie.Need-returns-3
 returns-3 c = head-bad (word-bad (read (search) .read-word .ensures) (c .enum-told2 .given .1))

@@ -10,8 +10,8 @@ use Rattle.text_head.proofs.read_limit.Tie as tie
 abbrev read : tie.After-read-word → tie.After-read-word
 read c = c
 
-abbrev after-limit2 : tie.After-limit2 → tie.After-limit2
-after-limit2 c = c
+abbrev limit-read : tie.After-limit2 → tie.After-limit2
+limit-read c = c
 
 returns : tie.Need-returns
 returns c = head-two (word-last (read (search) .read-word .ensures) (c .before .limit .given .1)) _
@@ -20,7 +20,7 @@ read-mark-requires : tie.Need-read-mark-requires
 read-mark-requires c κs = word-more (read (search) .read-word .ensures) (c .before .limit2 .given .1) .inside
 
 returns-2 : tie.Need-returns-2
-returns-2 c = head-further (word-more (read (search) .read-word .ensures) (after-limit2 (search) .limit2 .given .1)) _ (c .read-mark .ensures)
+returns-2 c = head-further (word-more (read (search) .read-word .ensures) (limit-read (search) .limit2 .given .1)) _ (c .read-mark .ensures)
 
 enum-told : tie.Need-enum-told
 enum-told c = search needs

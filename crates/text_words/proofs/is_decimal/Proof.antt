@@ -11,8 +11,8 @@ use Rattle.text_words.proofs.is_decimal.Tie as tie
 abbrev entry : tie.Start → tie.Start
 entry c = c
 
-abbrev else1 : tie.Else1 → tie.Else1
-else1 c = c
+abbrev some : tie.Else1 → tie.Else1
+some c = c
 
 returns : tie.Need-returns
 returns c = sym (none-decimal _ _ (c .before .pre) (c .if1 .taken))
@@ -21,7 +21,7 @@ returns-2 : tie.Need-returns-2
 returns-2 c = let e = c .if2 .taken in sym (digits-decimal _ _ (entry (search) .pre) (omega arith) (λ l. absurd (omega arith)))
 
 returns-3 : tie.Need-returns-3
-returns-3 c = let e = else1 (search) .if1 .left in let f = c .before .if2 .left in lead-decimal _ _ (entry (search) .pre) (omega arith)
+returns-3 c = let e = some (search) .if1 .left in let f = c .before .if2 .left in lead-decimal _ _ (entry (search) .pre) (omega arith)
 
 pub is-decimal-spec : {M : Type 1} → statement M
 is-decimal-spec = tie.close (tie.spec returns returns-2 (λ c. search needs) returns-3)
