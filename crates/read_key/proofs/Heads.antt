@@ -1,10 +1,9 @@
 -- The numbers before the lists, one field behind another: the first at fault makes the key unreadable, and all four in their ranges are the head.
 -- Assumes nothing.
-use Prim.Native.Nat.{ℕ, _≤_}
+use Prim.Native.Nat.{ℕ}
 use mathlib.Core.Path.{_≡_, refl, sym, ap, _∙_}
 use mathlib.Core.List.{List}
 use native.Mathlib.Omega.{arith}
-use lib.ListN.{length}
 use Rattle.papers.specs.Bounds.{edition, maxColumns, maxMark, maxLimit}
 use Rattle.papers.specs.Plan.{Read, got, bad, field}
 use Rattle.papers.specs.declared.JobHead.{JobHead}

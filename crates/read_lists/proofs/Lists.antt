@@ -1,7 +1,7 @@
 -- The list of a column is its count and the rows behind it: the first number at fault is the list's fault, and rows read to the end are the list.
 -- Where the quick reader of rows leaves off, the other keeps its rows over those kept.
 -- Assumes nothing.
-use Prim.Native.Nat.{zero, suc, ℕ, _+_, _-_, _*_, _^_, _<_, _≤_}
+use Prim.Native.Nat.{zero, suc, ℕ, _+_, _-_, _*_, _^_, _<_}
 use mathlib.Core.List.{List}
 use mathlib.Core.Path.{_≡_, sym, ap, _∙_}
 use mathlib.Core.Logic.{_≢_}
