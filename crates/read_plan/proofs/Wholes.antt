@@ -13,6 +13,8 @@ use Rattle.papers.specs.Lists.{flat}
 use Rattle.papers.specs.Plan.{Plan, Read, got, bad, then, field, readSteps, readLists, atEnd, readPlan}
 use Rattle.bytes_laws.proofs.Fields.{got-bad, then-got, then-bad, then-only}
 use Rattle.bytes_laws.proofs.Plans.{end-only}
+use Rattle.bytes_laws.proofs.Reaches.{steps-reach, lists-reach}
+use Rattle.read_fields.proofs.Answers.{PartFound}
 use Rattle.read_plan.specs.Plans.{StepsIn, ListsIn, planReading, readPeak, peakReading, PlanIn, PlanTold}
 use Rattle.read_plan.specs.declared.PlanReading.the-variants.{Whole, Faulty}
 use Rattle.read_plan.specs.declared.PlanReading.{PlanReading}
@@ -46,6 +48,16 @@ module _ (n : ℕ) (s : List ℕ) (at : ℕ) where
   unfolding readPlan
   no-lists e f = then-got _ e ∙ then-bad _ f
 
+-- parts that are read end inside the bytes
+module _ (n : ℕ) (s : List ℕ) (at : ℕ) where
+  pub steps-inside : {Kept : List (ℕ × ℕ) → Type 0} {count k : ℕ} → PartFound length Kept (readSteps n n s at) count k
+      → at ≤ length s → k ≤ length s
+  steps-inside {k = k} steps h = steps-reach n s n at (steps .part) k (steps .read) .1 .inside h
+
+  pub lists-inside : {Kept : List (List ℕ) → Type 0} {total m : ℕ}
+      → PartFound (λ lists. length (flat lists)) Kept (readLists n 1 n s at) total m → at ≤ length s → m ≤ length s
+  lists-inside {m = m} lists h = lists-reach n s 1 n at (lists .part) m (lists .read) .1 .inside h
+
 -- what is answered, and kept, of a plan at fault
 pub plan-faulty : {found : Read Plan} {order₀ order pops₀ pops starts₀ starts rows₀ rows : List ℕ} {number place : ℕ} → found ≡ bad number place
     → PlanTold found order₀ order pops₀ pops starts₀ starts rows₀ rows (Faulty number place)
@@ -77,24 +89,29 @@ module _ (s : List ℕ) (steps : List (ℕ × ℕ)) (lists : List (List ℕ)) wh
       (ap (λ (p : Plan). p .steps) same, ap (λ (p : Plan). p .lists) same)
 
 -- what is answered, and kept, of a plan whose steps and lists are read
-pub plan-whole : (n : ℕ) (s : List ℕ) (at : ℕ) {order₀ order pops₀ pops starts₀ starts rows₀ rows : List ℕ} {steps : List (ℕ × ℕ)}
-    {lists : List (List ℕ)} {k m total : ℕ} {r : PlanReading}
-    → readSteps n n s at ≡ got steps k → StepsIn order₀ order pops₀ pops steps → readLists n 1 n s k ≡ got lists m → total ≡ length (flat lists)
-    → ListsIn starts₀ starts rows₀ rows lists
-    → r ≡ peakReading total (readPeak s m) → PlanTold (readPlan n s at) order₀ order pops₀ pops starts₀ starts rows₀ rows r
-unfolding readPlan readPeak rest
-plan-whole n s at {order₀} {order} {pops₀} {pops} {starts₀} {starts} {rows₀} {rows} {steps} {lists} {m = m} e in-steps f t in-lists a =
-    let whole : readPlan n s at ≡ rest s steps lists (field 0 maxPeak s m) = then-got _ e ∙ then-got _ f in
-    record {
-      answers = a ∙ ap (λ (x : ℕ). peakReading x (readPeak s m)) t ∙ rest-answer s steps lists (field 0 maxPeak s m) ∙ ap planReading (sym whole);
-      keeps = λ plan next g. kept plan (rest-kept s steps lists (field 0 maxPeak s m) (sym whole ∙ g));
-    }
-  where
-    kept : (plan : Plan) → (steps ≡ plan .steps) × (lists ≡ plan .lists) → PlanIn plan order₀ order pops₀ pops starts₀ starts rows₀ rows
-    kept plan (p, q) =
-        record {
-          columns = rw (← p) (in-steps .columns);
-          popped = rw (← p) (in-steps .popped);
-          begins = rw (← q) (in-lists .begins);
-          listed = rw (← q) (in-lists .listed);
-        }
+module _ (n : ℕ) (s : List ℕ) (at : ℕ) {order₀ order pops₀ pops starts₀ starts rows₀ rows : List ℕ} {count k total m : ℕ}
+    (steps : PartFound length (StepsIn order₀ order pops₀ pops) (readSteps n n s at) count k)
+    (lists : PartFound (λ lists. length (flat lists)) (ListsIn starts₀ starts rows₀ rows) (readLists n 1 n s k) total m) where
+  -- what is then left is the peak
+  peak-left : readPlan n s at ≡ rest s (steps .part) (lists .part) (field 0 maxPeak s m)
+  unfolding readPlan rest
+  peak-left = then-got _ (steps .read) ∙ then-got _ (lists .read)
+
+  parts-kept : (plan : Plan) → (steps .part ≡ plan .steps) × (lists .part ≡ plan .lists)
+      → PlanIn plan order₀ order pops₀ pops starts₀ starts rows₀ rows
+  parts-kept plan (p, q) =
+      record {
+        columns = rw (← p) (steps .kept .columns);
+        popped = rw (← p) (steps .kept .popped);
+        begins = rw (← q) (lists .kept .begins);
+        listed = rw (← q) (lists .kept .listed);
+      }
+
+  pub plan-whole : {r : PlanReading} → r ≡ peakReading total (readPeak s m)
+      → PlanTold (readPlan n s at) order₀ order pops₀ pops starts₀ starts rows₀ rows r
+  unfolding readPeak
+  plan-whole a = record {
+    answers = a ∙ ap (λ (x : ℕ). peakReading x (readPeak s m)) (lists .value)
+        ∙ rest-answer s (steps .part) (lists .part) (field 0 maxPeak s m) ∙ ap planReading (sym peak-left);
+    keeps = λ plan next g. parts-kept plan (rest-kept s (steps .part) (lists .part) (field 0 maxPeak s m) (sym peak-left ∙ g));
+  }

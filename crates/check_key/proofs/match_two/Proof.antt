@@ -1,4 +1,4 @@
--- The second number is held against what follows the first.
+-- Where the first number differs, the two do; where it is there, the second is held against what follows it.
 -- Assumes nothing.
 use mathlib.Core.Path.{refl, sym, _∙_}
 use borrow.Author.Needs.{needs}

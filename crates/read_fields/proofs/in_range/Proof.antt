@@ -1,4 +1,4 @@
--- A value in its range is found, one outside is 14 where it starts.
+-- A value from low to high is found; one below or above is 14, at the place where it starts.
 -- Assumes nothing.
 use mathlib.Core.Logic.{⊎-elim}
 use borrow.Author.Needs.{needs}

@@ -1,4 +1,4 @@
--- Edition and size are two fields, and mark and limit stand behind them.
+-- Edition and size are two fields, and mark and limit stand behind them: the first at fault makes the head faulty.
 -- Assumes nothing.
 use borrow.Author.Needs.{needs}
 use Rattle.read_fields.proofs.Answers.{field-refused, field-read, field-found}

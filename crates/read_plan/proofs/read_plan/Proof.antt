@@ -2,9 +2,8 @@
 -- Assumes nothing.
 use borrow.Author.Needs.{needs}
 use native.Mathlib.Omega.{arith}
-use Rattle.bytes_laws.proofs.Reaches.{steps-reach, lists-reach}
 use Rattle.read_fields.proofs.Answers.{told-found, told-refused}
-use Rattle.read_plan.proofs.Wholes.{no-steps, no-lists, plan-faulty, plan-whole}
+use Rattle.read_plan.proofs.Wholes.{no-steps, no-lists, steps-inside, lists-inside, plan-faulty, plan-whole}
 use Rattle.read_plan.proofs.read_plan.Statement.{statement}
 use Rattle.read_plan.proofs.read_plan.Tie as tie
 
@@ -31,7 +30,7 @@ read-lists-requires : tie.Need-read-lists-requires
 read-lists-requires c κs =
     let steps = told-found (steps-told (search) .read-steps .ensures) (steps-read (search) .behind .given .1) in
     let p = entry (search) .pre in
-    record { inside = steps-reach _ _ _ _ _ _ (steps .read) .1 .inside (p .inside); few = p .few; starts-long = p .starts-long }
+    record { inside = steps-inside _ _ _ steps (p .inside); few = p .few; starts-long = p .starts-long }
 
 returns-2 : tie.Need-returns-2
 returns-2 c =
@@ -42,13 +41,13 @@ read-peak-requires : tie.Need-read-peak-requires
 read-peak-requires c κs =
     let steps = told-found (steps-told (search) .read-steps .ensures) (steps-read (search) .behind .given .1) in
     let lists = told-found (lists-told (search) .read-lists .ensures) (c .before .total .given .1) in
-    lists-reach _ _ _ _ _ _ _ (lists .read) .1 .inside (steps-reach _ _ _ _ _ _ (steps .read) .1 .inside (entry (search) .pre .inside))
+    lists-inside _ _ _ lists (steps-inside _ _ _ steps (entry (search) .pre .inside))
 
 returns-3 : tie.Need-returns-3
 returns-3 c =
     let steps = told-found (steps-told (search) .read-steps .ensures) (steps-read (search) .behind .given .1) in
     let lists = told-found (lists-told (search) .read-lists .ensures) (lists-read (search) .total .given .1) in
-    plan-whole _ _ _ (steps .read) (steps .kept) (lists .read) (lists .value) (lists .kept) (c .read-peak .ensures)
+    plan-whole _ _ _ steps lists (c .read-peak .ensures)
 
 pub read-plan-spec : {M : Type 1} → statement M
 read-plan-spec =

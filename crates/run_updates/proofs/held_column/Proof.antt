@@ -1,4 +1,4 @@
--- The column is read where the list is known to have one.
+-- The stack list holds columns of 1 to n up to the place, so the one read there is such a column.
 -- Assumes nothing.
 use Prim.Native.Nat.{_-_}
 use mathlib.Core.Path.{refl}

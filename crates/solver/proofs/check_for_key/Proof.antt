@@ -1,4 +1,5 @@
--- The parts of the buffers that are lent are within them, and hold the lists of the key.
+-- The key's columns and rows are within the program's sizes, so its lists, read once more, stand whole at the front of two buffers. The parts that
+-- hold them are the job's lists, and the check for that job is the call's.
 -- Assumes nothing.
 use mathlib.Core.Path.{sym}
 use native.Mathlib.Omega.{arith}

@@ -1,4 +1,4 @@
--- The slices lent are the program's buffers.
+-- The slices lent are zeroed and of the program's sizes, so they are its buffers, and the check's answer is that in the buffers.
 -- Assumes nothing.
 use Prim.Native.Nat.{ℕ}
 use mathlib.Core.Path.{_≡_, ap}

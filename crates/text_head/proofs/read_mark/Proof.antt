@@ -1,4 +1,4 @@
--- The last of three numbers ends the line.
+-- The third number of line 1 is the mark, and ends the line: a fourth is bad.
 -- Assumes nothing.
 use borrow.Author.Needs.{needs}
 use Rattle.text_words.proofs.Told.{word-more, word-last, word-bad}

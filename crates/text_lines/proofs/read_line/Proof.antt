@@ -1,4 +1,4 @@
--- By the count: alone it must be 0, and else as many rows must follow it.
+-- A line of rows begins with its count. Alone on the line it must be 0; else as many rows must follow it, or the line is bad.
 -- Assumes nothing.
 use native.Mathlib.Omega.{arith}
 use borrow.Author.Needs.{needs}

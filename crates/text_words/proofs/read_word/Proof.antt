@@ -1,4 +1,5 @@
--- The number by its digits and the byte behind them; where one of the two fails no line that begins there has numbers.
+-- A number is a decimal with a space or a newline behind it. Its digits are all that stand there, so where they are no decimal, or the byte behind
+-- them is another, a line that begins there has no numbers.
 -- Assumes nothing.
 use mathlib.Core.Path.{refl, sym, _∙_}
 use borrow.Author.Needs.{needs}
