@@ -9,7 +9,7 @@ use Rattle.papers.specs.Lists.{_∈_}
 use Rattle.papers.specs.Tree.{t}
 use Rattle.papers.specs.Order.{siblingKey}
 use Rattle.order_laws.specs.Subtrees.{inTurn, butLast}
-use Rattle.tree.specs.Laid.{part}
+use Rattle.list_laws.specs.Parts.{part}
 use Rattle.room.specs.Rows.{rowsIn, Column, mostEntries}
 
 -- the key of child c of column j, where rooms has the W of each column

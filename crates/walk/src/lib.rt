@@ -1,5 +1,5 @@
-// The walk over the tree: one task does a column, one does a list of siblings, and each calls the other; the count of columns left falls. Of
-// the siblings the largest is handed back for the column's task to go on with, so the calls nest no deeper than columns can be halved.
+// Walks over the tree: one task does a column, one does a list of siblings, and each calls the other; the count of columns left falls.
+// The siblings' task hands the largest child back for the column's task to do, so the calls nest no deeper than columns can be halved.
 ghost use mathlib.Core.Path.{_≡_};
 ghost use lib.ListN.{length};
 ghost use lib.Seq.{sets};
@@ -13,7 +13,7 @@ pub struct Block {
     pub at: usize,
 }
 
-// The block of the child at place i of the lists, which begins at step `at`.
+// Answers the block of the child at place i of the lists, which begins at step `at`.
 fn child_block(list: &[u32], counts: &[u64], i: usize, at: usize) -> Block
     requires { ⌜ Listed (now list) (now counts) i ⌝ }
     ensures { λ r. ⌜ ChildBlock (now (list .entry)) (now (counts .entry)) i at (r .column) (r .size) (r .at) ⌝ }
@@ -50,8 +50,8 @@ pub fn column(
     order[leaf] = b.column as u32;
 }
 
-// Writes the steps of j's children, `left` of them, from `at` on, but for those of the largest child, whose block it hands back. The largest
-// so far is held, at first the first; a child that is no larger is done at once, and a larger one takes its place.
+// Writes the steps of j's children, `left` of them, from `at` on, except those of the largest child, whose block it hands back. It holds
+// the largest child so far, at first the first one. It does a child that is no larger at once; a larger child takes the held one's place.
 pub fn siblings(
     starts: &[u64],
     list: &[u32],
