@@ -5,7 +5,7 @@ use Prim.Native.Nat.{ℕ, _<_, _≤_}
 use mathlib.Core.Path.{_≡_, refl, sym, ap, _∙_}
 use mathlib.Core.List.{List, map}
 use native.Mathlib.Omega.{arith}
-use lib.ListN.{length, getD}
+use lib.ListN.{length, getD, length-replicate}
 use lib.Seq.{sets, length-sets}
 use Rattle.papers.specs.declared.Answer.{Answer}
 use Rattle.papers.specs.Lists.{upTo, flat, zeros}
@@ -20,7 +20,7 @@ use Rattle.bytes_laws.proofs.Plans.{Fit, plan-only}
 use Rattle.job_laws.specs.Parts.{InSlices}
 use Rattle.lent.specs.Six.{six, LongEnough}
 use Rattle.lent.proofs.Sixes.{each-zero}
-use Rattle.lent.proofs.Alike.{Alike, zero-long, long-alike}
+use Rattle.lent.proofs.Alike.{Alike, long-alike}
 use Rattle.column_laws.proofs.Testing.{tested}
 use Rattle.check_key.specs.declared.KeyMatch.{KeyMatch}
 use Rattle.check_key.specs.declared.KeyMatch.the-variants.{Begins, Differs}
@@ -34,6 +34,10 @@ use Rattle.check_judge.proofs.Rulings.{Told, refusal, clean, told, number-of}
 use Rattle.check_bytes.specs.Ruled.{callOf, Checkable, Ruled, refuses, passes, Judgeable, Followed, fault, over, judged}
 use Rattle.check_bytes.proofs.Ways.{refuses-11, passes-11, refuses-12, refuses-8, from-16}
 use Rattle.check_bytes.proofs.Fronts.{in-slices, held-in-front, done-holds}
+
+-- clearing leaves the lengths
+zero-long : (l₀ : List ℕ) {l : List ℕ} → l ≡ zeros l₀ → length l ≡ length l₀
+zero-long l₀ e = ap length e ∙ length-replicate (length l₀) 0
 
 -- ---- the answer of the reading
 

@@ -28,9 +28,6 @@ fault-found c = c
 abbrev refusal : tie.After-answered → tie.After-answered
 refusal c = c
 
-abbrev refusal : tie.After-answered → tie.After-answered
-refusal c = c
-
 abbrev written : tie.After-write-refusal → tie.After-write-refusal
 written c = c
 
