@@ -11,7 +11,7 @@ use Rattle.papers.specs.Job.{Pattern, Below, columnOf}
 use Rattle.papers.specs.Fill.{R}
 use Rattle.list_laws.proofs.Ascending.{asc-above, asc-distinct}
 use Rattle.list_laws.proofs.Merges.{nil-merge}
-use Rattle.fill_laws.proofs.Fill.{R-range, R-pattern}
+use Rattle.fill_laws.proofs.Fill.{R-range}
 use Rattle.column_laws.proofs.Chains.{chain-end}
 use Rattle.linked_children.specs.Children.{StoredChild, handedOn, Siblings}
 use Rattle.linked_children.proofs.Picking.{Further, further, siblings-ext}
@@ -21,7 +21,8 @@ use Rattle.child_lists.proofs.Marks.{changed-none, changed-more, changed-marked
 use Rattle.child_lists.proofs.Making.{makes-join, makes-end, makes-few}
 use Rattle.column_list.specs.Hung.{hung}
 use Rattle.column_list.specs.Stored.{Next}
-use Rattle.column_list.proofs.Gathering.{below, siblings, found-child, makes}
+use Rattle.column_list.proofs.Gathering.{below, siblings, found-child}
+use Rattle.column_list.proofs.Owns.{own-asc, own-makes, own-markable, own-change}
 use Rattle.check_marks.specs.Marked.{newRows, MarkableOnce, MarkedNew, MarkedAre, Counted}
 use Rattle.check_marks.proofs.Marked.{marked-none, marked-more, marked-count}
 
@@ -49,33 +50,26 @@ module _ {n m : ℕ} {starts rows fs fr w own : List ℕ} (g : Next n m starts r
   abbrev A : Pattern
   A = columnOf starts rows
 
-  own-asc : Asc (m + 1) own
-  own-asc = rw o (below g .ascending (m + 1))
-
   pub own-once : MarkableOnce n own w
-  own-once =
-      record {
-        once = asc-distinct (m + 1) own own-asc;
-        markable = record { most = λ i t. below g .within i (m + 1) (rw o at t); long = g .stored .work-long };
-      }
+  own-once = record { once = asc-distinct (m + 1) own (own-asc g o); markable = own-markable g o }
 
   -- they are marked and counted
   module _ {w₁ : List ℕ} {count : ℕ} (e : MarkedNew n (m + 1) own w w₁ count) where
-    pub own-change : Changed n (m + 1) w w₁
-    own-change = marks-change own w₁ own-asc (e .marks)
+    pub own-changed : Changed n (m + 1) w w₁
+    own-changed = own-change g o (e .marks)
 
     pub count-begin : length w₁ ≡ length w → Counting n m A fs fr w₁ w₁ (getD w₁ (m + 1) 0) count
     count-begin lw =
         let none = marked-none n (m + 1) w (λ i h. omega (arith, g .stored .fresh (n + n + i) (omega arith))) in
         let are : MarkedAre n (m + 1) w₁ own = rw (e .marks) (rw (nil-merge own) at (marked-more none own (own-once .markable))) in
-        let many : length own ≡ 0 + length (newRows n (m + 1) w own) = rw (nil-merge own) at (marked-count none own tt own-asc) in
+        let many : length own ≡ 0 + length (newRows n (m + 1) w own) = rw (nil-merge own) at (marked-count none own tt (own-asc g o)) in
         record {
           good = below g;
           left = hung A m (m + 1);
-          siblings = rw (own-change .links (m + 1) (omega (arith, g .column))) (siblings-ext w₁ (siblings g) (own-change .links) lw);
+          siblings = rw (own-changed .links (m + 1) (omega (arith, g .column))) (siblings-ext w₁ (siblings g) (own-changed .links) lw);
           ends = λ d t. found-child g d t .stands .ends;
           acc = own;
-          makes = makes g own own-asc (λ i t. rw o t) (λ i t. R-pattern (below g) (m + 1) i (rw o at t));
+          makes = own-makes g o;
           marks = are;
           counted = omega (arith, e .counts, many);
           changed = changed-none n (m + 1) w₁;

@@ -3,7 +3,7 @@
 use Prim.Native.Nat.{ℕ, _+_, _<_, _≤_}
 use mathlib.Core.Path.{_≡_, refl, ap, _∙_}
 use mathlib.Core.Logic.{⊎-elim, _≢_}
-use mathlib.Core.List.{List, [], _∷_, List·Memᴰ·head, List·Memᴰ·not-nil, List·Memᴰ·cases-cons}
+use mathlib.Core.List.{List, [], _∷_, List·Memᴰ·not-nil, List·Memᴰ·cases-cons}
 use native.Mathlib.Omega.{arith}
 use lib.ListN.{length, getD, take}
 use lib.Seq.{sets, length-sets}
@@ -12,10 +12,9 @@ use Rattle.papers.specs.Job.{Pattern, columnOf}
 use Rattle.papers.specs.Fill.{R}
 use Rattle.list_laws.proofs.Ascending.{asc-length}
 use Rattle.list_laws.proofs.Merges.{merge-asc, merge-left, merge-right, merge-from}
-use Rattle.fill_laws.proofs.Fill.{R-range, R-pattern}
+use Rattle.fill_laws.proofs.Fill.{R-range}
 use Rattle.column_laws.proofs.Columns.{starts-long, starts-rise, starts-fit}
 use Rattle.list_laws.proofs.Stores.{front-stored}
-use Rattle.column_laws.proofs.Chains.{chain-end, chain-on}
 use Rattle.joiner.specs.Join.{United}
 use Rattle.linked_children.specs.Children.{handedOn, StoredChild, Linked, Longest}
 use Rattle.linked_children.proofs.Picking.{siblings-ext}
@@ -27,6 +26,7 @@ use Rattle.child_lists.proofs.Making.{makes-skip, makes-end}
 use Rattle.column_list.specs.Hung.{hung}
 use Rattle.column_list.specs.Stored.{Part, Next, Gatherable, Gathers}
 use Rattle.column_list.proofs.Gathering.{below, found-child, chain, siblings, makes}
+use Rattle.column_list.proofs.Owns.{own-asc, own-in, own-makes, own-alone, first-linked, only-child}
 
 -- the pattern rows of the next column have their part
 pub part-of : {n m : ℕ} {starts rows fs fr w : List ℕ} → Next n m starts rows fs fr w → Part m starts rows
@@ -56,24 +56,13 @@ module _ {n m : ℕ} {starts rows fs fr w x y : List ℕ} (g : Gatherable n m st
   -- ---- the pattern rows
 
   module _ {own : List ℕ} (o : own ≡ A (m + 1)) where
-    own-asc : Asc (m + 1) own
-    own-asc = rw o (below (g .next) .ascending (m + 1))
-
-    own-in : (i : ℕ) → i ∈ own → i ∈ R A (m + 1)
-    own-in i t = R-pattern (below (g .next)) (m + 1) i (rw o at t)
-
-    own-makes : Makes (m + 1) (handedOn fs fr) (hung A m (m + 1)) own (R A (m + 1))
-    own-makes = makes (g .next) own own-asc (λ i t. rw o t) own-in
-
     -- they have room
     pub own-fits : length own ≤ length x
-    own-fits = omega (arith, few own own-asc own-in, g .room-x)
+    own-fits = omega (arith, few own (own-asc (g .next) o) (own-in (g .next) o), g .room-x)
 
     -- without a child they are the list
     pub alone : {x₁ : List ℕ} → getD w (m + 1) 0 ≡ 0 → x₁ ≡ sets x 0 own → Gathers n m A w w x₁ y 0 (length own)
-    alone {x₁} z e =
-        let none = chain-end w n (getD w (m + 1) 0) (hung A m (m + 1)) (chain (g .next)) z in
-        holds own x₁ e own-fits (makes-end (rw none at own-makes))
+    alone {x₁} z e = holds own x₁ e own-fits (own-alone (g .next) o z)
 
   -- ---- the longest child
 
@@ -99,17 +88,14 @@ module _ {n m : ℕ} {starts rows fs fr w x y own more : List ℕ} (f : First n 
 
   -- the link of the first child has its place
   pub first-link : n + getD w (m + 1) 0 < length w
-  first-link =
-      let l = chain-on w n (getD w (m + 1) 0) (hung (A g) m (m + 1)) (chain (g .next)) (f .some) in
-      let s = siblings (g .next) in
-      omega (arith, s .most (getD w (m + 1) 0) (rw (l .is) (List·Memᴰ·head refl)), s .links)
+  first-link = first-linked (g .next) (f .some)
 
   member : f .child ∈ hung (A g) m (m + 1)
   member = f .longest .among (hung (A g) m (m + 1)) (chain (g .next)) (f .some)
 
   begun : Makes (m + 1) (handedOn fs fr) (hung (A g) m (m + 1)) (merge own more) (R (A g) (m + 1))
   begun =
-      let o = own-makes g (f .own-is) in
+      let o = own-makes (g .next) (f .own-is) in
       makes (g .next) (merge own more)
       (merge-asc (m + 1) own more (o .asc) (rw (f .more-is) (o .asc-hands (f .child) member)))
       (λ i t. merge-left own more (rw (f .own-is) t))
@@ -138,9 +124,7 @@ module _ {n m : ℕ} {starts rows fs fr w x y own more : List ℕ} (f : First n 
       where
         whole : merge own more ≡ R (A g) (m + 1)
         whole =
-            let l = chain-on w n (getD w (m + 1) 0) (hung (A g) m (m + 1)) (chain (g .next)) (f .some) in
-            let r = chain-end w n (getD w (n + getD w (m + 1) 0) 0) (l .rest) (l .chain) q in
-            let is : hung (A g) m (m + 1) ≡ getD w (m + 1) 0 ∷ [] = rw r at (l .is) in
+            let is = only-child (g .next) (f .some) q in
             let same : f .child ≡ getD w (m + 1) 0 = only (rw is at member) in
             makes-end (makes-skip (rw is at begun) (λ i t. merge-right own more (rw (f .more-is, same) t)))
           where

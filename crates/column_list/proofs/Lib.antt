@@ -1,3 +1,4 @@
 pub mod Hung
 pub mod Gathering
+pub mod Owns
 pub mod Begins

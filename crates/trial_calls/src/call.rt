@@ -2,14 +2,11 @@
 use papers::Answer;
 use trial_lines::line;
 use trial_lines::line::Numbers;
-use trial_lines::line::add;
-use trial_lines::line::at;
 use trial_lines::sheet;
 use trial_lines::sheet::BEFORE;
+use trial_lines::sheet::Bytes;
 use trial_tallies::Tally;
 use trial_tallies::plus;
-
-type Bytes = [u8; 4096];
 
 // The bytes that have to stand in front of the lent slice: the result in the first of the lent slices.
 const WRITTEN: usize = 0;
@@ -28,37 +25,11 @@ struct Found {
     wrong: u64,
 }
 
-fn wide(x: u8) -> u64 {
-    x as u64
-}
-
-// A list as bytes.
-fn bytes(numbers: &Numbers, list: usize) -> Bytes {
-    let mut out = [0u8; 4096];
-    let first = line::first(numbers, list);
-    for i in 0..line::count(numbers, list) {
-        out[i % 4096] = (at(numbers, add(first, i)) % 256) as u8;
-    }
-    out
-}
-
-// How many places of the byte slice hold something else than they have to; four behind its lent length are looked at as well.
-fn wrong_bytes(found: &Bytes, numbers: &Numbers) -> u64 {
-    let mut wrong = 0;
-    let first = line::first(numbers, line::result(WRITTEN));
-    for i in 0..add(line::lent(numbers, WRITTEN), 4) {
-        if wide(found[i % 4096]) != sheet::after(numbers, WRITTEN, first, i) {
-            wrong = plus(wrong, 1);
-        }
-    }
-    wrong
-}
-
 fn compared(numbers: &Numbers, answer: Answer, bytes: &Bytes) -> Found {
     let wrong = trial_comparison::differences(answer, line::right(numbers)) as u64;
     Found {
         answer,
-        wrong: plus(wrong, wrong_bytes(bytes, numbers)),
+        wrong: plus(wrong, sheet::wrong8(bytes, numbers, WRITTEN)),
     }
 }
 
@@ -133,8 +104,8 @@ fn write_plan(numbers: &Numbers, starts: &[u64], rows: &[u32]) -> Found {
 
 // The solver's call, whose answer is its number times 2^32, and its place.
 fn check(numbers: &Numbers) -> Found {
-    let key = bytes(numbers, KEY);
-    let plan = bytes(numbers, line::PLAN);
+    let key = sheet::bytes(numbers, KEY);
+    let plan = sheet::bytes(numbers, line::PLAN);
     let a = line::count(numbers, KEY) % 4097;
     let b = line::count(numbers, line::PLAN) % 4097;
     let whole = solver::check(&key[..a], &plan[..b]);

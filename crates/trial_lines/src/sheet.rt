@@ -9,7 +9,7 @@ pub type Words = [u32; 512];
 
 pub type Longs = [u64; 1152];
 
-pub type Bytes = [u8; 2048];
+pub type Bytes = [u8; 4096];
 
 // What every place holds before a call.
 pub const BEFORE: u32 = 7;
@@ -33,15 +33,19 @@ pub fn words(numbers: &Numbers, list: usize) -> Words {
 }
 
 pub fn bytes(numbers: &Numbers, list: usize) -> Bytes {
-    let mut out = [0u8; 2048];
+    let mut out = [0u8; 4096];
     let first = line::first(numbers, list);
     for i in 0..line::count(numbers, list) {
-        out[i % 2048] = (at(numbers, add(first, i)) % 256) as u8;
+        out[i % 4096] = (at(numbers, add(first, i)) % 256) as u8;
     }
     out
 }
 
 fn wide(x: u32) -> u64 {
+    x as u64
+}
+
+fn wide8(x: u8) -> u64 {
     x as u64
 }
 
@@ -58,7 +62,7 @@ fn rest(number: u64) -> u64 {
 
 // What a place of a slice must hold: behind its lent length what it held before, in front of that the result from `first` on, and then the
 // rest.
-pub fn after(numbers: &Numbers, slice: usize, first: usize, i: usize) -> u64 {
+fn after(numbers: &Numbers, slice: usize, first: usize, i: usize) -> u64 {
     if line::lent(numbers, slice) <= i {
         return wide(BEFORE);
     }
@@ -85,6 +89,17 @@ pub fn wrong64(found: &Longs, numbers: &Numbers, slice: usize) -> u64 {
     let first = line::first(numbers, line::result(slice));
     for i in 0..add(line::lent(numbers, slice), 4) {
         if found[i % 1152] != after(numbers, slice, first, i) {
+            wrong = plus(wrong, 1);
+        }
+    }
+    wrong
+}
+
+pub fn wrong8(found: &Bytes, numbers: &Numbers, slice: usize) -> u64 {
+    let mut wrong = 0;
+    let first = line::first(numbers, line::result(slice));
+    for i in 0..add(line::lent(numbers, slice), 4) {
+        if wide8(found[i % 4096]) != after(numbers, slice, first, i) {
             wrong = plus(wrong, 1);
         }
     }

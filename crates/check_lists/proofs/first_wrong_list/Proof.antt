@@ -60,17 +60,17 @@ returns c =
     pass-wrong (at-loop (search) .loop .inv) (in-loop (search) .loop-test .taken) (read (search) .pattern-rows .ensures)
     (compared (search) .is-right .ensures) (not-true _ (c .if1 .taken))
 
-hang-requires : tie.Need-hang-requires Inv-loop μ-loop
-hang-requires c κs =
-    pass-hangable (at-loop (search) .loop .inv) (in-loop (search) .loop-test .taken) (read (search) .pattern-rows .ensures)
-    (compared (search) .is-right .ensures) (not-false _ (right (search) .if1 .left)) (omega (arith, compared (search) .is-right .kept))
-    (c .before .least .ensures)
-
 loop-again : tie.Need-loop-again Inv-loop μ-loop
 loop-again c =
     pass-on (at-loop (search) .loop .inv) (in-loop (search) .loop-test .taken) (read (search) .pattern-rows .ensures)
     (compared (search) .is-right .ensures) (not-false _ (right (search) .if1 .left)) (omega (arith, compared (search) .is-right .kept))
     (named (search) .least .ensures) (hung (search) .hang .ensures) (omega (arith, hung (search) .hang .kept))
+
+hang-requires : tie.Need-hang-requires Inv-loop μ-loop
+hang-requires c κs =
+    pass-hangable (at-loop (search) .loop .inv) (in-loop (search) .loop-test .taken) (read (search) .pattern-rows .ensures)
+    (compared (search) .is-right .ensures) (not-false _ (right (search) .if1 .left)) (omega (arith, compared (search) .is-right .kept))
+    (c .before .least .ensures)
 
 returns-2 : tie.Need-returns-2 Inv-loop μ-loop
 returns-2 c = pass-all (c .before .loop .inv) (c .loop-test .left)

@@ -7,7 +7,7 @@ use lib.ListN.{length}
 use denote.Ref.{now}
 use Rattle.papers.specs.Job.{columnOf}
 use Rattle.column_list.proofs.Begins.{part-of}
-use Rattle.check_marks.proofs.Counting.{Counting, own-once, own-change, count-begin, count-few, child-at, link}
+use Rattle.check_marks.proofs.Counting.{Counting, own-once, own-changed, count-begin, count-few, child-at, link}
 use Rattle.check_marks.proofs.Counting.{more-once, falls, count-turn, count-stop}
 use Rattle.check_marks.proofs.mark_column.Statement.{statement}
 use Rattle.check_marks.proofs.mark_column.Tie as tie
@@ -87,7 +87,7 @@ loop-again c =
 
 returns : tie.Need-returns Inv-loop μ-loop
 returns c =
-    count-stop (c .before .loop .inv) (own-change (entry (search) .pre) (given (search) .pattern-rows .ensures) (begun (search) .mark-new .ensures))
+    count-stop (c .before .loop .inv) (own-changed (entry (search) .pre) (given (search) .pattern-rows .ensures) (begun (search) .mark-new .ensures))
     (c .loop-test .left)
 
 pub mark-column-spec : {M : Type 1} → statement M

@@ -54,20 +54,6 @@ start c = search
 abbrev own : tie.After-handed-on → List ℕ
 own c = now (given (search) .pattern-rows .result)
 
--- Once the longest child has handed on its rows, what is known of these and the pattern rows: the answers below cite it with `first (search)`.
-first : (c : tie.After-handed-on) → First (start c .args .n) (start c .args .m) (now (start c .args .starts)) (now (start c .args .rows))
-    (now (start c .args .fstarts)) (now (start c .args .frows)) (now (start c .args .work)) (now (start c .args .x)) (now (start c .args .y))
-    (own c) (now (c .handed-on .result))
-first c =
-    record {
-      gatherable = entry (search) .pre;
-      own-is = given (search) .pattern-rows .ensures;
-      some = parental (search) .if1 .left;
-      child = picked (search) .longest .result;
-      longest = picked (search) .longest .ensures;
-      more-is = c .handed-on .ensures;
-    }
-
 -- ---- the pattern rows, and no child
 
 pattern-rows-requires : tie.Need-pattern-rows-requires
@@ -81,6 +67,20 @@ returns c =
     alone (entry (search) .pre) (given (search) .pattern-rows .ensures) (childless (search) .if1 .taken) (copied (search) .copy-at .ensures)
 
 -- ---- the longest child
+
+-- Once the longest child has handed on its rows, what is known of these and the pattern rows: the answers below cite it with `first (search)`.
+first : (c : tie.After-handed-on) → First (start c .args .n) (start c .args .m) (now (start c .args .starts)) (now (start c .args .rows))
+    (now (start c .args .fstarts)) (now (start c .args .frows)) (now (start c .args .work)) (now (start c .args .x)) (now (start c .args .y))
+    (own c) (now (c .handed-on .result))
+first c =
+    record {
+      gatherable = entry (search) .pre;
+      own-is = given (search) .pattern-rows .ensures;
+      some = parental (search) .if1 .left;
+      child = picked (search) .longest .result;
+      longest = picked (search) .longest .ensures;
+      more-is = c .handed-on .ensures;
+    }
 
 longest-requires : tie.Need-longest-requires
 longest-requires c κs = linked (entry (search) .pre)

@@ -30,6 +30,11 @@ lists-written c = c
 valid : (c : tie.Start) → Passed (jobOf (c .args .head) (now (c .args .starts)) (now (c .args .rows)))
 valid c = passes-iff _ .0 (c .pre)
 
+returns : tie.Need-returns
+returns c =
+    key-put _ _ (edition-put (search) .put .ensures) (n-put (search) .put2 .ensures) (mark-put (search) .put3 .ensures)
+    (limit-put (search) .put4 .ensures) (lists-written (search) .write-lists .ensures)
+
 put-requires-2 : tie.Need-put-requires-2
 put-requires-2 c κs =
     record {
@@ -65,11 +70,6 @@ write-lists-requires c κs =
       near = key-near _ _ (valid (search)) (behind-limit _ _ (edition-put (search) .put .ensures) (n-put (search) .put2 .ensures)
           (mark-put (search) .put3 .ensures) (limit-put (search) .put4 .ensures));
     }
-
-returns : tie.Need-returns
-returns c =
-    key-put _ _ (edition-put (search) .put .ensures) (n-put (search) .put2 .ensures) (mark-put (search) .put3 .ensures)
-    (limit-put (search) .put4 .ensures) (lists-written (search) .write-lists .ensures)
 
 pub put-key-spec : {M : Type 1} → statement M
 put-key-spec =

@@ -23,13 +23,13 @@ slice-aggregate-order-of-3 c = sym (length-take-le _ _ (entry (search) .pre .ord
 slice-aggregate-order-of-4 : tie.Need-slice-aggregate-order-of-4
 slice-aggregate-order-of-4 c = sym (length-take-le _ _ (entry (search) .pre .pops-long))
 
-order-of-requires : tie.Need-order-of-requires
-order-of-requires c κs = order-given (entry (search) .pre)
-
 returns : tie.Need-returns
 returns c =
     ordering-made (entry (search) .pre) (ordered (search) .order-of .ensures)
     (let kept = ordered (search) .order-of .kept in cc (cleared (search) .clear64 .ensures))
+
+order-of-requires : tie.Need-order-of-requires
+order-of-requires c κs = order-given (entry (search) .pre)
 
 pub order-columns-spec : {M : Type 1} → statement M
 order-columns-spec =

@@ -27,11 +27,11 @@ entry c = c
 abbrev written : tie.After-write-line → tie.After-write-line
 written c = c
 
-write-line-requires : tie.Need-write-line-requires
-write-line-requires c κs = line-fits (entry (search) .args .answer) (entry (search) .pre)
-
 returns : tie.Need-returns
 returns c = line-written (entry (search) .args .answer) (written (search) .write-line .ensures)
+
+write-line-requires : tie.Need-write-line-requires
+write-line-requires c κs = line-fits (entry (search) .args .answer) (entry (search) .pre)
 
 pub write-refusal-spec : {M : Type 1} → statement M
 write-refusal-spec =

@@ -30,6 +30,9 @@ abbrev lines : tie.Start → List ℕ
 lines c =
     linesTo (now (c .args .order)) (now (c .args .pops)) (now (c .args .fstarts)) (now (c .args .frows)) (length (now (c .args .order)))
 
+returns : tie.Need-returns
+returns c = wrote-both (header-written (search) .write-header .ensures) (steps-written (search) .write-steps .ensures)
+
 write-header-requires : tie.Need-write-header-requires
 write-header-requires c κs = first-fits (header (entry (search))) (lines (entry (search))) (entry (search) .pre .fits)
 
@@ -41,9 +44,6 @@ write-steps-requires c κs =
       fits = second-fits (header (entry (search))) (lines (entry (search))) (header-written (search) .write-header .ensures)
           (omega (arith, entry (search) .pre .fits));
     }
-
-returns : tie.Need-returns
-returns c = wrote-both (header-written (search) .write-header .ensures) (steps-written (search) .write-steps .ensures)
 
 pub print-plan-spec : {M : Type 1} → statement M
 print-plan-spec =

@@ -3,28 +3,30 @@
 use Prim.Native.Nat.{_-_}
 use native.Mathlib.Omega.{arith}
 use borrow.Author.Needs.{needs}
-use Rattle.trial_calls.proofs.call.bytes.Statement.{statement}
-use Rattle.trial_calls.proofs.call.bytes.Tie as tie
+use Rattle.trial_lines.proofs.sheet.wrong8.Statement.{statement}
+use Rattle.trial_lines.proofs.sheet.wrong8.Tie as tie
 
 abbrev Inv-loop : tie.InvT-loop
-Inv-loop numbers list out₀ first i₀ i-end out i = Unit {0}
+Inv-loop found numbers slice wrong₀ first i₀ i-end wrong i = Unit {0}
 
 abbrev μ-loop : tie.MeasureT-loop
-μ-loop numbers list out₀ first i₀ i-end out i = i-end - i
+μ-loop found numbers slice wrong₀ first i₀ i-end wrong i = i-end - i
 
-pub bytes-spec : {M : Type 1} → statement M
-bytes-spec =
+pub wrong8-spec : {M : Type 1} → statement M
+wrong8-spec =
     tie.close
     (tie.spec
     Inv-loop
     μ-loop
     (λ c κs. tt)
     (λ c κs. tt)
+    (λ c κs. tt)
+    (λ c κs. tt)
     (λ c. tt)
+    (λ c. search needs)
     (λ c κs. tt)
     (λ c κs. tt)
-    (λ c. search needs)
-    (λ c. search needs)
+    (λ c κs. tt)
     (λ c. omega arith)
     (λ c. omega arith)
     (λ c. tt)
