@@ -89,7 +89,9 @@ static void refusals(void) {
     MUST(is(ls_plan_analyse(&plan, &job), LS_LIMIT_TOO_LARGE, 0, 0));
     MUST(most_asked == 0);
     /* a refusal after a done call: nothing is held, no bytes are left, the memory serves again */
-    MUST(ls_plan_write(&plan, &nine).number == 0);
+    MUST(ls_plan_write(&plan, &nine).number == 0 && ls_plan_key(&plan, &nine).number == 0 && plan.key_len == 24);
+    job = nine, job.mark = 3;
+    MUST(is(ls_plan_key(&plan, &job), LS_UNKNOWN_MARK, 0, 0) && plan.key_len == 0 && plan.n == 9 && plan.bytes_len == 69);
     job = nine, job.limit = 14;
     MUST(is(ls_plan_write(&plan, &job), LS_PEAK_OVER_LIMIT, 0, 15) && holds_nothing(&plan) && plan.bytes_len == 0);
     job.n = UINT64_MAX;
@@ -116,7 +118,7 @@ static void drop(ls_job job) { free((void *)job.starts), free((void *)job.rows);
 
 static void sizes(void) {
     ls_plan plan = {0};
-    const uint64_t some[] = {0, 1, 300, 2, 0, 4096};
+    const uint64_t some[] = {0, 1, 5, 300, 2, 0, 4096};
     for (size_t k = 0; k < 2 * sizeof some / sizeof *some; k++) {
         uint64_t n = some[k / 2];
         int dense = k % 2 && n < 4096;
