@@ -14,6 +14,9 @@
 #include <stddef.h>
 #include <stdint.h>
 
+/* Major, minor, patch; CHANGELOG.md says what each brings. */
+#define LOOMSAFFRON_VERSION "0.1.0"
+
 #ifdef __cplusplus
 extern "C" {
 #endif
@@ -81,9 +84,17 @@ uint64_t ls_run(uint64_t n, const uint64_t *fstarts, size_t fstarts_len, const u
                 const uint32_t *columns, size_t columns_len, const uint32_t *pops, size_t pops_len, uint64_t room,
                 uint32_t *stack, size_t stack_len, uint64_t *place, uint64_t *count);
 
-/* The solver's call, in an archive of its own (libsolver.a): tests whether a plan is sound for the job of this key, and answers
+/* The solver's call, also in an archive of its own (libsolver.a): tests whether a plan is sound for the job of this key, and answers
    number * 2^32 + place. */
 uint64_t check(const uint8_t *key, size_t key_len, const uint8_t *plan, size_t plan_len);
+
+/* The rest is in the installed archive alone (libloomsaffron.a, made in c/). */
+
+/* check, under a name that collides with nothing. */
+uint64_t ls_check(const uint8_t *key, size_t key_len, const uint8_t *plan, size_t plan_len);
+
+/* The words of a number, those of docs/REFUSALS.md, in English. Any number has some; they need not be freed. Not proved. */
+const char *ls_words(uint64_t number);
 
 #ifdef __cplusplus
 }
