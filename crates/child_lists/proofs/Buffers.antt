@@ -1,4 +1,4 @@
--- Two buffers that take turns: what is joined stands in the one whose turn it then is.
+-- Proves that the two buffers take turns: the joined list is in the buffer that is next in turn.
 -- Assumes nothing.
 use Prim.Native.Nat.{ℕ, zero, suc, _-_, _≤_}
 use mathlib.Core.Path.{_≡_, refl}

@@ -1,4 +1,4 @@
--- Marks set and read: a place of work keeps its number or, where it is the place of a row of the list, has the column's.
+-- Proves what marking leaves in work: the place of each marked row holds the column's number, and every other place keeps its number.
 -- Assumes nothing.
 use Prim.Native.Nat.{ℕ, suc, _+_, _<_, _≤_}
 use mathlib.Core.Path.{_≡_, refl, sym, ap, _∙_}

@@ -1,4 +1,4 @@
--- One turn of the loop over a column's children: all that child d hands on is marked already, or it is joined and marked.
+-- Proves one turn of the loop over a column's children: either all rows that child d hands on are marked already, or they are joined and marked.
 -- Assumes nothing.
 use Prim.Native.Nat.{ℕ, _+_, _-_, _<_, _≤_}
 use mathlib.Core.Path.{_≡_, refl, sym, ap, _∙_}

@@ -1,4 +1,4 @@
--- Two buffers that take turns: a list is held in one of them, and joining writes into the other.
+-- Defines two buffers that take turns: one of them holds a list, and a join is written into the other.
 -- Assumes nothing.
 use Prim.Native.Nat.{ℕ, zero, suc, _≤_}
 use mathlib.Core.Path.{_≡_}

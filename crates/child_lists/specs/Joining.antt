@@ -1,4 +1,4 @@
--- The list that a column's rows and those its children hand on make, and the state before and after the children are joined.
+-- Defines the list that a column's rows and the rows its children hand on make, and the state before and after the children are joined.
 -- Assumes nothing.
 use Prim.Native.Nat.{ℕ, _+_, _<_, _≤_}
 use mathlib.Core.Logic.{_⊎_}

@@ -1,4 +1,5 @@
--- Marks of rows for column j: row i is marked where j stands at n + n + i in work. The marks of earlier columns are smaller, so none is cleared.
+-- Defines marks of rows for column j: row i is marked if work holds j at n + n + i. The marks of earlier columns are smaller, so none has to be
+-- cleared.
 -- Assumes nothing.
 use Prim.Native.Nat.{ℕ, _+_, _<_, _≤_}
 use mathlib.Core.Path.{_≡_}

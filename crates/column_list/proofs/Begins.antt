@@ -1,4 +1,5 @@
--- The ways to gather a column's list: no child, one child, or several, of which the longest is joined first and the rest follow.
+-- Proves the three ways to gather a column's list: it has no child, one child, or several. Of several, the longest is joined first, and the others
+-- follow.
 -- Assumes nothing.
 use Prim.Native.Nat.{ℕ, _+_, _<_, _≤_}
 use mathlib.Core.Path.{_≡_, refl, ap, _∙_}

@@ -1,5 +1,5 @@
--- R(m + 1) is made of its pattern rows and what its children hand on, so joining the pattern rows with any child's first and then with
--- the others gives it.
+-- Proves that joining the pattern rows with what one child hands on, and then with what the others hand on, gives R(m + 1), whichever child comes
+-- first.
 -- Assumes nothing.
 use Prim.Native.Nat.{ℕ, zero, suc, _+_, _-_, _<_, _≤_}
 use mathlib.Core.Path.{_≡_, refl, ap}

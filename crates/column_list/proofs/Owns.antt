@@ -1,5 +1,5 @@
--- Proves what is known of the next column's pattern rows and of its first child. The rows ascend and belong to R(m + 1); without a child they are
--- R(m + 1), since nothing is handed on. The first child heads the chain of the children, so its link has its place.
+-- Proves what is known of the next column's pattern rows and first child. The rows ascend and belong to R(m + 1), and without a child they are R(m +
+-- 1). The first child heads the chain of children, so its link has a place.
 -- Assumes nothing.
 use Prim.Native.Nat.{ℕ, _+_, _<_}
 use mathlib.Core.Path.{_≡_, refl}

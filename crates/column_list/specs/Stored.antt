@@ -1,4 +1,4 @@
--- The state between two columns: the lists found so far, where they begin, and the columns hung under their parents.
+-- Defines the state between two columns: the lists made so far, the starts of these lists, and the columns hung under their parents.
 -- Assumes nothing.
 use Prim.Native.Nat.{ℕ, _+_, _<_, _≤_}
 use mathlib.Core.Path.{_≡_}

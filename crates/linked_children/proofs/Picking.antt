@@ -1,4 +1,4 @@
--- The longest of linked children: of those passed none has more rows than the best, and the rest is still linked.
+-- Proves the steps of the search for the longest child: none of the children passed has more rows than the best, and links still lead to the others.
 -- Assumes nothing.
 use Prim.Native.Nat.{ℕ, zero, suc, _+_, _<_, _≤_}
 use mathlib.Core.Path.{_≡_, refl, sym, _∙_}

@@ -1,4 +1,4 @@
--- Children listed by links in work, and the rows that each hands on.
+-- Defines the children that links in work list, and the rows that each child hands on.
 -- Assumes nothing.
 use Prim.Native.Nat.{ℕ, suc, _+_, _-_, _<_, _≤_}
 use mathlib.Core.Logic.{_≢_}

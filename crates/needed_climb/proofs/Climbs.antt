@@ -1,4 +1,4 @@
--- The climb's loop: the columns on the way have row i; it ends at the first that is marked, at the latest at column i itself.
+-- Proves the steps of the climb's loop: every column on the way has row i, and the climb ends at the first marked column, at the latest at column i.
 -- Assumes nothing.
 use Prim.Native.Nat.{ℕ, _+_, _-_, _*_, _<_, _≤_}
 use mathlib.Core.Path.{_≡_, refl, sym, _∙_}

@@ -1,4 +1,5 @@
--- Within a row: one more column is marked and counted, and its parent is known. What was open at that column is then open at its parent.
+-- Proves what one turn of the climb does: it marks and counts one more column and stores its parent. What was still to be marked from that column is
+-- then to be marked from its parent.
 -- Assumes nothing.
 use Prim.Native.Nat.{ℕ, _+_, _-_, _*_, _<_, _≤_}
 use mathlib.Core.Path.{_≡_, refl, sym, ap, _∙_}

@@ -1,4 +1,4 @@
--- Sums over the columns, and how many rows of a list are below i.
+-- Proves facts of sums over the columns, and of how many rows of a list are below i.
 -- Assumes nothing.
 use Prim.Native.Nat.{ℕ, zero, suc, _+_, _*_, _<_, _≤_}
 use mathlib.Core.Path.{_≡_, refl}

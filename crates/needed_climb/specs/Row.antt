@@ -1,5 +1,5 @@
--- The state within row i: which columns are marked for it, what is counted, which parents are known.
--- The mark of column c stands at c in work, its parent at c - 1 in parents.
+-- Defines the state within row i: which columns are marked for it, what is counted, and which parents are known. Place c of work holds the mark of
+-- column c, and place c - 1 of parents its parent.
 -- Assumes nothing.
 use Prim.Native.Nat.{ℕ, _+_, _-_, _<_, _≤_}
 use mathlib.Core.Path.{_≡_}

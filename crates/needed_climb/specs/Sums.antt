@@ -1,4 +1,4 @@
--- Counting the rows of all lists by rows instead of by columns.
+-- Defines how the rows of all lists are counted by rows instead of by columns.
 -- Assumes nothing.
 use Prim.Native.Nat.{ℕ, zero, suc, _+_}
 use mathlib.Core.Bool.{true, false}

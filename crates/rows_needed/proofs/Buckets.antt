@@ -1,5 +1,5 @@
--- Columns in the buckets of their next rows: a bucket carried over to other columns and another work, the row after a row that is done, and
--- the first column of a row taken out.
+-- Proves facts of the buckets that hold columns by their next rows: how a bucket carries over to another work, which row follows a row that is done,
+-- and how the first column is taken out.
 -- Assumes nothing.
 use Prim.Native.Nat.{ℕ, suc, _+_, _-_, _<_, _≤_}
 use mathlib.Core.Path.{_≡_, refl, sym}

@@ -1,4 +1,4 @@
--- A column filed under its next row: it goes to the front of that row's bucket, and all other columns keep their places.
+-- Proves that filing a column puts it at the front of the bucket of its next row, and that all other columns keep their places.
 -- Assumes nothing.
 use Prim.Native.Nat.{ℕ, _+_, _-_, _<_, _≤_}
 use mathlib.Core.Path.{_≡_, refl, sym, ap, subst, _∙_}

@@ -1,5 +1,5 @@
--- Between two rows. A row that is done has marked every column that has it, since each is reached by parents from a column whose pattern has it;
--- so the marks are what the count below i + 1 has more than the count below i.
+-- Proves that a row that is done has marked every column that has it, since parents lead to each from a column whose pattern has it. So the marks are
+-- what the count below i + 1 adds to the count below i.
 -- Assumes nothing.
 use Prim.Native.Nat.{ℕ, zero, suc, _+_, _-_, _<_, _≤_}
 use mathlib.Core.Path.{_≡_, refl, sym, _∙_}

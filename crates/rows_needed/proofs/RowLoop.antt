@@ -1,4 +1,4 @@
--- All columns filed under their first rows, and the loop over the rows.
+-- Proves that all columns are filed under their first rows, and the steps of the loop over the rows.
 -- Assumes nothing.
 use Prim.Native.Nat.{ℕ, suc, _+_, _-_, _<_, _≤_}
 use mathlib.Core.Path.{_≡_, refl, _∙_}

@@ -1,4 +1,4 @@
--- What filing a column stores: the place of its next row, and, if it has one, two links.
+-- Proves what filing a column stores: the place of its next row and, if it has such a row, two links.
 -- Assumes nothing.
 use Prim.Native.Nat.{ℕ, _+_, _<_, _≤_}
 use mathlib.Core.Path.{_≡_, refl, _∙_}

@@ -1,5 +1,5 @@
--- The walk over the columns at row i: the first of them is climbed from and filed under its next row, and the others are still to do.
--- What is left of all columns' rows falls.
+-- Proves one turn of the walk over the columns at row i: it climbs from the first of them and files it under its next row, and the others are left to
+-- do. The rows ahead of all columns grow fewer.
 -- Assumes nothing.
 use Prim.Native.Nat.{ℕ, _+_, _-_, _<_, _≤_}
 use mathlib.Core.Path.{_≡_, refl, sym, ap, _∙_}

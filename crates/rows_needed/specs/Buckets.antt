@@ -1,5 +1,5 @@
--- The columns by the next pattern row of each. The first column of row r stands at n + r in work; for column c the next column of the same
--- row stands at n + n + c, and at n + n + n + c the place of its next row.
+-- Defines the buckets that hold each column by its next pattern row. Work holds the first column of row r at n + r, the column behind c in the same
+-- bucket at n + n + c, and the place of c's next row at n + n + n + c.
 -- Assumes nothing.
 use Prim.Native.Nat.{ℕ, _+_, _-_, _<_, _≤_}
 use mathlib.Core.Path.{_≡_}

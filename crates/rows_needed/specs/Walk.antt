@@ -1,4 +1,4 @@
--- The walk over the columns at row i, and what begins and ends it.
+-- Defines the walk over the columns at row i, and the state before and after it.
 -- Assumes nothing.
 use Prim.Native.Nat.{ℕ, _+_, _<_, _≤_}
 use mathlib.Core.Path.{_≡_}

@@ -1,4 +1,4 @@
--- What hanging a column under its parent does to the chains of children: it becomes the first of that parent's, and the others stay.
+-- Proves what hanging a column under its parent changes: the column becomes the first child of that parent, and all other chains stay.
 -- Assumes nothing.
 use Prim.Native.Nat.{ℕ, zero, suc, _+_, _<_, _≤_}
 use mathlib.Core.Path.{_≡_, refl, sym, _∙_}

@@ -1,4 +1,5 @@
--- The loop over the columns: after m of them the slices hold their parents, starts and lists, and the next can be gathered and stored.
+-- Proves the steps of the loop over the columns: after m columns the slices hold their parents, starts and lists, so the next list can be gathered
+-- and stored.
 -- Assumes nothing.
 use Prim.Native.Nat.{ℕ, suc, _+_, _-_, _<_, _≤_}
 use mathlib.Core.Path.{_≡_, refl, sym, ap, _∙_}

@@ -1,4 +1,4 @@
--- One column more is stored, from none on: its list behind the others, its end, and its place among its parent's children.
+-- Proves that storing one column more keeps the state: its list goes behind the others, its end is written, and it joins the children of its parent.
 -- Assumes nothing.
 use Prim.Native.Nat.{ℕ, suc, _+_, _-_, _<_, _≤_}
 use mathlib.Core.Path.{_≡_, refl, ap, _∙_}

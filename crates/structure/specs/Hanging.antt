@@ -1,4 +1,4 @@
--- Columns hung under their parents in work: the first child of j stands at j, the sibling behind column c at n + c.
+-- Defines how work lists children: place j holds the first child of j, and place n + c holds the sibling behind column c.
 -- Assumes nothing.
 use Prim.Native.Nat.{ℕ, zero, suc, _+_, _<_, _≤_}
 use mathlib.Core.List.{List}

@@ -1,4 +1,4 @@
--- A list stored as that of a column, the lengths of what is lent for all of them, and the lists of the columns that are done.
+-- Defines what storing a column's list changes, the lengths of the slices lent for all lists, and the lists of the columns that are done.
 -- Assumes nothing.
 use Prim.Native.Nat.{ℕ, suc, _+_, _<_, _≤_}
 use mathlib.Core.Path.{_≡_}

@@ -1,4 +1,4 @@
--- `child_lists::covered` meets its contract: the rows left are all marked just where all are. The measure is what is left.
+-- Proves that `covered` tests whether all rows are marked, since the rows passed are, so those left decide. Each turn leaves one row less.
 -- Assumes nothing.
 use Prim.Native.Nat.{_+_, _-_, _<_}
 use native.Mathlib.Omega.{arith}

@@ -1,4 +1,4 @@
--- `child_lists::join_rows` meets its contract: the list of one buffer and further rows are joined into the other buffer, whose turn it then is.
+-- Proves that `join_rows` joins the list of one buffer and further rows into the other buffer, which is then next in turn.
 -- Assumes nothing.
 use mathlib.Core.Path.{sym}
 use lib.Seq.{length-take-le}

@@ -1,4 +1,4 @@
--- `child_lists::mark` meets its contract: marking the rows left gives what marking all gives. The measure is what is left.
+-- Proves that `mark` marks every row of the list, since marking the rows left completes what was marked. Each turn leaves one row less.
 -- Assumes nothing.
 use Prim.Native.Nat.{_+_, _-_, _<_}
 use native.Mathlib.Omega.{arith}

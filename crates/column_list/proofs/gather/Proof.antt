@@ -1,5 +1,5 @@
--- `column_list::gather` meets its contract. R(m + 1) is made of the column's pattern rows and of what its children hand on: without a child it is
--- the pattern rows; else these are joined with what the longest child hands on, and, where there are more children, with what those hand on.
+-- Proves that `gather` leaves R(m + 1) in a buffer. Without a child it copies the pattern rows; else it joins them with what the longest child hands
+-- on, and then with what the other children hand on.
 -- Assumes nothing.
 use Prim.Native.Nat.{ℕ}
 use mathlib.Core.Path.{refl, sym}

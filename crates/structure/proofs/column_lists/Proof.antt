@@ -1,5 +1,5 @@
--- `structure::column_lists` meets its contract: after m columns the slices hold their parents, starts and lists, so the list of the next column
--- can be gathered, and stored if it has room. The measure is what is left of the columns.
+-- Proves that `column_lists` makes the lists, starts and parents: after m columns the slices hold theirs, so the next list can be gathered, and
+-- stored if it fits. Each turn leaves one column less.
 -- Assumes nothing.
 use Prim.Native.Nat.{_-_}
 use mathlib.Core.Path.{refl, _∙_}
