@@ -1,4 +1,4 @@
--- Slices of the same lengths: what is long enough stays so, and clearing makes them one.
+-- Proves that slices of the same lengths behave alike: if the ones are long enough, so are the others, and once cleared they are equal.
 -- Assumes nothing.
 use Prim.Native.Nat.{ℕ, _≤_}
 use mathlib.Core.Path.{_≡_, sym, ap, _∙_}

@@ -1,4 +1,4 @@
--- Six equations of slices are one.
+-- Proves that two values of six slices are equal if each of the six slices is.
 -- Assumes nothing.
 use Prim.Native.Nat.{ℕ}
 use mathlib.Core.Path.{_≡_, ap}

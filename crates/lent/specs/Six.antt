@@ -1,4 +1,4 @@
--- The six slices that an analysis or a check is lent, as one value.
+-- Defines the six slices that an analysis or a check is lent, as one value.
 -- Assumes nothing.
 use Prim.Native.Nat.{ℕ, _+_, _≤_}
 use mathlib.Core.Bool.{Bool, _||_}

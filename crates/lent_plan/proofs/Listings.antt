@@ -1,4 +1,4 @@
--- The column lists in the lent slices: the slices are long enough for them, and what is cleared behind them is followed by zeros.
+-- Proves that the lent slices are long enough for the column lists, and that zeros follow the lists once the places behind them are cleared.
 -- Assumes nothing.
 use Prim.Native.Nat.{ℕ, zero, suc, _+_, _-_, _<_, _≤_}
 use mathlib.Core.Path.{_≡_, refl, sym, ap, _∙_}

@@ -1,4 +1,4 @@
--- A refusal of the analysis leaves zeros, so the outcome is told by the answer alone, and clearing the slices makes it.
+-- Proves that the answer alone decides the outcome of a refused analysis, since a refusal leaves zeros; so clearing the slices makes that outcome.
 -- Assumes nothing.
 use mathlib.Core.Path.{_≡_}
 use mathlib.Core.Logic.{_≢_}

@@ -1,4 +1,4 @@
--- The order in the lent slices: it works in the front of order and pops, and what lies behind stays.
+-- Proves that the order is made in the front of order and pops, and that the places behind stay as they were.
 -- Assumes nothing.
 use Prim.Native.Nat.{ℕ, _+_}
 use mathlib.Core.Path.{_≡_}

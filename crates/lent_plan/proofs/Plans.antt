@@ -1,5 +1,5 @@
--- The lists and the order that were made in the lent slices are those of the job's plan. A list in front of what is cleared behind it is the result,
--- then zeros; the tree and the rows that the order was made from are the pattern's (Ties).
+-- Proves that the lists and the order made in the lent slices are those of the job's plan, each followed by zeros: the tree and the rows that the
+-- order was made from are the pattern's (Ties).
 -- Assumes nothing.
 use Prim.Native.Nat.{ℕ, suc, _+_, _<_, _≤_}
 use mathlib.Core.Path.{_≡_, refl, sym, ap, _∙_}

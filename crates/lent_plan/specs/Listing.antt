@@ -1,4 +1,4 @@
--- What the lent slices hold when the column lists are made, and what that asks for.
+-- Defines what the lent slices hold once the column lists are made, and what making them requires.
 -- Assumes nothing.
 use Prim.Native.Nat.{ℕ, suc, _<_, _≤_}
 use mathlib.Core.Path.{_≡_}

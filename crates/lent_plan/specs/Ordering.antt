@@ -1,4 +1,4 @@
--- What the lent slices hold before and after the order of the columns is made in them.
+-- Defines what the lent slices hold before and after the order of the columns is made in them.
 -- Assumes nothing.
 use Prim.Native.Nat.{ℕ, _+_, _≤_}
 use mathlib.Core.Path.{_≡_}

@@ -1,4 +1,5 @@
--- The columns of parents and factor starts: what holds of 1 to n holds of every number, since there are no rows and no parent elsewhere.
+-- Proves that what holds of the columns 1 to n, by parents and factor starts, holds of every number, since any other number has no rows and no
+-- parent.
 -- Assumes nothing.
 use Prim.Native.Nat.{ℕ, zero, suc, _+_, _<_, _≤_}
 use mathlib.Core.Path.{_≡_, refl, sym, fun-ext, _∙_}

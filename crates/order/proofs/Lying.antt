@@ -1,5 +1,5 @@
--- The lists of children laid out in the first numbers of work and in the list, the descendants behind, and then arranged by the mark: so they lie
--- as the walk takes them.
+-- Proves that the lists of children, laid out in work and in the list with the descendants behind them and arranged by the mark, are in the form that
+-- the walk takes.
 -- Assumes nothing.
 use Prim.Native.Nat.{ℕ, _+_, _<_, _≤_}
 use mathlib.Core.Path.{_≡_, sym, ap, _∙_}

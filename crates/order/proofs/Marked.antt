@@ -1,5 +1,5 @@
--- The walk over lists arranged by a mark gives the steps of that mark; a subtree has as many steps under every mark, and in its order no step
--- takes off more updates than are held.
+-- Proves that the walk over lists arranged by a mark gives the steps of that mark. A subtree takes as many steps under every mark, and no step of its
+-- order pops more updates than are held.
 -- Assumes nothing.
 use Prim.Native.Nat.{ℕ, suc, _+_, _<_, _≤_}
 use mathlib.Core.Path.{_≡_, sym, ap, _∙_}

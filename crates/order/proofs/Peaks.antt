@@ -1,4 +1,4 @@
--- The steps written, their pops are the numbers of children by the starts, and the pass over both finds the peak of the order.
+-- Proves that the pops, counted by the starts, are the numbers of children, and that the pass over the steps and pops finds the peak of the order.
 -- Assumes nothing.
 use Prim.Native.Nat.{ℕ, _+_, _<_, _≤_}
 use mathlib.Core.Path.{_≡_, refl, ap, _∙_}

@@ -1,4 +1,4 @@
--- From lists of children arranged by the mark to the order: they are what the walk asks for, and it writes the order of the mark.
+-- Proves that lists of children arranged by the mark are what the walk requires, and that the walk then writes the order of the mark.
 -- Assumes nothing.
 use Prim.Native.Nat.{ℕ, zero, suc, _+_, _<_, _≤_}
 use mathlib.Core.Path.{_≡_, sym, ap, _∙_}

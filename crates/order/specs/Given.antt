@@ -1,4 +1,4 @@
--- The tree and the rows that an order is made from, as slices hold them; and the order, in the paper's terms.
+-- Defines the tree and the rows that an order is made from, as slices hold them, and the order in the papers' terms.
 -- Assumes nothing.
 use Prim.Native.Nat.{ℕ, _+_, _-_, _*_, _<_, _≤_}
 use mathlib.Core.Path.{_≡_}

@@ -1,4 +1,4 @@
--- Rooms step by step, the pops read from a list, are those of the columns, each with its own pops.
+-- Proves that the rooms of the steps, with pops read from a list, are the rooms of the columns, each with its own pops.
 -- Assumes nothing.
 use Prim.Native.Nat.{ℕ, zero, suc, _<_, _≤_}
 use mathlib.Core.Path.{_≡_, refl, ap, _∙_}

@@ -1,5 +1,5 @@
--- One step over updates whose sums from the lowest on stand in below: the room of its front is one look-up, and what is held after it has its
--- sums there too.
+-- Proves one step: below holds the sums of the held updates from the lowest up, so one look-up gives the room of the front, and below holds the sums
+-- again after the step.
 -- Assumes nothing.
 use Prim.Native.Nat.{ℕ, zero, suc, _+_, _-_, _<_, _≤_, min}
 use mathlib.Core.Path.{_≡_, sym, ap, _∙_}

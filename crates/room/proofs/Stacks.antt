@@ -1,5 +1,5 @@
--- The pass for the peak: below holds the sums of the held updates from the lowest on, so that taking off, pushing and the room of a front
--- are each one look-up.
+-- Proves the pass that finds the peak: below holds the sums of the held updates from the lowest up, so popping, pushing and the room of a front take
+-- one look-up each.
 -- Assumes nothing.
 use Prim.Native.Nat.{ℕ, suc, _+_, _-_, _*_, _<_, _≤_, min, max}
 use mathlib.Core.Path.{_≡_, refl, sym, ap, _∙_}

@@ -1,4 +1,4 @@
--- Lists that lie one behind the other, counted by their starts; and the entries of the largest front.
+-- Defines the lengths of lists that follow one another, by their starts, and the entries of the largest front.
 -- Assumes nothing.
 use Prim.Native.Nat.{ℕ, _+_, _-_, _*_, _/_, _<_, _≤_}
 use mathlib.Core.Path.{_≡_}

@@ -1,4 +1,4 @@
--- The steps of an order with their pops in two slices: what the passes over them are given.
+-- Defines the steps of an order and their pops in two slices, which the passes over them are given.
 -- Assumes nothing.
 use Prim.Native.Nat.{ℕ, suc, _+_, _-_, _*_, _^_, _<_, _≤_, min}
 use mathlib.Core.Path.{_≡_}

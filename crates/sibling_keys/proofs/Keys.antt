@@ -1,4 +1,4 @@
--- The sibling keys of the three marks, and the pass that stores those of a column's children.
+-- Proves the sibling key of each of the three marks, and the pass that stores the keys of a column's children.
 -- Assumes nothing.
 use Prim.Native.Nat.{ℕ, zero, suc, _+_, _-_, _<_, _≤_}
 use mathlib.Core.Path.{_≡_, refl, sym, ap, _∙_}

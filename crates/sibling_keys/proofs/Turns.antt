@@ -1,4 +1,4 @@
--- The W of a column from those of its children: the pass goes on from the first i children to one more.
+-- Proves the steps of the pass that finds a column's W: it goes from the first i children to one child more.
 -- Assumes nothing.
 use Prim.Native.Nat.{ℕ, suc, _+_, _*_, _<_, _≤_, max}
 use mathlib.Core.Path.{_≡_, refl, ap}

@@ -1,4 +1,4 @@
--- A column and its children: the children's keys, and the column's W from theirs.
+-- Defines a column and its children as slices hold them: the keys of the children, and the column's W that the children's W give.
 -- Assumes nothing.
 use Prim.Native.Nat.{ℕ, suc, _+_, _-_, _*_, _<_, _≤_, max}
 use mathlib.Core.Path.{_≡_}

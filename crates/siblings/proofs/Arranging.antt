@@ -1,5 +1,5 @@
--- The pass over the columns: the lists of the columns before j stand by the mark and their W are known, the other lists are as they were. So
--- the children of j can be arranged.
+-- Proves the steps of the pass over the columns: the lists of the columns before j are sorted by the mark and their W are stored, and the other lists
+-- are as they were. So the children of j can be arranged.
 -- Assumes nothing.
 use Prim.Native.Nat.{ℕ, zero, suc, _+_, _<_, _≤_}
 use mathlib.Core.Path.{_≡_, refl, sym, ap, _∙_}

@@ -1,4 +1,5 @@
--- One column more is arranged. Its list lies apart from all others, so they are as they were; its W is found from its children's, which are known.
+-- Proves that arranging one column more changes no other list, since its list is apart from all others; its W comes from those of its children, which
+-- are stored.
 -- Assumes nothing.
 use Prim.Native.Nat.{ℕ, _+_, _-_, _<_, _≤_}
 use mathlib.Core.Path.{_≡_, _∙_}

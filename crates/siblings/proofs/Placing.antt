@@ -1,4 +1,5 @@
--- One column: the keys are stored behind the W, the children are sorted by them in their place, and the W of the column goes to its own.
+-- Proves what arranging one column stores: the keys go behind the W, the children are sorted by them in their place, and the column's W goes to its
+-- own place.
 -- Assumes nothing.
 use Prim.Native.Nat.{ℕ, _+_, _-_}
 use mathlib.Core.Path.{_≡_, sym, ap, _∙_}

@@ -1,4 +1,4 @@
--- The W of a column and its children by the mark, where the W of the children are known: by them they are sorted, and from theirs is its own.
+-- Proves that the stored W of the children decide both their order by the mark and the column's own W.
 -- Assumes nothing.
 use Prim.Native.Nat.{ℕ, suc, _+_, _*_, _<_, _≤_}
 use mathlib.Core.Path.{_≡_, refl, sym, ap, _∙_}

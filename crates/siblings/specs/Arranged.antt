@@ -1,4 +1,4 @@
--- Lists of children arranged by the mark, each in its place: what the passes over them are given and leave.
+-- Defines lists of children that are arranged by the mark, each in its place: what the passes over them are given, and what they leave.
 -- Assumes nothing.
 use Prim.Native.Nat.{ℕ, _+_, _-_, _<_, _≤_}
 use mathlib.Core.Path.{_≡_}

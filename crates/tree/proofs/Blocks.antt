@@ -1,4 +1,4 @@
--- Blocks of steps: a column after its children's blocks, and those of siblings one behind the other.
+-- Proves facts of blocks of steps: a column comes after the blocks of its children, and the blocks of siblings follow one another.
 -- Assumes nothing.
 use Prim.Native.Nat.{ℕ, zero, suc, _+_, _<_, _≤_}
 use mathlib.Core.Path.{_≡_, refl, sym, ap, _∙_}

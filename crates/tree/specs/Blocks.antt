@@ -1,4 +1,4 @@
--- Steps in blocks: a column's subtree done with its children as their lists have them.
+-- Defines blocks of steps: the steps of a column's subtree, which takes the children in the order of their lists.
 -- Assumes nothing.
 use Prim.Native.Nat.{ℕ, _+_}
 use mathlib.Core.List.{List, flatMap}

@@ -1,4 +1,4 @@
--- The tree that a list of parents names, and what the passes over the parents ask.
+-- Defines the tree that a list of parents names, and what the passes over the parents require.
 -- Assumes nothing.
 use Prim.Native.Nat.{ℕ, zero, suc, _+_, _*_, _^_, _<_, _≤_}
 use mathlib.Core.Path.{_≡_}

@@ -1,5 +1,5 @@
--- The column's task: a column's steps are those of its children and itself last; the block that is handed back is all that is left to write,
--- and a leaf's is one step.
+-- Proves how the column's task goes down: a column's steps are those of its children, then itself. The block that is handed back is all that is left
+-- to write, and a leaf's block is one step.
 -- Assumes nothing.
 use Prim.Native.Nat.{ℕ, zero, suc, _+_, _-_, _<_, _≤_}
 use mathlib.Core.Path.{_≡_, refl, _∙_}

@@ -1,5 +1,5 @@
--- The siblings' task: one block is held, those of the siblings from place i on are still to be written, and with both all is written. Of two
--- blocks the one that is done is smaller than all of the siblings' steps.
+-- Proves how the siblings' task goes on: one block is held, the siblings from place i on are left, and with both all is written. Of two blocks the
+-- task does the smaller, which has fewer steps than all siblings together.
 -- Assumes nothing.
 use Prim.Native.Nat.{ℕ, _+_, _^_, _<_, _≤_}
 use mathlib.Core.Path.{_≡_, refl, _∙_}

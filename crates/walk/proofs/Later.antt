@@ -1,4 +1,5 @@
--- The siblings from place i of the lists on: as long as steps are left there is one, its block is read there, and those behind it come after.
+-- Proves facts of the siblings from place i of the lists on: while steps are left there is such a sibling, its block is read there, and the others
+-- follow it.
 -- Assumes nothing.
 use Prim.Native.Nat.{ℕ, _+_, _^_, _<_, _≤_}
 use mathlib.Core.Path.{_≡_, sym, ap, _∙_}

@@ -1,4 +1,4 @@
--- Halving a number takes a level off, and below 2 ^ k there are at most k levels: what bounds how deep calls nest (Nesting).
+-- Proves that halving a number takes off one level, and that a number below 2 ^ k has at most k levels. This bounds how deep calls nest (Nesting).
 -- Assumes nothing.
 use Prim.Native.Nat.{ℕ, zero, suc, _+_, _*_, _/_, _^_, _<_, _≤_}
 use mathlib.Core.Path.{_≡_, refl}

@@ -1,5 +1,5 @@
--- The calls of the two tasks nest no deeper than columns can be halved: of two siblings' blocks the smaller, for which there is a call, is at most
--- half of both, and going on with the one that is handed back takes no call.
+-- Proves that calls nest no deeper than the number of columns can be halved: a call is made for the smaller of two siblings' blocks, at most half of
+-- both, and the block that is handed back takes no call.
 -- Assumes nothing.
 use Prim.Native.Nat.{ℕ, zero, suc, _+_, _*_, _^_, _<_, _≤_, max}
 use mathlib.Core.Path.{_≡_, refl, ap, _∙_}

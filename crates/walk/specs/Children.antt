@@ -1,4 +1,5 @@
--- What is read of a child, and what the siblings' task hands back. A block is a column, the count of its subtree's columns, and its first step.
+-- Defines what is read of a child, and what the siblings' task hands back. A block is a column, the count of its subtree's columns, and its first
+-- step.
 -- Assumes nothing.
 use Prim.Native.Nat.{ℕ, _+_, _^_, _<_, _≤_}
 use mathlib.Core.Path.{_≡_}

@@ -1,4 +1,4 @@
--- How often a number can be halved.
+-- Defines how often a number can be halved.
 -- Assumes nothing.
 use Prim.Native.Nat.{ℕ, zero, suc, _/_}
 use mathlib.Core.Bool.{true, false}

@@ -1,4 +1,4 @@
--- How deep the calls of the two tasks nest, by the same recursion over the tree as theirs.
+-- Defines how deep the calls of the two tasks nest, by the recursion over the tree that the tasks themselves follow.
 -- Assumes nothing.
 use Prim.Native.Nat.{ℕ, zero, suc, _+_, max}
 use mathlib.Core.Bool.{true, false}

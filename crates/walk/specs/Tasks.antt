@@ -1,4 +1,4 @@
--- What the two tasks of the walk are given.
+-- Defines what the two tasks of the walk are given.
 -- Assumes nothing.
 use Prim.Native.Nat.{ℕ, _+_, _^_, _<_, _≤_}
 use mathlib.Core.Path.{_≡_}

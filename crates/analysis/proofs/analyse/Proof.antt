@@ -1,5 +1,5 @@
--- `analysis::analyse` meets its contract: the tests come in the order of their numbers. A job that fails one of 1 to 6 is answered by its fault, and
--- slices that are too short by 7; else the answer is that of the plan that is made, and what a refusal left in the slices is cleared.
+-- Proves that `analyse` makes its tests in the order of their numbers. A job that fails one of 1 to 6 is answered by its fault, and short slices by
+-- 7; else the answer is that of making the plan, and a refusal clears the slices.
 -- Assumes nothing.
 use mathlib.Core.Path.{_≡_, sym, _∙_}
 use native.Mathlib.Omega.{arith}

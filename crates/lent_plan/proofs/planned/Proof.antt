@@ -1,5 +1,5 @@
--- `lent_plan::planned` meets its contract: there is a law for each way out. The rows needed exceed the slice, the peak is over the limit, or the plan
--- is held. Every call keeps the lengths of the slices.
+-- Proves that `planned` makes the plan or refuses: a law covers each way out, with too many rows, with a peak over the limit, and with the plan made.
+-- Every call keeps the lengths of the slices.
 -- Assumes nothing.
 use native.Mathlib.Omega.{arith}
 use borrow.Author.Needs.{needs}

@@ -1,5 +1,5 @@
--- The loop's invariant: the updates held after k steps have their sums in below, and most is the greatest room so far. The measure is how
--- many steps are left.
+-- Proves that `peak` finds the greatest room: after k steps below holds the sums of the updates held, and most is the greatest room so far. Each turn
+-- leaves one step less.
 -- Assumes nothing.
 use Prim.Native.Nat.{_-_}
 use mathlib.Core.Path.{_∙_}

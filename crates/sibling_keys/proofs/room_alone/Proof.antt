@@ -1,4 +1,5 @@
--- The loop's invariant: the room, the updates and those but the last of the first i children. The measure is how many are left.
+-- Proves that `room_alone` finds W: it keeps the room of the first i children, the sum of their updates, and the sum of all these but the last. Each
+-- turn leaves one child less.
 -- Assumes nothing.
 use Prim.Native.Nat.{_+_, _-_, _<_}
 use native.Mathlib.Omega.{arith}

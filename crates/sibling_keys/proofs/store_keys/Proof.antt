@@ -1,5 +1,5 @@
--- The keys lie behind the W, so no W that is still to be read is lost. The loop's invariant: the keys of the first i children are stored,
--- and what lies before the keys is as it was; the measure is how many are left.
+-- Proves that `store_keys` stores the keys of the children: it stores them behind the W, so it overwrites no W that it has yet to read. Each turn
+-- leaves one child less.
 -- Assumes nothing.
 use Prim.Native.Nat.{_-_}
 use native.Mathlib.Omega.{arith}
