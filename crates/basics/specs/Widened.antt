@@ -1,4 +1,4 @@
--- What is known of a machine number that was widened.
+-- Defines what is known of a machine number after it is widened.
 -- Assumes nothing.
 use Prim.Native.Nat.{ℕ, _<_}
 use mathlib.Core.Path.{_≡_}

@@ -1,5 +1,5 @@
--- Writing a number group by group: the groups of what is left, stored where the next one goes, make the whole. A turn stores the low
--- group, and the end stores the last.
+-- Proves how a number is written group by group: the groups left, stored from the next place on, make the whole. A turn stores the low group, and the
+-- end stores the last group.
 -- Assumes nothing.
 use Prim.Native.Nat.{ℕ, suc, _+_, _-_, _/_, _%_, _<_, _≤_}
 use mathlib.Core.Path.{_≡_, refl}

@@ -1,4 +1,4 @@
--- What the writer of numbers asks of a number.
+-- Defines what the writer of numbers requires of a number.
 -- Assumes nothing.
 use Prim.Native.Nat.{ℕ, _*_, _^_, _<_}
 use Rattle.papers.specs.Bounds.{maxGroups}

@@ -1,4 +1,4 @@
--- What the little array of a number holds.
+-- Defines what the little array of a number holds.
 -- Assumes nothing.
 use Prim.Native.Nat.{ℕ}
 use mathlib.Core.Path.{_≡_}

@@ -1,5 +1,5 @@
--- The columns and their rows read in order: the invariants of the two loops, and a law for each way through them. The columns passed are without
--- fault, so the first column at fault is the least; and the rows passed are, so the first fault of those left is the column's.
+-- Proves each way through the two loops over columns and rows: the columns passed have no fault, so the first at fault is the least; nor have the
+-- rows passed, so the first fault of those left is the column's.
 -- Assumes nothing.
 use Prim.Native.Nat.{ℕ, suc, _+_, _<_, _≤_}
 use mathlib.Core.Path.{_≡_, refl, sym, subst, _∙_}

@@ -1,5 +1,5 @@
--- The starts read in order: the loop's invariant, and a law for each way through it. None of the columns passed has a start that falls, so the
--- first that is met is the least; behind the last column there is none.
+-- Proves each way through the loop over the starts: no start of the columns passed falls, so the first that falls is the least, and after the last
+-- column none falls.
 -- Assumes nothing.
 use Prim.Native.Nat.{ℕ, suc, _+_, _<_, _≤_}
 use mathlib.Core.Path.{_≡_, refl, _∙_}

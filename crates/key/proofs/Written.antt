@@ -1,4 +1,4 @@
--- The numbers of a key in front of its lists, and what a stored key and a refused job come to.
+-- Proves which numbers of a key come before its lists, and the outcomes of a stored key and of a refused job.
 -- Assumes nothing.
 use Prim.Native.Nat.{ℕ, _+_, _*_, _^_, _<_, _≤_}
 use mathlib.Core.Path.{_≡_, refl, sym, _∙_}

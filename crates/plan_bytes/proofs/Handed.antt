@@ -1,5 +1,5 @@
--- The parts of the slices of an analysis that is done are the steps and the lists of the job's plan, so they can be written, and what is written is
--- that plan.
+-- Proves that the fronts of the slices of an analysis that is done hold the steps and the lists of the job's plan. So they can be written, and the
+-- bytes are that plan's.
 -- Assumes nothing.
 use mathlib.Core.Path.{_≡_, refl}
 use Rattle.papers.specs.declared.Answer.{Answer}

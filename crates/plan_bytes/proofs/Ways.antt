@@ -1,5 +1,5 @@
--- The outcome of writing a plan by the outcome of the analysis: what that refuses is refused here, with the same answer; where it is done, the room
--- for the bytes decides.
+-- Proves the outcome of writing a plan from the outcome of the analysis: if that refuses, so does the writing, with the same answer; if it is done,
+-- the room for the bytes decides.
 -- Assumes nothing.
 use Prim.Native.Nat.{ℕ, _<_, _≤_}
 use mathlib.Core.Path.{_≡_, refl, sym, _∙_}

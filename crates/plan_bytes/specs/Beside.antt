@@ -1,4 +1,4 @@
--- What storing bytes beside the slices of an analysis comes to.
+-- Defines the outcome of storing bytes beside the slices of an analysis.
 -- Assumes nothing.
 use Prim.Native.Nat.{ℕ}
 use mathlib.Core.List.{List, [], _∷_}

@@ -1,4 +1,4 @@
--- The plan of a job in front of the slices of its analysis.
+-- Defines that the fronts of an analysis's slices hold the plan of its job.
 -- Assumes nothing.
 use Prim.Native.Nat.{ℕ, _+_, _≤_}
 use mathlib.Core.Path.{_≡_}

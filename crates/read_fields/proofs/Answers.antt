@@ -1,4 +1,4 @@
--- Between what is read and what is answered: a field's answer is told by its number and its range, and from an answer the reading follows.
+-- Proves how readings and answers correspond: a field's number and range decide its answer, and an answer tells what was read.
 -- Assumes nothing.
 use Prim.Native.Nat.{ℕ, _+_, _-_, _*_, _<_, _≤_}
 use mathlib.Core.Bool.{true, false}

@@ -1,4 +1,4 @@
--- Parts put onto those read before: what a loop that reads a list part by part needs of `onto`. It is the whole list that is found, or refused.
+-- Proves facts of `onto`, which puts parts onto those read before: a loop that reads a list part by part finds or refuses the whole list.
 -- Assumes nothing.
 use Prim.Native.Nat.{ℕ, _+_}
 use mathlib.Core.List.{List, [], _∷_, _++_, append-assoc, append-nil}

@@ -1,4 +1,4 @@
--- Places and counts as machine numbers: what a proof of code cites, so that it is not sought among all that is known at that point of the code.
+-- Proves bounds of places and counts as machine numbers, which code proofs cite by name.
 -- Assumes nothing.
 use Prim.Native.Nat.{ℕ, _+_, _-_, _*_, _^_, _<_, _≤_}
 use mathlib.Core.Path.{_≡_}

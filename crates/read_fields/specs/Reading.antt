@@ -1,4 +1,5 @@
--- What a reader answers for a part of a plan, and what it then keeps of it in a lent slice. Of a part at fault nothing is said to be kept.
+-- Defines what a reader answers for a part of a plan, and what it keeps of that part in a lent slice. For a part at fault it promises nothing of what
+-- is kept.
 -- Assumes nothing.
 use Prim.Native.Nat.{ℕ}
 use mathlib.Core.Path.{_≡_}

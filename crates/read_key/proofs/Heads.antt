@@ -1,4 +1,5 @@
--- The numbers before the lists, one field behind another: the first at fault makes the key unreadable, and all four in their ranges are the head.
+-- Proves that the numbers before the lists are read one field after the other: the first at fault makes the key unreadable, and four fields in their
+-- ranges make the head.
 -- Assumes nothing.
 use Prim.Native.Nat.{ℕ}
 use mathlib.Core.Path.{_≡_, refl, sym, ap, _∙_}

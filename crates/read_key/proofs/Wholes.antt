@@ -1,5 +1,5 @@
--- A key is its head, its lists and the end (key-by-head), so its first part at fault makes it unreadable; where all are read it is the key of the job
--- of that head and those lists.
+-- Proves that a key is its head, its lists and the end (key-by-head): the first part at fault makes it unreadable, and if all are read it is the key
+-- of the job with that head and those lists.
 -- Assumes nothing.
 use Prim.Native.Nat.{ℕ, _+_, _<_, _≤_}
 use mathlib.Core.Path.{_≡_, refl, sym, ap, _∙_}

@@ -1,4 +1,4 @@
--- What the reader of a key answers. A key that does not read through is unreadable, wherever its fault is, so no number and no place is kept of it.
+-- Defines what the reader of a key answers. A key with any fault is unreadable, so the answer tells neither the number nor the place of the fault.
 -- Assumes nothing.
 use Prim.Native.Nat.{ℕ, _≤_}
 use mathlib.Core.Path.{_≡_}

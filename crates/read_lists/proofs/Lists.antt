@@ -1,5 +1,5 @@
--- The list of a column is its count and the rows behind it: the first number at fault is the list's fault, and rows read to the end are the list.
--- Where the quick reader of rows leaves off, the other keeps its rows over those kept.
+-- Proves that a column's list is its count, then its rows: the first number at fault is the list's fault, and rows read to the end are the list. If
+-- the quick reader gives up, the other reader keeps its rows over those kept.
 -- Assumes nothing.
 use Prim.Native.Nat.{zero, suc, ℕ, _+_, _-_, _*_, _^_, _<_}
 use mathlib.Core.List.{List}

@@ -1,4 +1,4 @@
--- What is kept of a list. A store past the end of a slice stores nothing, so it is the same whether or not all rows find room.
+-- Defines what is kept of a list. A store past the end of a slice stores nothing, so what is kept does not depend on whether all rows fit.
 -- Assumes nothing.
 use Prim.Native.Nat.{ℕ}
 use mathlib.Core.Path.{_≡_}

@@ -1,5 +1,5 @@
--- Reading a number group by group: what is found behind, carried on top of what the groups so far come to, is what is found at the place
--- where the number starts. The weight of a group is 128 for each one before it, so what is carried stays below it.
+-- Proves how a number is read group by group: the groups left, added on top of those read, give the number at its start. The weight of the next group
+-- is above the value of those read.
 -- Assumes nothing.
 use Prim.Native.Nat.{ℕ, suc, _+_, _-_, _*_, _^_, _<_, _≤_}
 use mathlib.Core.Path.{_≡_, refl, sym, ap, _∙_}

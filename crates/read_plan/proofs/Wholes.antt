@@ -1,5 +1,5 @@
--- The whole plan: its parts one behind the other. The first part at fault is the plan's fault; of a plan that is read the answer is that of its last
--- part, and its steps and lists are those read before.
+-- Proves that the plan's first part at fault is the plan's fault. A plan that reads through gets the answer of its last part, and its steps and lists
+-- are those read before.
 -- Assumes nothing.
 use Prim.Native.Nat.{ℕ, _+_, _<_, _≤_}
 use mathlib.Core.Bool.{Bool, true, false}

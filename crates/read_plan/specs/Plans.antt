@@ -1,4 +1,5 @@
--- What the reader of a plan answers, and what it then keeps of the plan in the lent slices. Of a plan at fault nothing is said to be kept.
+-- Defines what the reader of a plan answers, and what it keeps of the plan in the lent slices. For a plan at fault it promises nothing of what is
+-- kept.
 -- Assumes nothing.
 use Prim.Native.Nat.{ℕ, _+_, _<_, _≤_}
 use mathlib.Core.Path.{_≡_}

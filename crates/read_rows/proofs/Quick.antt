@@ -1,4 +1,5 @@
--- Rows read quickly: short rows and, between them, rows whose gaps have two groups, up to the list's end or to what is left to the reader of lists.
+-- Proves how rows are read quickly: short rows, and between them rows whose gaps have two groups, up to the list's end or to what the reader of lists
+-- must read.
 -- Assumes nothing.
 use Prim.Native.Nat.{ℕ, _+_, _-_, _<_}
 use mathlib.Core.List.{List, _++_}

@@ -1,5 +1,5 @@
--- The rows of a column: what is read behind rows that are read is read behind the first (rows-both), so a loop may take them one by one or many at
--- once. Each row takes a byte, so their total stays within the place.
+-- Proves that reading some rows and then the rest reads all rows (rows-both), so a loop may take them one by one or many at once. Each row takes a
+-- byte, so their count is no greater than the place.
 -- Assumes nothing.
 use Prim.Native.Nat.{zero, suc, ℕ, _+_, _-_, _^_, _<_, _≤_}
 use mathlib.Core.List.{List, [], _∷_, _++_}

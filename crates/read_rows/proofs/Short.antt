@@ -1,4 +1,4 @@
--- Rows whose gaps have one byte: i of them take i bytes, and where the last is in its range all are, so they are rows read.
+-- Proves that i rows whose gaps have one byte take i bytes, and that all are in their range if the last is, since they ascend.
 -- Assumes nothing.
 use Prim.Native.Nat.{ℕ, _+_, _-_, _^_, _<_, _≤_}
 use mathlib.Core.Bool.{false}

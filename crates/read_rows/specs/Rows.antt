@@ -1,5 +1,5 @@
--- What is read and kept of the rows of a column. A store past the end of a slice stores nothing, so what is kept of rows is the same whether or not
--- all find room.
+-- Defines what is read and kept of a column's rows. A store past the end of a slice stores nothing, so what is kept does not depend on whether all
+-- rows fit.
 -- Assumes nothing.
 use Prim.Native.Nat.{ℕ, _+_, _-_, _*_, _≤_}
 use mathlib.Core.Path.{_≡_}

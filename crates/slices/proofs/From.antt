@@ -1,4 +1,4 @@
--- Clearing the part from a place on leaves what stands before it; so a result stored at the front of a slice is then followed by zeros.
+-- Proves that clearing the places from one on keeps those before it; so a result at the front of a slice is then followed by zeros.
 -- Assumes nothing.
 use Prim.Native.Nat.{ℕ, _+_, _-_, _≤_}
 use mathlib.Core.Path.{_≡_}

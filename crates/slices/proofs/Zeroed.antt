@@ -1,4 +1,4 @@
--- A list that is zeroed from the front: the invariant of each clearing loop, at every width. Where all places are passed, all is zero.
+-- Proves the steps of each clearing loop, at every width: the places passed are zero, so after the last place the whole list is zero.
 -- Assumes nothing.
 use Prim.Native.Nat.{ℕ, _+_, _<_, _≤_}
 use mathlib.Core.Path.{_≡_, refl, ap, _∙_}

@@ -1,4 +1,4 @@
--- A slice that is cleared from a place on.
+-- Defines a slice that is cleared from a place on.
 -- Assumes nothing.
 use Prim.Native.Nat.{ℕ}
 use mathlib.Core.List.{List, _++_}

@@ -1,5 +1,5 @@
--- The low bytes of gaps, stored row by row beside the greatest gap: where that is below 128, each gap is its own low byte and its only one, so they
--- are the bytes of the gaps. Where it is not, the bytes of the gaps are no fewer, and stored over the low bytes they leave nothing of them.
+-- Proves that the low bytes of gaps are the bytes of the gaps if the greatest gap is below 128, since each gap is then its own low byte. If it is
+-- not, the bytes of the gaps are no fewer, so storing them overwrites every low byte.
 -- Assumes nothing.
 use Prim.Native.Nat.{ℕ, suc, _+_, _-_, _%_, _<_, _≤_, max}
 use mathlib.Core.Path.{_≡_, refl, ap, _∙_}

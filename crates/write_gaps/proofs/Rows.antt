@@ -1,4 +1,4 @@
--- The gaps of one list, row by row: the rows from i on ascend above the one before them, so the next gap is the next row less that one.
+-- Proves the gaps of a list row by row: the rows from i on ascend above the row before them, so the next gap is the next row less that one.
 -- Assumes nothing.
 use Prim.Native.Nat.{ℕ, _+_, _-_, _*_, _<_, _≤_}
 use mathlib.Core.Path.{_≡_, refl}

@@ -1,4 +1,4 @@
--- What the writers of a list's gaps ask of its rows and of the place.
+-- Defines what the writers of a list's gaps require of its rows and of the place.
 -- Assumes nothing.
 use Prim.Native.Nat.{ℕ, _+_, _-_, _<_, _≤_}
 use mathlib.Core.List.{List}

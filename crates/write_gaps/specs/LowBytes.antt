@@ -1,4 +1,4 @@
--- The low byte of each of some numbers.
+-- Defines the low bytes of some numbers.
 -- Assumes nothing.
 use Prim.Native.Nat.{ℕ, _%_}
 use mathlib.Core.Path.{_≡_}

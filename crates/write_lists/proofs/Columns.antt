@@ -1,5 +1,5 @@
--- The numbers of the lists, column by column: the rows between two starts that pass are a list that can be written, its numbers come next, and behind
--- them those of the columns after it.
+-- Proves how the lists are written column by column: the rows between two starts of a sound job can be written, their numbers come next, and those of
+-- the later columns follow.
 -- Assumes nothing.
 use Prim.Native.Nat.{ℕ, suc, _+_, _*_, _^_, _<_, _≤_}
 use mathlib.Core.Path.{_≡_}

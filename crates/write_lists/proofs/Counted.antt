@@ -1,4 +1,4 @@
--- The numbers of one list: its count, and behind it its gaps.
+-- Proves that the numbers of a list are its count, then its gaps.
 -- Assumes nothing.
 use Prim.Native.Nat.{ℕ, _-_, _≤_}
 use mathlib.Core.Path.{_≡_, ap}

@@ -1,5 +1,5 @@
--- A list cut in two behind some of its rows: the gaps of the first rows come first, those of the rest follow behind the last of the first. So a list
--- is written run by run.
+-- Proves that a list may be written run by run: the gaps of its first rows come first, and those of the rest follow, counted from the last of the
+-- first rows.
 -- Assumes nothing.
 use Prim.Native.Nat.{ℕ, suc, _+_, _-_, _≤_}
 use mathlib.Core.Path.{_≡_, refl, sym, ap, _∙_}

@@ -1,4 +1,4 @@
--- What the writer of a job's lists asks, and where a run of rows ends.
+-- Defines what the writer of a job's lists requires, and the end of a run of rows.
 -- Assumes nothing.
 use Prim.Native.Nat.{ℕ, _^_, _<_, _≤_}
 use mathlib.Core.Path.{_≡_}

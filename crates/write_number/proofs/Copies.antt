@@ -1,4 +1,4 @@
--- The bytes of a number stored one by one: two of them, or those of the little array, which are the number's.
+-- Proves that storing a number's bytes one by one stores the number: two bytes at once, or the bytes of the little array.
 -- Assumes nothing.
 use Prim.Native.Nat.{ℕ, _+_, _<_, _≤_}
 use mathlib.Core.Path.{_≡_, refl, ap, _∙_}

@@ -1,5 +1,5 @@
--- The parts of a plan, one behind the other: its key, steps, lists and peak. Their numbers put together are the whole, so behind each part what is
--- left of the whole is the parts that follow; and they are so few that every place among them is near.
+-- Proves that the key, steps, lists and peak, one after the other, are the whole plan: behind each part the later parts are left. They are few enough
+-- that every place among them stays small.
 -- Assumes nothing.
 use Prim.Native.Nat.{ℕ, _+_, _*_, _^_, _<_, _≤_}
 use mathlib.Core.Path.{refl, sym}

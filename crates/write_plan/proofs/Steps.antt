@@ -1,4 +1,4 @@
--- The numbers of the steps, step by step: the column and the pops at place i come next, and behind them those of the steps after it.
+-- Proves how the steps are written one by one: the column and the pops at place i come next, and the numbers of the later steps follow.
 -- Assumes nothing.
 use Prim.Native.Nat.{ℕ, _+_, _*_, _<_, _≤_}
 use mathlib.Core.Path.{_≡_, refl, ap}

@@ -1,4 +1,4 @@
--- The plan that lies in lists: what its writer is handed, and what it asks of it.
+-- Defines the plan that lists hold: what its writer is given, and what it requires of that.
 -- Assumes nothing.
 use Prim.Native.Nat.{ℕ, _^_, _<_, _≤_}
 use mathlib.Core.Path.{_≡_}

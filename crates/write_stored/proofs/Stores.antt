@@ -1,4 +1,4 @@
--- Bytes that do not fit a lent slice are refused with their number; bytes that fit stand in it, then zeros.
+-- Proves that bytes too many for a lent slice are refused with their number, and that bytes that fit are at its front, then zeros.
 -- Assumes nothing.
 use Prim.Native.Nat.{ℕ, _-_, _<_, _≤_}
 use mathlib.Core.Path.{_≡_, sym, ap, _∙_}

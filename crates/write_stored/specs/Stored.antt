@@ -1,4 +1,4 @@
--- What storing bytes in a lent slice comes to, and what a refusal leaves of the slice.
+-- Defines the outcome of storing bytes in a lent slice, and what a refusal leaves of the slice.
 -- Assumes nothing.
 use Prim.Native.Nat.{ℕ, _<_, _≤_}
 use mathlib.Core.Path.{_≡_}

@@ -1,5 +1,5 @@
--- The groups of what is left, stored from count on, make the bytes of x: this holds at first, and each turn stores the low group. The measure is
--- what is left.
+-- Proves that `number` makes the bytes of x, since the groups left, stored from count on, complete them, and each turn stores the low group. Each
+-- turn makes the rest smaller.
 -- Assumes nothing.
 use Prim.Native.Nat.{_<_}
 use native.Mathlib.Omega.{arith}
