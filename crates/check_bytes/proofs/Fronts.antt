@@ -1,4 +1,4 @@
--- A plan at the front of cleared slices: each slice is the plan's list, then zeros, so it stands at their front.
+-- Proves that a plan read into cleared slices is at their fronts: each slice holds the plan's list, then zeros.
 -- Assumes nothing.
 use Prim.Native.Nat.{ℕ, _≤_}
 use mathlib.Core.Path.{_≡_, refl, ap, _∙_}

@@ -1,5 +1,5 @@
--- From what the key, the reading and the judgement answer to what is known of the check. Each of them decides, or leaves it to the next; what the
--- reading keeps stands at the front of cleared slices, so that a plan that passes is left in them with zeros behind it.
+-- Proves the check's outcome from the answers of the key's test, the reading and the judgement: each decides, or leaves the answer to the next. The
+-- reading keeps its numbers in cleared slices, so a plan that passes is followed by zeros.
 -- Assumes nothing.
 use Prim.Native.Nat.{ℕ, _<_, _≤_}
 use mathlib.Core.Path.{_≡_, refl, sym, ap, _∙_}

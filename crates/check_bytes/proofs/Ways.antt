@@ -1,4 +1,4 @@
--- The outcome of a check by the way that its tests go: each test that is made decides, or leaves it to the next.
+-- Proves the outcome of a check for each way through its tests: each test refuses, or leaves the answer to the next one.
 -- Assumes nothing.
 use Prim.Native.Nat.{ℕ, _<_, _≤_}
 use mathlib.Core.Path.{_≡_, refl, sym, ap, _∙_}

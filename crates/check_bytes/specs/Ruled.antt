@@ -1,4 +1,4 @@
--- What is known of a check once its tests are made, before the slices are cleared.
+-- Defines what is known of a check after its tests, before the slices are cleared.
 -- Assumes nothing.
 use Prim.Native.Nat.{ℕ, _<_, _≤_}
 use mathlib.Core.Path.{_≡_}

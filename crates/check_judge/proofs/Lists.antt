@@ -1,4 +1,4 @@
--- The test of a plan's lists as slices hold them; where it passes, the parents that it has stored are the job's, and the tests of the tree are left.
+-- Proves the test of a plan's lists held in slices: if it passes, the parents that it stored are the job's, and the tests of the tree are left.
 -- Assumes nothing.
 use Prim.Native.Nat.{ℕ, _+_, _≤_}
 use mathlib.Core.Path.{_≡_, sym, ap, _∙_}

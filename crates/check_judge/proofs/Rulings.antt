@@ -1,4 +1,4 @@
--- Verdicts of tests one after the other, and the answers to them.
+-- Proves how verdicts of tests combine, one test after the other, and which answers they give.
 -- Assumes nothing.
 use Prim.Native.Nat.{ℕ, zero, suc}
 use mathlib.Core.Path.{_≡_, refl, ap, _∙_}

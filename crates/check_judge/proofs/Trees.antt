@@ -1,5 +1,5 @@
--- The tests of a plan whose lists are R: the passes over the slices find what the tests name; and an order that passes them takes off no more than is
--- held.
+-- Proves that for a plan whose lists are R, the passes over the slices find what the tests name, and that an order that passes them pops no more than
+-- is held.
 -- Assumes nothing.
 use Prim.Native.Nat.{ℕ, suc, _-_, _<_, _≤_}
 use mathlib.Core.Path.{_≡_, sym, ap, _∙_}

@@ -1,4 +1,4 @@
--- A plan that was read, as slices hold it; the tests that judge it, and the answer to their verdict.
+-- Defines a plan that was read, as slices hold it, the tests that judge it, and the answer to their verdict.
 -- Assumes nothing.
 use Prim.Native.Nat.{ℕ, _+_, _≤_}
 use mathlib.Core.Path.{_≡_}

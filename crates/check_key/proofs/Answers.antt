@@ -1,5 +1,5 @@
--- The key held against the plan from its beginning: the first byte that is not there is the least place that differs, so what is found is what
--- refusal 11 says.
+-- Proves that comparing the key with the plan's beginning finds what refusal 11 names: the first byte that differs is at the least place that
+-- differs.
 -- Assumes nothing.
 use Prim.Native.Nat.{ℕ, zero, suc, _+_, _-_, _<_, _≤_}
 use mathlib.Core.Bool.{true, false}

@@ -1,5 +1,5 @@
--- Bytes held against a plan, byte by byte: the first byte is there or not, and if it is, the rest is held against what follows. So bytes behind
--- others are held against what follows those.
+-- Proves how bytes are compared with a plan one by one: if the first byte agrees, the rest is compared with what follows. So bytes put behind others
+-- are compared with what follows those.
 -- Assumes nothing.
 use Prim.Native.Nat.{ℕ, suc, _+_, _<_, _≤_}
 use mathlib.Core.List.{List, [], _∷_, _++_}

@@ -1,5 +1,5 @@
--- Numbers held against a plan one after the other: what is left to find, from the place reached, is what was to find. So one number more is one
--- rewriting, and the first that differs is the answer.
+-- Proves how numbers are compared one after the other: if a number agrees, comparing the rest from the place reached gives the same answer as
+-- comparing all. So the first number that differs decides.
 -- Assumes nothing.
 use Prim.Native.Nat.{ℕ, _≤_}
 use mathlib.Core.List.{List, [], _∷_, _++_, append-nil}

@@ -1,4 +1,4 @@
--- What is asked of a job's numbers and lists, and of a place of the plan, before they are held against each other.
+-- Defines what comparing a job's numbers and lists with a plan requires of them and of the place.
 -- Assumes nothing.
 use Prim.Native.Nat.{ℕ, _≤_}
 use mathlib.Core.List.{List}

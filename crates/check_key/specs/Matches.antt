@@ -1,4 +1,4 @@
--- What holding bytes against a plan finds.
+-- Defines what comparing bytes with a plan finds.
 -- Assumes nothing.
 use Prim.Native.Nat.{ℕ, zero, suc, _+_}
 use mathlib.Core.Bool.{true, false}

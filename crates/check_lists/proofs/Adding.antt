@@ -1,5 +1,5 @@
--- A list that begins with given rows is these joined with the pattern rows just where all its other rows are pattern rows and no pattern row is
--- missing.
+-- Proves that a list that begins with given rows is these rows joined with the pattern rows exactly if its other rows are all pattern rows and it
+-- misses no pattern row.
 -- Assumes nothing.
 use Prim.Native.Nat.{ℕ, _+_}
 use mathlib.Core.Path.{_≡_, sym, ap, _∙_}

@@ -1,4 +1,4 @@
--- The list of a column with no child is its pattern rows, and that with one child is these joined with what the child hands on.
+-- Proves that the list of a column without a child is its pattern rows, and with one child these joined with what the child hands on.
 -- Assumes nothing.
 use Prim.Native.Nat.{ℕ, _+_, _<_}
 use mathlib.Core.Path.{_≡_, refl, ap, _∙_}

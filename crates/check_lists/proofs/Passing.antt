@@ -1,5 +1,5 @@
--- The loop over the lists of a plan: those of the columns up to m are right, so what is stored is what the columns' own lists would leave, and the
--- next can be held against R(m + 1).
+-- Proves the steps of the loop over a plan's lists: those of the columns up to m are right, so the slices hold what storing R would leave, and the
+-- next list can be compared with R(m + 1).
 -- Assumes nothing.
 use Prim.Native.Nat.{ℕ, suc, _+_, _-_, _<_, _≤_}
 use mathlib.Core.Path.{_≡_, refl, sym, ap, _∙_}

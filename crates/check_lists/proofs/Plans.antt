@@ -1,4 +1,4 @@
--- A plan's lists in two slices: they are laid one behind the other, so column j of the slices is the j-th of them, in its range.
+-- Proves that a plan's lists follow one another in two slices: the list of column j in the slices is the plan's j-th list, in its range.
 -- Assumes nothing.
 use Prim.Native.Nat.{ℕ, suc, _+_, _-_, _<_, _≤_}
 use mathlib.Core.Path.{_≡_, refl, sym, ap, _∙_}

@@ -1,4 +1,4 @@
--- The lists of a plan as they stand in two slices, and the first of them that is wrong.
+-- Defines the lists of a plan as two slices hold them, and the first of them that is wrong.
 -- Assumes nothing.
 use Prim.Native.Nat.{ℕ, _+_, _-_, _≤_}
 use mathlib.Core.Path.{_≡_}

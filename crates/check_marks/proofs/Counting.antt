@@ -1,4 +1,5 @@
--- The rows of R(m + 1) marked and counted: what is marked and what the children left hand on make R(m + 1), and the count is of what is marked.
+-- Proves the count of the rows of R(m + 1): the marked rows and what the children left hand on make R(m + 1), and the count is the number of marked
+-- rows.
 -- Assumes nothing.
 use Prim.Native.Nat.{ℕ, _+_, _<_, _≤_}
 use mathlib.Core.Path.{_≡_, refl, ap, _∙_}

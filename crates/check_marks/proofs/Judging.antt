@@ -1,4 +1,4 @@
--- A list held against R(m + 1): an ascending list that has as many rows, each of them a row of it, is R(m + 1).
+-- Proves that an ascending list with as many rows as R(m + 1), each of them a row of R(m + 1), is R(m + 1).
 -- Assumes nothing.
 use Prim.Native.Nat.{ℕ, _+_}
 use mathlib.Core.Path.{_≡_, sym, ap, _∙_}

@@ -1,5 +1,5 @@
--- Marks that are just those of an ascending list: marking the rows of another one makes them those of the two joined, which is longer by the rows
--- that were not marked.
+-- Proves that marking the rows of a second ascending list gives the marks of the two lists joined, which has as many rows more as were not marked
+-- before.
 -- Assumes nothing.
 use Prim.Native.Nat.{ℕ, _+_, _<_, _≤_}
 use mathlib.Core.Path.{_≡_, refl, _∙_}

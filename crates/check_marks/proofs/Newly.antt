@@ -1,4 +1,4 @@
--- Rows marked and counted: no row stands twice in a list, so a mark set for an earlier row of it does not make a later one an old one.
+-- Proves the steps of marking and counting a list: no row occurs twice in it, so marking an earlier row never makes a later row an old one.
 -- Assumes nothing.
 use Prim.Native.Nat.{ℕ, suc, _+_, _<_, _≤_}
 use mathlib.Core.Path.{_≡_, refl, sym, ap, _∙_}

@@ -1,5 +1,5 @@
--- The rows of a list that are not marked yet; marks that are just those of a list; the rows of R(m + 1) marked and counted; and a list held
--- against R(m + 1).
+-- Defines the rows of a list that are not marked yet, marks that are exactly those of a list, the rows of R(m + 1) marked and counted, and the test
+-- of a list against R(m + 1).
 -- Assumes nothing.
 use Prim.Native.Nat.{ℕ, _+_, _≤_}
 use mathlib.Core.Path.{_≡_}

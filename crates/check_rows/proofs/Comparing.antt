@@ -1,4 +1,5 @@
--- Two lists compared row by row: as long as no difference was seen, what is left of them decides. And the marked rows of a list counted one by one.
+-- Proves how two lists are compared row by row: while no difference is seen, the rows left decide. And it counts the marked rows of a list one by
+-- one.
 -- Assumes nothing.
 use Prim.Native.Nat.{ℕ, suc, _+_, _-_, _<_, _≤_}
 use mathlib.Core.Path.{_≡_, refl, sym, ap, _∙_}

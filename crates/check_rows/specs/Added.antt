@@ -1,4 +1,4 @@
--- A list that has the pattern rows besides others, told by the marks of the pattern rows.
+-- Defines a list that adds the pattern rows to others, by the marks of the pattern rows.
 -- Assumes nothing.
 use Prim.Native.Nat.{ℕ, _≤_}
 use mathlib.Core.Path.{_≡_}

@@ -1,4 +1,4 @@
--- Steps of known columns, and the step that pops more or fewer updates than its column has children.
+-- Defines steps of known columns, and a step that pops more or fewer updates than its column has children.
 -- Assumes nothing.
 use Prim.Native.Nat.{ℕ, _+_, _-_, _<_, _≤_}
 use mathlib.Core.Path.{_≡_}

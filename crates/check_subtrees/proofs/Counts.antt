@@ -1,4 +1,4 @@
--- Counting: an order of n different columns has them all, and a column's subtree has one column more than it has descendants.
+-- Proves that an order of n different columns names all columns, and that a column's subtree has one column more than the column has descendants.
 -- Assumes nothing.
 use Prim.Native.Nat.{ℕ, _+_, _≤_}
 use mathlib.Core.Path.{_≡_}

@@ -1,4 +1,4 @@
--- The least of several steps, 0 standing for none: it is one of them, and none of the others is less.
+-- Proves that the least of several steps, where 0 means none, is one of them, and that none of the others is less.
 -- Assumes nothing.
 use Prim.Native.Nat.{ℕ, zero, suc, _+_, _<_, _≤_, min}
 use mathlib.Core.Path.{_≡_, refl, sym}

@@ -1,4 +1,4 @@
--- A column judged against its parent: it strays, or its steps lie within its parent's.
+-- Proves that a column either strays from its parent or keeps its steps within its parent's.
 -- Assumes nothing.
 use Prim.Native.Nat.{ℕ, _+_, _<_, _≤_}
 use mathlib.Core.Path.{_≡_, sym}

@@ -1,4 +1,4 @@
--- The steps of the columns as a slice gets them, one after the other, and a column judged by what the slices hold.
+-- Proves how a slice gets the steps of the columns one after the other, and that the slices' numbers judge a column right.
 -- Assumes nothing.
 use Prim.Native.Nat.{ℕ, suc, _+_, _<_, _≤_}
 use mathlib.Core.Path.{_≡_, sym, _∙_}

@@ -1,6 +1,5 @@
--- The least step that a child strays from is the least step of a scattered subtree. Where no child strays, every subtree lies within its
--- steps, child by child from the lowest column up. Where one strays and its own subtree is in one piece, its parent's is
--- not.
+-- Proves that the least step that a child strays from is the least step of a scattered subtree: if no child strays, every subtree keeps within its
+-- steps, from the lowest column up; if one strays and its own subtree is whole, its parent's is not.
 -- Assumes nothing.
 use Prim.Native.Nat.{ℕ, zero, suc, _+_, _<_, _≤_}
 use mathlib.Core.Path.{_≡_, refl, sym, ap, _∙_}

@@ -1,5 +1,5 @@
--- A subtree takes consecutive steps that end at its top's just where each of its columns lies within as many steps as it has columns: so many
--- different steps fill that window.
+-- Proves that a subtree takes consecutive steps that end at its top's exactly if all its columns are within as many steps as it has columns, since
+-- that many different steps fill the window.
 -- Assumes nothing.
 use Prim.Native.Nat.{ℕ, suc, _+_, _-_, _≤_}
 use mathlib.Core.Path.{_≡_, refl, ap, _∙_, sym}

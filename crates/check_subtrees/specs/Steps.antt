@@ -1,4 +1,4 @@
--- An order that names each column once, and where each column stands in it.
+-- Defines an order that names each column once, and the step of each column in it.
 -- Assumes nothing.
 use Prim.Native.Nat.{ℕ, _+_, _<_, _≤_}
 use mathlib.Core.Path.{_≡_}

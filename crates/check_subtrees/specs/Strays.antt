@@ -1,5 +1,5 @@
--- Columns that stray from their parents. A subtree of b + 1 columns whose top is done at step s should take the steps from s - b to s; so a
--- column's steps should lie within its parent's.
+-- Defines columns that stray from their parents. A subtree of b + 1 columns whose top is done at step s should take the steps s - b to s, so a
+-- column's steps should be within its parent's.
 -- Assumes nothing.
 use Prim.Native.Nat.{ℕ, zero, suc, _+_, _<_, _≤_, min}
 use mathlib.Core.Path.{_≡_}

@@ -1,5 +1,5 @@
--- The number that is answered for each way out: 27 for a key that does not read through, 26 for one over the sizes, else that of the check's answer,
--- whose number and place together fit 64 bits.
+-- Proves the number answered for each way out: 27 for a key that does not read through, 26 for one over the sizes, else the check's answer, whose
+-- number and place together fit 64 bits.
 -- Assumes nothing.
 use Prim.Native.Nat.{ℕ, _+_, _*_, _^_, _<_}
 use mathlib.Core.Path.{_≡_, sym, ap}

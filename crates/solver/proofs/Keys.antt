@@ -1,5 +1,5 @@
--- The lists of a key are read twice: once through, which tells that they are there and how many rows they have, and once into the buffers, whose
--- first parts then are the job's two lists. So the check is that of the job whose key it is.
+-- Proves that the check is made for the job of the key. The key's lists are read twice: the first reading counts their rows, and the second fills the
+-- buffers, whose fronts are then the job's two lists.
 -- Assumes nothing.
 use Prim.Native.Nat.{ℕ, _+_, _≤_}
 use mathlib.Core.Path.{_≡_, sym, subst, _∙_}

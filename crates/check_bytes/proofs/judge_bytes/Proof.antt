@@ -1,5 +1,5 @@
--- Where the plan's bytes do not begin with the key, the answer is 11. Else what stands behind the key is read into the cleared slices and judged
--- there; each way it may go is one way that the tests of the papers may go (`Rules`).
+-- Proves that `judge_bytes` answers right: 11 if the plan's bytes do not begin with the key; else the bytes behind the key are read into the cleared
+-- slices and judged. Each way out is one way through the papers' tests (`Rules`).
 -- Assumes nothing.
 use Prim.Native.Nat.{ℕ}
 use mathlib.Core.Path.{refl, sym, _∙_}

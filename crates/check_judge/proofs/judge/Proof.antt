@@ -1,4 +1,5 @@
--- 16 and 17 decide, or leave a plan whose order has each column once and whose lists are R, with the job's parents, to the tests of the tree.
+-- Proves that `judge` answers right: 16 or 17 decides; else the order names each column once and the lists are R with the job's parents, so the tests
+-- of the tree decide.
 -- Assumes nothing.
 use mathlib.Core.Path.{_≡_, refl}
 use native.Mathlib.Omega.{arith}

@@ -1,4 +1,4 @@
--- The loop's invariant: the gaps of the rows before i are there, so those left are held against what follows at k. The measure is the rows left.
+-- Proves that `match_gaps` compares all gaps: those of the rows before i agree, so the others are compared from k on. Each turn leaves one row less.
 -- Assumes nothing.
 use Prim.Native.Nat.{ℕ, _-_}
 use mathlib.Core.List.{List}

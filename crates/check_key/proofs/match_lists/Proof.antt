@@ -1,5 +1,5 @@
--- The loop's invariant: the lists of the first `done` columns are there, so those left are held against what follows at k. The measure is the columns
--- left.
+-- Proves that `match_lists` compares all lists: those of the first `done` columns agree, so the others are compared from k on. Each turn leaves one
+-- column less.
 -- Assumes nothing.
 use Prim.Native.Nat.{ℕ, _-_, _≤_}
 use mathlib.Core.List.{List}

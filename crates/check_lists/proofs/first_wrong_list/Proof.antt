@@ -1,5 +1,5 @@
--- `check_lists::first_wrong_list` meets its contract: the lists of the columns up to m are right, so the next one can be held against R(m + 1); if it
--- is another, it is the first that is wrong. The measure is what is left of the columns.
+-- Proves that `first_wrong_list` finds the first wrong list: those of the columns up to m are right, so the next can be compared with R(m + 1), and
+-- if it differs it is the first. Each turn leaves one column less.
 -- Assumes nothing.
 use Prim.Native.Nat.{_-_}
 use native.Mathlib.Omega.{arith}

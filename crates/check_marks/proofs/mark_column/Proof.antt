@@ -1,5 +1,5 @@
--- `check_marks::mark_column` meets its contract: what is marked and what the children left hand on make the column's list, and as many rows are
--- counted as are marked. The measure is the next child, since the chain descends.
+-- Proves that `mark_column` marks and counts R(m + 1): the marked rows and what the children left hand on make the list, and the count is the number
+-- of marked rows. Each turn the next child falls, since the chain descends.
 -- Assumes nothing.
 use Prim.Native.Nat.{_+_, _<_}
 use native.Mathlib.Omega.{arith}

@@ -1,4 +1,5 @@
--- `check_marks::mark_new` meets its contract: the rows left bring as many new ones as are still to be counted. The measure is what is left.
+-- Proves that `mark_new` marks a list and counts its new rows: those counted and the new ones among the rows left are all. Each turn leaves one row
+-- less.
 -- Assumes nothing.
 use Prim.Native.Nat.{_+_, _-_, _<_}
 use native.Mathlib.Omega.{arith}

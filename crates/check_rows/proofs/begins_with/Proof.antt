@@ -1,4 +1,4 @@
--- `check_rows::begins_with` meets its contract: the front of the list is as long as the other list and the same.
+-- Proves that `begins_with` compares the front of a list with the other list, which has as many rows.
 -- Assumes nothing.
 use mathlib.Core.Path.{refl, sym, _∙_}
 use lib.Seq.{length-take-le}

@@ -1,4 +1,4 @@
--- `check_rows::count_marked` meets its contract: count, and the marked rows among those left, are all of them. The measure is what is left.
+-- Proves that `count_marked` counts the marked rows: the count and the marked rows among those left make them all. Each turn leaves one row less.
 -- Assumes nothing.
 use Prim.Native.Nat.{_+_, _-_, _<_}
 use native.Mathlib.Omega.{arith}

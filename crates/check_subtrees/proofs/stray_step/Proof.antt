@@ -1,4 +1,5 @@
--- Each way out is a case of the definition; steps and counts are at most as many as there may be columns, so no sum is too great.
+-- Proves that `stray_step` answers by the definition, a case for each way out. Steps and counts are no greater than the number of columns, so every
+-- sum fits.
 -- Assumes nothing.
 use mathlib.Core.Logic.{⊎-elim}
 use native.Mathlib.Omega.{arith}
