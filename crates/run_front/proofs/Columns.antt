@@ -1,4 +1,4 @@
--- Where a column's rows lie in a factor: between two starts, inside the rows. They ascend above the column, so they are fewer than the columns.
+-- Proves that a column's rows are between two starts, within the factor's rows. They ascend above the column, so they are fewer than the columns.
 -- Assumes nothing.
 use Prim.Native.Nat.{ℕ, suc, _+_, _-_, _<_, _≤_}
 use mathlib.Core.Path.{_≡_}

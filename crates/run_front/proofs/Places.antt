@@ -1,5 +1,5 @@
--- The search of a row among ascending rows. What a look at one place says of that row it says of all rows on one side, so a bracket may be
--- narrowed there; where it is one place, the row stands there or nowhere.
+-- Proves the search for a row among ascending rows: a look at one place tells the row's place from all on one side, so the range narrows. Once the
+-- range is one place, the row is there or nowhere.
 -- Assumes nothing.
 use Prim.Native.Nat.{ℕ, zero, suc, _+_, _<_, _≤_}
 use mathlib.Core.Path.{_≡_}

@@ -1,5 +1,5 @@
--- The sweep of an update's rows through a front. The update's rows ascend, so the rows of the front before the last one found are below the
--- next; a row is in the front if it is the column or stands at its place, and so are the rows that follow it and are the same there.
+-- Proves how an update's rows are found in a front. The update ascends, so the front's rows before the last one found are below the next. A row is in
+-- the front if it is the column or is found at its place, and so are the equal rows that follow it.
 -- Assumes nothing.
 use Prim.Native.Nat.{ℕ, zero, suc, _+_, _<_, _≤_}
 use mathlib.Core.Path.{_≡_, refl, sym, _∙_}

@@ -1,4 +1,4 @@
--- Where a row belongs among ascending rows, and how far two lists are alike.
+-- Defines the place of a row among ascending rows, and how many first rows two lists share.
 -- Assumes nothing.
 use Prim.Native.Nat.{ℕ, _<_, _≤_}
 use mathlib.Core.Path.{_≡_}

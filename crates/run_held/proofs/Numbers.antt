@@ -1,4 +1,5 @@
--- What the walks of `step` and `advance` carry: the four numbers that a step takes (pops, popped, update, room), and the record's machine value.
+-- Proves facts that the walks of `step` and `advance` carry along: the four numbers of a step (pops, popped, update, room) and the record's machine
+-- value.
 -- Assumes nothing.
 use Prim.Native.Nat.{ℕ, _<_, _^_}
 use mathlib.Core.List.{List, [], _∷_}

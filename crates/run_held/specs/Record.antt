@@ -1,4 +1,4 @@
--- The record that each step of a run updates.
+-- Defines the record that each step of a run updates.
 -- Assumes nothing.
 use Prim.Native.Nat.{ℕ, _+_, _-_, _^_, _<_, _≤_, min, max}
 use Rattle.run_held.specs.declared.Held.{Held}

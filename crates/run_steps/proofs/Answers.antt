@@ -1,5 +1,5 @@
--- What a run answers from its steps on, for each way out of the loop over them: the first step at fault, updates left, or done. Whichever it is,
--- the stack slice is zero after it.
+-- Proves the answer for each way out of the loop over the steps: the first step at fault, updates left, or done. Each way leaves the stack slice
+-- zero.
 -- Assumes nothing.
 use Prim.Native.Nat.{ℕ, suc, _+_, _-_, _<_}
 use mathlib.Core.Path.{_≡_, refl, sym, ap, _∙_}

@@ -1,4 +1,4 @@
--- The ways out of a step's four tests, by its column and its pops as the lists have them.
+-- Proves the ways out of a step's four tests, by the column and the pops that the lists hold for it.
 -- Assumes nothing.
 use Prim.Native.Nat.{ℕ, suc, _<_, _≤_}
 use mathlib.Core.Path.{_≡_, _∙_, sym}

@@ -1,5 +1,5 @@
--- The loop over the steps: after `done` steps without fault the stack list and the record hold the state after them. What a step makes of a state
--- does not depend on the room or on what the stack slice held at first.
+-- Proves the steps of the loop: after `done` steps without a fault the stack list and the record hold the state. A step's effect depends neither on
+-- the room nor on what the stack slice held at first.
 -- Assumes nothing.
 use Prim.Native.Nat.{ℕ, suc, _+_, _<_, _≤_}
 use mathlib.Core.Path.{_≡_, refl, ap, _∙_, sym}

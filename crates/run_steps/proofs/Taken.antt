@@ -1,5 +1,5 @@
--- A step taken. The popped columns come off the top, and their entries off the sum; a column with rows is stored behind those that stay, a root
--- leaves nothing. So list and record hold the next state, and the record has its entries again.
+-- Proves that taking a step keeps the state: the popped columns leave the stack and their entries leave the sum; a column with rows is stored behind
+-- those that stay, and a root pushes nothing. So the list and the record hold the next state.
 -- Assumes nothing.
 use Prim.Native.Nat.{ℕ, suc, _+_, _-_, _<_, _≤_, min}
 use mathlib.Core.Path.{_≡_, ap, _∙_, sym}

@@ -1,4 +1,4 @@
--- What a run's steps stand on, and what a step that is taken leaves.
+-- Defines what a run's steps require, and what a step leaves.
 -- Assumes nothing.
 use Prim.Native.Nat.{ℕ, suc, _+_, _<_, _≤_}
 use mathlib.Core.Path.{_≡_}

@@ -1,4 +1,4 @@
--- What a run answers from its steps on.
+-- Defines what a run answers from its steps on.
 -- Assumes nothing.
 use mathlib.Core.List.{[], _∷_}
 use Rattle.papers.specs.declared.Answer.{Answer}

@@ -1,5 +1,5 @@
--- The entries of the updates held: no update has more than a triangle of all columns, so their sum is small; and the sum is that of the
--- popped ones and of those that stay.
+-- Proves that the sum of the held updates' entries is small, since no update has more than a triangle of all columns; and that it is the sum of the
+-- popped updates and of those that stay.
 -- Assumes nothing.
 use Prim.Native.Nat.{ℕ, zero, suc, _+_, _*_, _^_, _<_, _≤_}
 use mathlib.Core.Path.{_≡_, refl}

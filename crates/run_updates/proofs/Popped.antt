@@ -1,5 +1,5 @@
--- The two loops over the popped updates, from the top down: what is left of the list of popped columns, with what was found of those before it,
--- is what is found of all of them.
+-- Proves the two loops over the popped updates, from the top down: what was found of the updates passed, with what those left give, is what all of
+-- them give.
 -- Assumes nothing.
 use Prim.Native.Nat.{ℕ, _+_, _-_, _<_, _≤_}
 use mathlib.Core.Path.{_≡_, ap, _∙_, sym}

@@ -1,4 +1,5 @@
--- The columns held, top first, in a stack list that has them bottom first: popping lowers the count, pushing is a store behind the last.
+-- Proves that the stack list, which holds the columns bottom first, agrees with the updates held, top first: popping lowers the count, and pushing
+-- stores behind the last.
 -- Assumes nothing.
 use Prim.Native.Nat.{ℕ, zero, suc, _+_, _-_, _<_, _≤_}
 use mathlib.Core.Path.{_≡_, refl, ap}

@@ -1,4 +1,4 @@
--- Room in use at a step, from the record: it has the sum of the entries held, and the top update is the first of them.
+-- Proves the room in use at a step from the record, which keeps the sum of the entries held; the top update is the first of them.
 -- Assumes nothing.
 use Prim.Native.Nat.{ℕ, suc, _+_, _-_, _^_, _<_, _≤_}
 use mathlib.Core.Path.{_≡_, refl, _∙_}

@@ -1,4 +1,4 @@
--- How the lent stack list and the record hold the updates of a run.
+-- Defines how the lent stack list and the record hold the updates of a run.
 -- Assumes nothing.
 use Prim.Native.Nat.{ℕ, zero, suc, _-_, _<_, _≤_}
 use mathlib.Core.Path.{_≡_}

@@ -1,4 +1,5 @@
--- The outcome of a run for each way out: a test before the steps refuses and leaves the stack slice as it was, or they all pass and the steps decide.
+-- Proves the outcome of a run for each way out: a test before the steps refuses and leaves the stack slice as it was, or all pass and the steps
+-- decide.
 -- Assumes nothing.
 use Prim.Native.Nat.{ℕ, _<_, _≤_}
 use mathlib.Core.Path.{_≡_, refl, sym, ap, _∙_}

@@ -1,4 +1,4 @@
--- Defines what the writer of a number requires of the place.
+-- Defines what the writer of a number requires of the number and of the place.
 -- Assumes nothing.
 use Prim.Native.Nat.{ℕ, _^_, _<_}
 use Rattle.groups.specs.Fits.{Fits}

@@ -1,4 +1,4 @@
--- Proves that `begins_with` compares the front of a list with the other list, which has as many rows.
+-- Proves that `begins_with` tests whether a list begins with another: it compares the list's front, if the list is that long, with the other list.
 -- Assumes nothing.
 use mathlib.Core.Path.{refl, sym, _∙_}
 use lib.Seq.{length-take-le}

@@ -1,4 +1,4 @@
--- The loop's invariant: the row's place lies from low on, and low is no later than the place looked at. The measure is how many places are left.
+-- Proves that `seek` finds a row's place, which is never before low, and low is never behind the place looked at. Each turn leaves fewer places.
 -- Assumes nothing.
 use Prim.Native.Nat.{ℕ, _-_, _≤_}
 use mathlib.Core.List.{List}

@@ -1,5 +1,5 @@
--- The record is stepped by value. A walk of the code by hand: the record is copied to a local, which is lent to `step` for a lifetime that the walk
--- makes, and comes back at what `step` left in it. Of `step` only its contract is known.
+-- Proves that `advance` steps a record by value, in a walk of the code by hand: the record is copied to a local and lent to `step`, whose contract
+-- tells what comes back when the loan ends.
 -- Assumes nothing.
 use Prim.Native.Nat.{ℕ}
 use mathlib.Core.Path.{_≡_, refl, sym, ap, subst}

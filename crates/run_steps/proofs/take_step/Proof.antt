@@ -1,5 +1,5 @@
--- The entries popped, the step's own and the room are computed, and that is what the record takes. A column with rows is stored behind those that
--- stay, where there is a place for it.
+-- Proves that `take_step` takes a step: it computes the popped entries, the step's own and the room for the record, and stores a column with rows
+-- behind those that stay, which has a place.
 -- Assumes nothing.
 use native.Mathlib.Omega.{arith}
 use borrow.Author.Needs.{needs}
