@@ -1,5 +1,5 @@
--- What is read of a text is the job that is printed: its lists lie in the fronts of the buffers, its rows as they are kept, and neither the analysis
--- nor what is printed of it sees the difference.
+-- Proves that the job read from a text is the job that is printed: the fronts of the buffers hold its lists, with rows as they are kept, and this
+-- changes neither the analysis nor what is printed.
 -- Assumes nothing.
 use Prim.Native.Nat.{ℕ, _+_, _≤_}
 use mathlib.Core.Path.{_≡_, sym, ap, _∙_}

@@ -1,4 +1,4 @@
--- What the writer of a job's listing asks.
+-- Defines what the writer of a job's listing requires.
 -- Assumes nothing.
 use Prim.Native.Nat.{ℕ, _≤_}
 use mathlib.Core.List.{List}

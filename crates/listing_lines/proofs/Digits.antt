@@ -1,4 +1,4 @@
--- A number in decimal, written digit by digit: below ten it is one digit, else its last digit stands behind the digits of its tenth.
+-- Proves how a number is written in decimal: below ten it is one digit, else its last digit follows the digits of its tenth.
 -- Assumes nothing.
 use Prim.Native.Nat.{ℕ, _+_, _/_, _%_, _<_, _≤_}
 use mathlib.Core.Path.{_≡_}

@@ -1,4 +1,4 @@
--- A line is its first word, the numbers each behind a space, and a newline; a word and the numbers are written one after the other.
+-- Proves that a line is its first word, the numbers with a space before each, and a newline, written one after the other.
 -- Assumes nothing.
 use Prim.Native.Nat.{ℕ, _+_, _<_, _≤_}
 use mathlib.Core.Path.{_≡_, refl, sym, ap, _∙_}

@@ -1,4 +1,4 @@
--- The numbers of a line, as they stand behind its first word.
+-- Defines the bytes of a line's numbers, which follow its first word.
 -- Assumes nothing.
 use Prim.Native.Nat.{ℕ}
 use mathlib.Core.List.{List, [], _∷_, _++_}

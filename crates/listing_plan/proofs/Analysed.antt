@@ -1,4 +1,4 @@
--- What is printed of an analysis that is done lies in the parts of its slices that hold the steps and the lists of the job's plan.
+-- Proves that the listing of an analysis that is done is printed from the parts of its slices that hold the steps and the lists of the job's plan.
 -- Assumes nothing.
 use Prim.Native.Nat.{ℕ, zero, _+_, _≤_}
 use mathlib.Core.Path.{_≡_, sym, ap, _∙_}

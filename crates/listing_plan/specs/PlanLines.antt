@@ -1,4 +1,4 @@
--- The listing of a plan, as the slices of an analysis hold it, and what its writers ask.
+-- Defines the listing of a plan that the slices of an analysis hold, and what its writers require.
 -- Assumes nothing.
 use Prim.Native.Nat.{ℕ, _<_, _≤_}
 use mathlib.Core.List.{List, [], _∷_, _++_}

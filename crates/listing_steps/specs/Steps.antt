@@ -1,4 +1,4 @@
--- The lines of the steps of an order, as the slices of an analysis hold it.
+-- Defines the lines of the steps of an order that the slices of an analysis hold.
 -- Assumes nothing.
 use Prim.Native.Nat.{ℕ, zero, suc, _+_, _<_, _≤_}
 use mathlib.Core.List.{List, [], _∷_, _++_}

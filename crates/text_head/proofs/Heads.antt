@@ -1,5 +1,5 @@
--- Line 1 number by number: behind those read, one more in front of a space leaves the rest of the line to say what it is; in front of a newline two
--- or three numbers are a head, any other count is none.
+-- Proves how line 1 is read number by number: after a space the rest of the line decides; at a newline two or three numbers are a head, and any other
+-- count is none.
 -- Assumes nothing.
 use Prim.Native.Nat.{ℕ}
 use mathlib.Core.Path.{_≡_, refl, ap, _∙_}

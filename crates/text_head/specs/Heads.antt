@@ -1,4 +1,4 @@
--- What is read of line 1.
+-- Defines what is read of line 1.
 -- Assumes nothing.
 use Prim.Native.Nat.{ℕ}
 use mathlib.Core.Path.{_≡_}

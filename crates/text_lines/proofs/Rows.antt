@@ -1,5 +1,5 @@
--- Rows read one by one to the end of the line: those read, and behind them the rest of the line, are the line's numbers. Each takes a byte at least,
--- so their count stays within the place.
+-- Proves how rows are read one by one to the end of the line: those read, then the rest of the line, are the line's numbers. Each takes at least a
+-- byte, so their count is no greater than the place.
 -- Assumes nothing.
 use Prim.Native.Nat.{ℕ, _+_, _<_, _≤_}
 use mathlib.Core.Path.{_≡_, refl, sym, ap, _∙_}

@@ -1,5 +1,5 @@
--- What is read of a line of rows, and what is kept of it. A store past the end of a slice stores nothing, so what is kept of rows is the same whether
--- or not all find room. Of a bad line nothing is said to be kept.
+-- Defines what is read of a line of rows, and what is kept of it, which does not depend on whether all rows fit: a store past the end of a slice
+-- stores nothing. For a bad line it promises nothing of what is kept.
 -- Assumes nothing.
 use Prim.Native.Nat.{ℕ, _+_, _<_, _≤_}
 use mathlib.Core.Path.{_≡_}

@@ -1,4 +1,4 @@
--- A row of a job text as it is kept.
+-- Defines the row that is kept for a row of a job text.
 -- Assumes nothing.
 use Prim.Native.Nat.{ℕ, _-_, _^_, min}
 

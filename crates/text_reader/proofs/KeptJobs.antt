@@ -1,5 +1,5 @@
--- A job that is not refused has no row that is narrowed, so what is kept of it is the job; and neither its analysis nor what is printed of it sees
--- the difference.
+-- Proves that a job that is not refused has no row that narrowing changes, so the kept job is the job; and that a refused job gets the same analysis
+-- and the same print.
 -- Assumes nothing.
 use Prim.Native.Nat.{ℕ, zero, suc, _≤_}
 use mathlib.Core.Path.{_≡_, refl, sym, ap, _∙_}

@@ -1,5 +1,5 @@
--- The lines of rows read one by one: each line is the next one's beginning, its rows stand behind those before it, and the starts with them. No line
--- so far has a fault, so the first that has one is the first of all.
+-- Proves the loop over the lines of rows: each line begins at the end of the one before, and its rows and start are stored behind theirs. No line so
+-- far has a fault, so the first fault found is the first of all.
 -- Assumes nothing.
 use Prim.Native.Nat.{ℕ, suc, _+_, _-_, _<_, _≤_}
 use mathlib.Core.Path.{_≡_, refl, sym, ap, _∙_}

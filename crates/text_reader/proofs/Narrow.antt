@@ -1,5 +1,5 @@
--- A job with its rows narrowed is refused as the job is: a row that is narrowed is over n, and so is what stands for it, so both are 5 at the same
--- column.
+-- Proves that a job with narrowed rows is refused as the job itself is: a row that narrowing changes is over n, and so is the row kept for it, so
+-- both are 5 at the same column.
 -- Assumes nothing.
 use Prim.Native.Nat.{ℕ, zero, suc, _+_, _<_, _≤_}
 use mathlib.Core.Path.{_≡_, refl, sym, ap, _∙_}

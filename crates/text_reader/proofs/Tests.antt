@@ -1,5 +1,5 @@
--- The lists that a text's lines name, one column more by one line more; and the tests of its lines by the first at fault, and of its end by what is
--- left.
+-- Proves that one more line gives the lists of one more column, that the first line at fault decides the tests of the lines, and that the bytes left
+-- decide the test of the end.
 -- Assumes nothing.
 use Prim.Native.Nat.{ℕ, suc, _+_, _<_, _≤_}
 use mathlib.Core.Path.{_≡_, refl, _∙_}

@@ -1,5 +1,5 @@
--- What is read of a job text, and what is kept of it. Rows are kept narrowed, as text_lines keeps them; a theorem says that the job's tests do not
--- see the difference. After a refusal nothing is said of the slices.
+-- Defines what is read of a job text, and what is kept of it. Rows are kept narrowed, and a theorem says that this changes no test of the job. After
+-- a refusal it promises nothing of the slices.
 -- Assumes nothing.
 use Prim.Native.Nat.{ℕ, _<_, _≤_}
 use mathlib.Core.Path.{_≡_}

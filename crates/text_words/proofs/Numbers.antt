@@ -1,5 +1,5 @@
--- The number that digits make with the byte behind them. If a line that begins there has numbers, then its first is those digits, since no more of
--- them follow, and a byte that ends it stands behind. So where one of the two fails the line has none.
+-- Proves which number digits and the byte behind them make. If a line that begins there has numbers, the first is these digits, since no more follow,
+-- and the byte behind them ends it. So if either fails, the line has no numbers.
 -- Assumes nothing.
 use Prim.Native.Nat.{ℕ, _+_, _<_, _≤_}
 use mathlib.Core.Path.{_≡_, refl, sym, ap, _∙_}

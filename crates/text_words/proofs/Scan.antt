@@ -1,5 +1,5 @@
--- Digits read one by one: one byte more is ten times the value and that digit, and so few digits stay below 2^64. Digits are a decimal by their count
--- and the first of them.
+-- Proves how digits are read one by one: one more makes the value ten times as great, plus that digit, and so few digits stay below 2^64. Their count
+-- and the first of them decide whether they are a decimal.
 -- Assumes nothing.
 use Prim.Native.Nat.{ℕ, suc, _+_, _-_, _*_, _^_, _<_, _≤_, min}
 use mathlib.Core.Path.{_≡_, refl, sym, ap, _∙_}

@@ -1,4 +1,4 @@
--- From an answer to what was read: the number at a place, or that a line that begins there has none.
+-- Proves what an answer tells of the text: the number at a place, or that a line that begins there has none.
 -- Assumes nothing.
 use Prim.Native.Nat.{ℕ}
 use mathlib.Core.Path.{_≡_, sym, ap, _∙_}

@@ -1,4 +1,4 @@
--- What is read at a place of a text: digits, the number that they make with the byte behind them, and the line that begins there.
+-- Defines what is read at a place of a text: digits, the number that they make with the byte behind them, and the line that begins there.
 -- Assumes nothing.
 use Prim.Native.Nat.{ℕ, _+_, _<_, _≤_}
 use mathlib.Core.Path.{_≡_}

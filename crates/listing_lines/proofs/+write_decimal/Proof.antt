@@ -1,4 +1,4 @@
--- One digit, or the last digit behind those of the tenth, which is smaller: the measure is the number itself.
+-- Proves that `write_decimal` writes a number: one digit, or the digits of its tenth and then its last digit. The tenth is smaller than the number.
 -- Assumes nothing.
 use Prim.Native.Nat.{ℕ, _+_, _/_, _<_, _≤_}
 use native.Mathlib.Omega.{arith}

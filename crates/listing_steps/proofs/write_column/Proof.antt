@@ -1,4 +1,4 @@
--- The part of the rows that is handed on is the column's list.
+-- Proves that `write_column` writes the line with the column's own rows, since the part of the rows that it hands on is the column's list.
 -- Assumes nothing.
 use Prim.Native.Nat.{ℕ, _+_, _-_, _<_}
 use mathlib.Core.Path.{_≡_}
