@@ -1,5 +1,5 @@
--- Proves that a job that is not refused has no row that narrowing changes, so the kept job is the job; and that a refused job gets the same analysis
--- and the same print.
+-- Proves that a job that is not refused has no row that narrowing changes, so the kept job is the job; and that narrowing changes neither the
+-- analysis of a job nor what is printed of it.
 -- Assumes nothing.
 use Prim.Native.Nat.{ℕ, zero, suc, _≤_}
 use mathlib.Core.Path.{_≡_, refl, sym, ap, _∙_}
