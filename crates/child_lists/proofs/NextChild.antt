@@ -44,7 +44,7 @@ module _ {n j c len : ℕ} {fs fr w₀ x₀ y₀ w x y : List ℕ} {d turn count
   makes : Makes j (handedOn fs fr) (d ∷ next .rest) (held turn count x y) (s .whole)
   makes = rw (next .is) at (s .makes)
 
-  -- what d hands on
+  -- the rows that d hands on
   module _ {more : List ℕ} (e : more ≡ handedOn fs fr d) where
     new-row : (i : ℕ) → i ∈ more → i ∈ s .whole
     new-row i m = s .makes .hands-in d i here (rw e at m)
@@ -63,7 +63,7 @@ module _ {n j c len : ℕ} {fs fr w₀ x₀ y₀ w x y : List ℕ} {d turn count
         let ly = s .long-y in
         record { held-x = omega arith; held-y = omega arith; joined-x = rw e (omega arith); joined-y = rw e (omega arith) }
 
-    -- all its rows are marked
+    -- if all its rows are marked
     pub passes-over : true ≡ every (isMarked n j w) more → State n j c len fs fr w₀ x₀ y₀ w x y (getD w (n + d) 0) turn count
     passes-over q =
         record {
@@ -83,7 +83,7 @@ module _ {n j c len : ℕ} {fs fr w₀ x₀ y₀ w x y : List ℕ} {d turn count
           long-y = s .long-y;
         }
 
-    -- its rows are marked
+    -- else its rows are marked
     module _ {w′ : List ℕ} (f : w′ ≡ marked n j more w) where
       change : Changed n j w w′
       change = rw f (changed-marked n j more w (λ i m. positive i (rw e at m)))

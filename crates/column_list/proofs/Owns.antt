@@ -44,7 +44,7 @@ module _ {n m : ℕ} {starts rows fs fr w : List ℕ} (g : Next n m starts rows 
     pub own-markable : Markable n own w
     own-markable = record { most = λ i t. below g .within i (m + 1) (rw o at t); long = g .stored .work-long }
 
-    -- to mark them changes marks alone
+    -- marking them changes only marks
     pub own-change : {w₁ : List ℕ} → w₁ ≡ marked n (m + 1) own w → Changed n (m + 1) w w₁
     own-change e = rw e (changed-marked n (m + 1) own w (λ i t. omega (arith, asc-above (m + 1) own own-asc t)))
 

@@ -30,7 +30,7 @@ in-loop c = c
 abbrev handed : tie.After-handed-on Inv-loop μ-loop → tie.After-handed-on Inv-loop μ-loop
 handed c = c
 
--- it is known whether all its rows are marked
+-- the test whether all its rows are marked was made
 abbrev tested : tie.After-covered Inv-loop μ-loop → tie.After-covered Inv-loop μ-loop
 tested c = c
 
