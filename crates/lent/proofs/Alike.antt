@@ -23,7 +23,7 @@ pub record Alike (before lent : Lent) : Type 0 where
   pub rows : length (lent .factorRows) ≡ length (before .factorRows)
   pub work : length (lent .work) ≡ length (before .work)
 
--- cleared, they are the same
+-- once cleared, they are equal
 pub zeros-alike : (before lent : Lent) {after : Lent} → Alike before lent → after ≡ allZero lent → after ≡ allZero before
 unfolding allZero
 zeros-alike before lent a e =

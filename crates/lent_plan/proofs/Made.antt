@@ -9,7 +9,7 @@ use Rattle.papers.specs.Analysis.{analysed}
 use Rattle.lent.proofs.Alike.{Alike, zeros-alike}
 use Rattle.lent_plan.specs.Made.{Made}
 
--- a refusal, whatever it left
+-- a refusal, whatever it leaves
 pub made-refused : {job : Job} {before lent : Lent} {r : Answer} → r .number ≢ 0
     → _≡_ {A = Outcome Lent} (record { answer = r; lent = allZero before }) (analysed job before)
     → Made job before lent r

@@ -57,7 +57,7 @@ module _ {mark : ℕ} {parents factor : List ℕ} {order-room pops-room lent : �
     order-length : length order ≡ length parents
     order-length = ap length (written .steps) ∙ steps-length
 
-    -- what their pops ask
+    -- what counting the pops requires
     pub pops-asked : {pops : List ℕ} → length pops ≡ pops-room → PopsGiven front order pops
     pops-asked room = rw (written .steps) (record {
       list = λ k h. record {
@@ -74,7 +74,7 @@ module _ {mark : ℕ} {parents factor : List ℕ} {order-room pops-room lent : �
           counted ∙ rw (written .steps)
           (map-same (countAt front) (popsIn parents) steps (λ j m. written .starts .count j (in-range j m .1)))
 
-      -- what the peak asks
+      -- what finding the peak requires
       pub peak-given : PeakGiven factor order pops work
       peak-given = record { stepped = peak-asked (written .steps) pops-are; room = omega (arith, order-length, given .work-length) }
 

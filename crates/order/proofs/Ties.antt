@@ -25,7 +25,7 @@ use Rattle.tree.specs.Parents.{parentIn, kidsIn}
 use Rattle.room.specs.Rows.{rowsIn}
 use Rattle.order.specs.Given.{Rowed, popsIn, orderIn}
 
--- the parents of the columns 1 to n, and the starts of their lists, as the slices hold them
+-- the slices hold the parents of the columns 1 to n, and the starts of their lists
 abbrev pub parentsOf : ℕ → Pattern → List ℕ
 parentsOf n A = map (parent A) (upTo n)
 

@@ -36,7 +36,7 @@ module _ (factor order pops : List ℕ) where
       ap greatest (rooms-append (rowsAt factor order) (popsAt pops) [] (upTo k) (suc k ∷ [])) ∙ rw (greatest-append, rooms-cons, rooms-nil)
       (omega arith)
 
--- the updates held after k steps have their sums in below
+-- below holds the sums of the updates held after k steps
 pub record Stacked (factor order pops below₀ below : List ℕ) (depth k : ℕ) : Type 0 where
   pub deep : length (heldAt factor order pops k) ≡ depth
   pub few : depth ≤ k
@@ -72,7 +72,7 @@ module _ (factor order pops : List ℕ) where
       rows-here : rowsAt factor order (suc k) ≡ r
       rows-here = ap (rowsIn factor) (column-at order k) ∙ sym (rows .same)
 
-      -- no sum is more than so many fronts
+      -- no sum exceeds that of so many largest fronts
       pub stacked-over : Over below depth (getD pops k 0) r
       stacked-over = record {
         enough = enough;

@@ -22,7 +22,7 @@ pub record Held (starts list counts : List ℕ) (j left : ℕ) (d₀ : List ℕ)
   pub long : length d ≡ length d₀
   pub room : at + left ≤ length d₀
 
--- what a held block and that of the child at place i take of the siblings' steps, of which `end` is behind the last
+-- how many of the siblings' steps a held block and the child at place i take; `end` is behind the last step
 pub record Two (list : List ℕ) (i left end size count a : ℕ) : Type 0 where
   pub inside : i < length list
   pub held : 0 < size
@@ -61,7 +61,7 @@ module _
     {j left at i a held size first : ℕ}
     (inv : Held starts list counts j left d₀ at d i a held size first)
   where
-    -- all siblings done: what is left is the held block
+    -- all siblings are done: only the held block is left
     pub held-stop : at + left ≤ a → Handed starts list counts j left d₀ at d held size first
     held-stop h =
         let none = no-steps (laterSteps starts list j i) (omega (arith, inv .later .place)) in
@@ -80,7 +80,7 @@ module _
         behind : Later starts list counts j (at + left) (i + 1) (a + count)
         behind = others (inv .later) more r
 
-        -- both blocks lie in the siblings' steps
+        -- the siblings' steps contain both blocks
         pub two-fit : Two list i left (at + left) size count a
         two-fit =
             let f = inv .task .asks .fits in

@@ -21,7 +21,7 @@ use Rattle.walk.specs.Children.{Listed, ChildBlock}
 abbrev pub laterSteps : List ℕ → List ℕ → ℕ → ℕ → List ℕ
 laterSteps starts list j i = blocks (kidsAt starts list) (slice i (getD starts (j + 1) 0) list)
 
--- they lie from step a on, to step e
+-- these steps are from step a to step e
 pub record Later (starts list counts : List ℕ) (j e i a : ℕ) : Type 0 where
   pub laid : Laid starts list counts
   pub known : j < length counts
@@ -38,7 +38,7 @@ all-later {starts} {list} {j = j} q =
     record { laid = q .laid; known = q .known; low = omega arith; place = rw (all-steps starts list j) (omega (arith, q .count)) }
 
 module _ {starts list counts : List ℕ} {j e i a : ℕ} (later : Later starts list counts j e i a) (more : a < e) where
-  -- there is a sibling at place i
+  -- the lists have a sibling at place i
   in-list : i < getD starts (j + 1) 0
   in-list =
       let end = getD starts (j + 1) 0 in
@@ -69,7 +69,7 @@ module _ {starts list counts : List ℕ} {j e i a : ℕ} (later : Later starts l
   own : getD counts (getD list i 0) 0 + 1 ≡ length (ownSteps starts list (getD list i 0))
   own = later .laid .counted (getD list i 0) (in-range .0) (in-range .1)
 
-  -- what reading it asks
+  -- what reading it requires
   pub child-listed : e < 2 ^ 64 → Listed list counts i
   child-listed h =
       record { inside = child-inside; known = in-range .1; small = omega (arith, own, next-place, later .place) }
@@ -79,7 +79,7 @@ module _ {starts list counts : List ℕ} {j e i a : ℕ} (later : Later starts l
     counted : size ≡ length (ownSteps starts list c)
     counted = rw (r .child) (r .counted ∙ own)
 
-    -- the others come behind it
+    -- the others follow it
     pub others : Later starts list counts j e (i + 1) (a + size)
     others = record {
       laid = later .laid;
@@ -98,7 +98,7 @@ module _ {starts list counts : List ℕ} {j e i a : ℕ} (later : Later starts l
     pub child-lower : 0 < j → c < j
     child-lower l = rw (r .child) (later .laid .lower j (getD list i 0) l child .1)
 
-    -- its steps are written, and those behind it then
+    -- writes its steps, and then those behind it
     pub both : (m : List ℕ)
         → sets (sets m first (ownSteps starts list c)) (a + size) (laterSteps starts list j (i + 1)) ≡ sets m a (laterSteps starts list j i)
     both m =

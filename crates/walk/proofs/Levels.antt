@@ -30,7 +30,7 @@ pub levels-mono : (x y : ℕ) → x ≤ y → levels x ≤ levels y
 unfolding levels
 levels-mono x y h = digits-mono x y x y h h
 
--- half of y or less has a level less
+-- a number of at most half of y has a level less
 pub levels-half : (x y : ℕ) → 0 < y → x + x ≤ y → levels x < levels y
 unfolding levels
 levels-half x zero l h = absurd (omega arith)

@@ -98,7 +98,7 @@ analyse-spec =
     (λ c. omega (arith, cleared (search) .clear-all .kept, made₁ (search) .planned .kept))
     (λ c. omega (arith, cleared (search) .clear-all .kept, made₁ (search) .planned .kept))
     returns-3
-    -- done, and again
+    -- done: the slices are as long as they were
     (λ c. omega (arith, made (search) .planned .kept))
     (λ c. omega (arith, made (search) .planned .kept))
     (λ c. omega (arith, made (search) .planned .kept))

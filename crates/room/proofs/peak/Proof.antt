@@ -46,7 +46,7 @@ turn c = search
 abbrev begun : tie.After-rows-of Inv-loop μ-loop → tie.Start Inv-loop μ-loop
 begun c = search
 
--- the step lies over the updates held
+-- the step pops no more updates than are held
 over : (c : tie.After-rows-of Inv-loop μ-loop)
     → Over (turn c .loop .below) (turn c .loop .depth) (getD (now (begun c .args .pops)) (turn c .loop .k) 0) (c .rows-of .result)
 over c =

@@ -39,7 +39,7 @@ compared c = c
 abbrev begun : tie.In-loop Inv-loop μ-loop → tie.Start Inv-loop μ-loop
 begun c = search
 
--- the W of the child is there
+-- work holds the W of the child
 known : (c : tie.In-loop Inv-loop μ-loop) → getD (now (begun c .args .kids)) (c .before .loop .i) 0 < length (now (begun c .args .rooms))
 known c = turned-known _ _ _ (begun c .args .j) (c .before .loop .inv) (begun c .pre) (c .loop-test .taken)
 

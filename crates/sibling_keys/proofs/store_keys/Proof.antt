@@ -38,7 +38,7 @@ child-read c = c
 abbrev begun : tie.In-loop Inv-loop μ-loop → tie.Start Inv-loop μ-loop
 begun c = search
 
--- the W of the child and its key have their places
+-- work has the places of the child's W and key
 places : (c : tie.In-loop Inv-loop μ-loop)
     → Places (begun c .args .w) (begun c .args .k) (getD (now (begun c .args .kids)) (c .before .loop .i) 0) (c .before .loop .work)
 places c = keying-places (c .before .loop .inv) (begun c .pre) (c .loop-test .taken)
