@@ -3,6 +3,6 @@
 use Prim.Native.Nat.{ℕ, _*_, _^_, _<_}
 use Rattle.papers.specs.Bounds.{maxGroups}
 
--- the most groups that a number may have hold x
+-- x fits into the greatest number of groups
 abbrev pub Fits : ℕ → Type 0
 Fits x = x < 2 ^ (7 * maxGroups)

@@ -47,7 +47,7 @@ module _ {job : Job} {before : Lent} (g : Plannable job before) where
   listable-in = record { tested = tested job (g .passes); long = g .long }
 
   module _ {done : ℕ} {mid : Lent} (listing : Listing (job .n) done (pattern job) before mid) (alike : Alike before mid) where
-    -- the slices that are left serve to count the rows needed
+    -- parents and work are long enough to count the rows needed in them
     pub countable : Countable (job .n) (job .starts) (job .rows) (mid .parents) (mid .work)
     countable =
         let long = long-alike alike (g .long) in

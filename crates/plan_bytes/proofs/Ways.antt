@@ -90,7 +90,7 @@ module _ (job : Job) (slices : PlanLent) where
     whole-way h =
         outcome-done planTests planDone planZero call slices (last-test ∙ over-passes-iff (length (slices .bytes)) (length written) _ zeroed .1 h)
 
-    -- what is stored beside the analysis is the outcome
+    -- storing the bytes beside the analysis gives the outcome
     pub way-stored : {after : Lent} {found : Outcome PlanLent} → after ≡ holdingPlan job (planOf job) (slices .analysis)
         → allZero after ≡ allZero (slices .analysis)
         → found ≡ storedBeside (planBytes job (planOf job)) (record { analysis = after; bytes = slices .bytes }) → found ≡ planWritten job slices

@@ -51,7 +51,7 @@ module _ (s : List ℕ) where
 
 -- ---- from the answer
 
--- the head that is answered is read, and no other
+-- the head that is answered is the one that is read
 pub head-found : (found : Read JobHead) {r : HeadReading} {head : JobHead} {next : ℕ} → r ≡ headReading found → r ≡ Head head next
     → found ≡ got head next
 unfolding headReading
@@ -64,7 +64,7 @@ unfolding headReading
 head-faulty (got h m) e g = absurd (let z : _≡_ {A = ℕ} 0 1 = cc in omega arith)
 head-faulty (bad c p) e g = (c, p, refl)
 
--- it has a size within bounds, and ends within the bytes: its lists can be counted
+-- the head's size is within its bound, and it ends within the bytes, so its lists can be counted
 pub head-fits : (s : List ℕ) (head : JobHead) (at : ℕ) → readHead s ≡ got head at → CountAsked s at (head .n)
 unfolding readHead readMark
 head-fits s head at e =

@@ -35,7 +35,7 @@ module _ (n j : ℕ) (s : List ℕ) (at : ℕ) where
   unfolding readList
   list-got e = then-got _ e
 
--- a count that is found: behind it stand its rows
+-- the count is found, and its rows follow it
 module _ {s : List ℕ} {at n j t count next : ℕ} (asked : ListAsked s at n j t) (found : fields.Found 0 (n - j) s at count next) where
   pub rows-asked : RowsAsked s next n j count t
   rows-asked =
@@ -80,7 +80,7 @@ module _ {n : ℕ} {s : List ℕ} {j count at t : ℕ} {rows₀ rows : List ℕ}
   quick-told h =
       finds (q .list) r (q .whole h) (ap (λ (v : ℕ). Found (t + v) r) (sym (q .many h))) (q .kept)
 
-  -- what the other reader keeps covers what was kept
+  -- the other reader's rows overwrite those kept before
   pub quick-again : {rows′ : List ℕ} {a : Reading} → Told (λ list. t + length list) (RowsIn t rows rows′) (readRows n j count s at) a
       → Told (λ list. t + length list) (RowsIn t rows₀ rows′) (readRows n j count s at) a
   quick-again (refuses number place e g) = refuses number place e g

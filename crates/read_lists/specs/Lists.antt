@@ -5,6 +5,6 @@ use mathlib.Core.Path.{_≡_}
 use mathlib.Core.List.{List}
 use lib.Seq.{sets}
 
--- rows from place t on
+-- the rows are kept from place t on
 abbrev pub RowsIn : ℕ → List ℕ → List ℕ → List ℕ → Type 0
 RowsIn t rows₀ rows list = rows ≡ sets rows₀ t list

@@ -9,7 +9,7 @@ use lib.Seq.{sets, sets-eq, take-at, drop-at}
 use Rattle.papers.specs.Lists.{zeros, thenZeros}
 use Rattle.slices.specs.From.{zerosFrom}
 
--- the part of so many places from k on, cleared, with nothing behind it
+-- clears the part of so many places from k on, which ends the slice
 pub cleared-from : (k : ℕ) (l : List ℕ) {rest : List ℕ} → k ≤ length l → rest ≡ zeros (take (length l - k) (drop k l))
     → take k l ++ (rest ++ drop (length l - k) (drop k l)) ≡ zerosFrom k l
 unfolding zerosFrom
@@ -18,7 +18,7 @@ cleared-from k l {rest} h z =
     let many : length (take (length l - k) (drop k l)) ≡ length (drop k l) = omega (arith, length-take (length l - k) (drop k l), length-drop k l) in
     rw (last, append-nil rest, z, many)
 
--- a result of k numbers at the front
+-- a result of k numbers is at the front
 pub stored-from : {k : ℕ} (xs l : List ℕ) → length xs ≡ k → k ≤ length l → zerosFrom k (sets l 0 xs) ≡ thenZeros xs l
 unfolding zerosFrom thenZeros
 stored-from {k} xs l e h =

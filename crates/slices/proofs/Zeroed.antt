@@ -8,7 +8,7 @@ use lib.ListN.{length, set, drop, replicate, length-set, drop-of-length-le}
 use borrow.Author.Fill.{fill-more}
 use Rattle.papers.specs.Lists.{zeros}
 
--- of s₀, the first i places are zero in s
+-- the first i places are zero in s, and the others are as in s₀
 pub record Zeroed (s₀ s : List ℕ) (i : ℕ) : Type 0 where
   pub front : s ≡ replicate i 0 ++ drop i s₀
   pub passed : i ≤ length s₀

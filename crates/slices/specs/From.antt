@@ -5,6 +5,6 @@ use mathlib.Core.List.{List, _++_}
 use lib.ListN.{take, drop}
 use Rattle.papers.specs.Lists.{zeros}
 
--- the first k numbers as they are, then zeros
+-- keeps the first k numbers, then zeros
 unfoldable pub zerosFrom : ℕ → List ℕ → List ℕ
 zerosFrom k l = take k l ++ zeros (drop k l)

@@ -25,7 +25,7 @@ unfolding lowBytes
 length-lows [] = refl
 length-lows (x ∷ xs) = ap suc (length-lows xs)
 
--- numbers have a byte each at least
+-- each number has at least one byte
 encode-long : (xs : List ℕ) → length xs ≤ length (encode xs)
 unfolding encode
 encode-long [] = omega arith
@@ -41,7 +41,7 @@ lows-small (x ∷ xs) h =
 
 -- ---- row by row
 
--- the low bytes of the gaps of the rows before i are stored, and the greatest of these gaps is widest
+-- the low bytes of the gaps before i are stored, and widest is the greatest of these gaps
 pub record Lows (b : ℕ) (rows : List ℕ) (from to : ℕ) (d₀ : List ℕ) (at : ℕ) (d : List ℕ) (widest before next i : ℕ) : Type 0 where
   pub rows-left : RowsLeft rows to before i
   pub written : Writes (lowBytes (gapsOf b (slice from to rows))) d₀ at (lowBytes (gapsOf before (slice i to rows))) d next
@@ -91,7 +91,7 @@ module _ {b : ℕ} {rows : List ℕ} {from to : ℕ} (l : ListAt b rows from to)
           writes = rw same at (low .stores);
         }
 
-    -- the gaps are written over their low bytes
+    -- writes the gaps over their low bytes
     pub run-over : {d′ : List ℕ} {r : ℕ} → Wrote (encode (gapsOf b (slice from to rows))) d d′ at r
         → Wrote (encode (gapsOf b (slice from to rows))) d₀ d′ at r
     run-over p =

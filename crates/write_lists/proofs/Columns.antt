@@ -93,7 +93,7 @@ pub record WritesColumns (n : ℕ) (starts rows d₀ : List ℕ) (first : ℕ) (
   pub near : first < 2 ^ 60
 
 module _ {n : ℕ} {starts rows d₀ : List ℕ} {first : ℕ} {d : List ℕ} {next done : ℕ} (w : WritesColumns n starts rows d₀ first d next done) where
-  -- the place of the next list is near too
+  -- the place of the next list is small too
   pub list-near : next < 2 ^ 61
   list-near =
       let all = listsNumbers 1 (listsOf n (columnOf starts rows)) in

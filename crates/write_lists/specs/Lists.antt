@@ -6,7 +6,7 @@ use mathlib.Core.List.{List}
 use Rattle.papers.specs.Bounds.{maxColumns}
 use Rattle.papers.specs.Refusals.{passed, startsTest, rowsTest}
 
--- r is the end of a run of rows from i on, of a list that ends at `to`
+-- r ends a run of rows from i on, in a list that ends at `to`
 pub record RunEnd (i to r : ℕ) : Type 0 where
   pub past : i < r
   pub within : r ≤ to

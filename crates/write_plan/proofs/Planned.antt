@@ -56,11 +56,11 @@ module _ {job : Job} {order pops starts rows : List ℕ} {peak : ℕ} (w : Writa
         steps-few order pops,
       )
 
-  -- every place among the bytes of the plan
+  -- bounds every place among the bytes of the plan
   pub place-near : {d₀ left d : List ℕ} {k : ℕ} → Writes (encode (wholeNumbers job order pops starts rows peak)) d₀ 0 left d k → k < 2 ^ 59
   place-near s = omega (arith, writes-near (wholeNumbers job order pops starts rows peak) s, whole-few)
 
--- ---- put one behind the other
+-- ---- writing the parts one behind the other
 
 module _ (job : Job) (order pops starts rows : List ℕ) (peak : ℕ) (d₀ : List ℕ) where
   -- of the plan these numbers are left, from place k of d on

@@ -20,7 +20,7 @@ abbrev μ-loop : tie.MeasureT-loop
 abbrev entry : tie.Start Inv-loop μ-loop → tie.Start Inv-loop μ-loop
 entry c = c
 
--- the next group finds a place in the array
+-- the array has a place for the next group
 room : (c : tie.At-loop Inv-loop μ-loop) → c .loop .count < maxGroups
 room c = omega (arith, inside (c .loop .inv), bytes-length (entry (search) .args .x))
 

@@ -16,7 +16,7 @@ use Rattle.job_rows.proofs.Started.{started}
 use Rattle.job.proofs.first_fault.Statement.{statement}
 use Rattle.job.proofs.first_fault.Tie as tie
 
--- the tests of a job's lists: those behind the tests of its numbers
+-- the tests of a job's lists, which follow the tests of its numbers
 abbrev list-tests : List (Job → Verdict)
 list-tests = (λ job. startsTest (job .n) (job .starts) (job .rows)) ∷ (λ job. rowsTest (job .n) (job .starts) (job .rows)) ∷ []
 
