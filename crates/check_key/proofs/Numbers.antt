@@ -12,7 +12,7 @@ use Rattle.check_key.specs.declared.KeyMatch.the-variants.{Begins, Diffe
 use Rattle.check_key.specs.declared.KeyMatch.{KeyMatch}
 use Rattle.check_key.proofs.Bytes.{bytes-begin, bytes-differ, bytes-inside}
 
--- of the numbers `whole`, held against the plan from `at` on, xs are left at place k
+-- of the numbers `whole`, which are compared with the plan from `at` on, xs are left at place k
 pub record Left (whole plan : List ℕ) (at : ℕ) (xs : List ℕ) (k : ℕ) : Type 0 where
   pub same : matchFrom (encode xs) plan k ≡ matchFrom (encode whole) plan at
   pub inside : k ≤ length plan
@@ -22,7 +22,7 @@ module _ {whole plan : List ℕ} {at : ℕ} where
   left-all h = record { same = refl; inside = h }
 
   module _ {xs : List ℕ} {k : ℕ} (l : Left whole plan at xs k) where
-    -- bytes more
+    -- compares some bytes more
     module _ (w ys : List ℕ) (e : encode xs ≡ w ++ encode ys) {r : KeyMatch} (f : r ≡ matchFrom w plan k) where
       left-bytes : {next : ℕ} → r ≡ Begins next → Left whole plan at ys next
       left-bytes g =
@@ -35,7 +35,7 @@ module _ {whole plan : List ℕ} {at : ℕ} where
       differs-bytes : {place : ℕ} → r ≡ Differs place → Differs place ≡ matchFrom (encode whole) plan at
       differs-bytes g = sym (bytes-differ w (encode ys) plan k (sym f ∙ g)) ∙ ap (λ (x : List ℕ). matchFrom x plan k) (sym e) ∙ l .same
 
-    -- a number more
+    -- compares a number more
     module _ {x : ℕ} {ys : List ℕ} (e : xs ≡ x ∷ ys) {r : KeyMatch} (f : r ≡ matchFrom (bytesOf x) plan k) where
       pub left-number : {next : ℕ} → r ≡ Begins next → Left whole plan at ys next
       unfolding encode
@@ -45,7 +45,7 @@ module _ {whole plan : List ℕ} {at : ℕ} where
       unfolding encode
       differs-number = differs-bytes (bytesOf x) ys (ap encode e) f
 
-    -- numbers more
+    -- compares some numbers more
     module _ (zs ys : List ℕ) (e : xs ≡ zs ++ ys) {r : KeyMatch} (f : r ≡ matchFrom (encode zs) plan k) where
       pub left-numbers : {next : ℕ} → r ≡ Begins next → Left whole plan at ys next
       left-numbers = left-bytes (encode zs) ys (ap encode e ∙ encode-append zs ys) f

@@ -47,7 +47,7 @@ module _ {n m : ℕ} {list starts rows fs fr w own : List ℕ} (c : Comparable n
       one-joined : merge own more ≡ R A (m + 1)
       one-joined = rw h (makes-end (makes-join (rw (only-child (c .next) z q) at (own-makes (c .next) o))))
 
-      -- a list that begins with its rows
+      -- a list that begins with the child's rows
       module _ (b : Begins list more) where
         pub addable : Addable n list (length more) own w
         addable = record { own-markable = own-markable (c .next) o; list-markable = list-markable c refl; place = b .long }

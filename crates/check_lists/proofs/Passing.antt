@@ -28,7 +28,7 @@ use Rattle.check_marks.specs.Marked.{Comparable, Compared}
 use Rattle.check_lists.specs.Lists.{HoldLists, wrong, FirstWrong, ListsComparable, ListsCompared}
 use Rattle.check_lists.proofs.Plans.{starts-long, first-start, plan-part, plan-list, plan-ascending, plan-within, stands-fits, stands}
 
--- whether column j of two slices is another than R(j)
+-- tests whether column j of two slices differs from R(j)
 abbrev wrongIn : Pattern → List ℕ → List ℕ → ℕ → Bool
 wrongIn A fs fr j = not (same (columnOf fs fr j) (R A j))
 
@@ -65,7 +65,7 @@ module _ {n m : ℕ} {starts rows fs fr p₀ w₀ p w : List ℕ} (s : Passing n
   pub long-p : length p ≡ length p₀
   long-p = ap length (s .parents-are) ∙ length-sets p₀ 0 (map (parent A) (upTo m))
 
-  -- the least column of the slices is that of the lists
+  -- the first wrong column in the slices is that of the lists
   least-of : (r : ℕ) → r ≡ least (wrongIn A fs fr) n → FirstWrong n A fs fr r
   least-of r e lists l = e ∙ least-same (wrongIn A fs fr) (wrong A lists) n agree
     where
@@ -87,7 +87,7 @@ module _ {n m : ℕ} {starts rows fs fr p₀ w₀ p w : List ℕ} (s : Passing n
     pass-part = plan-part (s .listed .are) m l
 
     module _ {list : List ℕ} (is : list ≡ columnOf fs fr (m + 1)) where
-      -- its list can be held against R(m + 1)
+      -- its list can be compared with R(m + 1)
       pub pass-next : Comparable n m list starts rows fs fr w
       pass-next =
           record {

@@ -48,7 +48,7 @@ marked-all n j (r ∷ rs) w i k m = go (List·Memᴰ·cases-cons m) (λ t. marke
 
 -- ---- more rows
 
--- no row is marked for a column whose number no mark has reached
+-- no row is marked for a column, if every mark is of an earlier one
 pub marked-none : (n j : ℕ) (w : List ℕ) → ((i : ℕ) → 1 ≤ i → getD w (n + n + i) 0 < j) → MarkedAre n j w []
 marked-none n j w h = record { sound = λ i l e. absurd (omega (arith, h i l)); all = λ i m. absurd (List·Memᴰ·not-nil m) }
 

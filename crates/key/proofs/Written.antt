@@ -1,4 +1,4 @@
--- Proves which numbers of a key come before its lists, and the outcomes of a stored key and of a refused job.
+-- Proves how the numbers of a key are written one after the other, up to its lists, and the outcomes of a stored key and of a refused job.
 -- Assumes nothing.
 use Prim.Native.Nat.{ℕ, _+_, _*_, _^_, _<_, _≤_}
 use mathlib.Core.Path.{_≡_, refl, sym, _∙_}
@@ -27,7 +27,7 @@ use Rattle.write_stored.proofs.Stores.{short-is, whole-is}
 
 -- ---- its numbers
 
--- the numbers written before the lists: edition, n, mark and limit
+-- the numbers of the lists, which are written behind edition, n, mark and limit
 abbrev pub keyLists : Job → List ℕ
 keyLists job = listsNumbers 1 (listsOf (job .n) (pattern job))
 

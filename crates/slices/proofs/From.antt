@@ -18,7 +18,7 @@ cleared-from k l {rest} h z =
     let many : length (take (length l - k) (drop k l)) ≡ length (drop k l) = omega (arith, length-take (length l - k) (drop k l), length-drop k l) in
     rw (last, append-nil rest, z, many)
 
--- a result of k numbers is at the front
+-- once the places behind it are cleared, a result of k numbers at the front is followed by zeros
 pub stored-from : {k : ℕ} (xs l : List ℕ) → length xs ≡ k → k ≤ length l → zerosFrom k (sets l 0 xs) ≡ thenZeros xs l
 unfolding zerosFrom thenZeros
 stored-from {k} xs l e h =

@@ -15,7 +15,7 @@ use Rattle.refusal_laws.proofs.Called.{call-unreadable, call-over, call-bounded
 use Rattle.read_key.specs.Keys.{KeyParts}
 
 module _ (key plan : List ℕ) where
-  -- the number that is answered, by the answer
+  -- the number that the call answers
   called-by : {a : Answer} → solverAnswer (record { key = key; plan = plan }) ≡ a → a .number * 2 ^ 32 + a .place ≡ called key plan
   unfolding called
   called-by e = ap (λ (a : Answer). a .number * 2 ^ 32 + a .place) (sym e)

@@ -70,7 +70,7 @@ returns c = ruled-key (entry (search) .pre) (matched (search) .match-key .ensure
 read-plan-requires : tie.Need-read-plan-requires
 read-plan-requires c κs = plan-asked (begun (search)) (cleared (search) .clear-all .ensures)
 
--- What was read can be judged where it stands.
+-- What was read can be judged in its slices.
 judge-reading-requires : tie.Need-judge-reading-requires
 judge-reading-requires c κs =
     let kept = read (search) .read-plan .kept in
@@ -83,7 +83,7 @@ judge-reading-requires c κs =
       work = refl;
     })
 
--- What followed is known of the check.
+-- The answer that followed decides the check.
 returns-2 : tie.Need-returns-2
 returns-2 c =
     ruled (begun (begins-before (search))) (cleared-before (search) .clear-all .ensures) (read (search) .read-plan .ensures)

@@ -37,7 +37,7 @@ judged c = c
 abbrev entry₁ : tie.After-first-repeat → tie.Start
 entry₁ c = search
 
--- ---- what the tests so far have passed, of any plan that stands in the slices
+-- ---- what the tests passed so far say of any plan that the slices hold
 
 abbrev begun : tie.Else1 → tie.Start
 begun c = search

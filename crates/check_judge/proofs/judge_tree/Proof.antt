@@ -31,7 +31,7 @@ measured c = c
 abbrev past-20 : tie.Else3 → tie.Else3
 past-20 c = c
 
--- ---- what the tests so far have passed, of any plan that stands in the slices
+-- ---- what the tests passed so far say of any plan that the slices hold
 
 abbrev begun : tie.Else1 → tie.Start
 begun c = search

@@ -11,7 +11,7 @@ use Rattle.check_key.proofs.Numbers.{Left, left-all, left-number, diffe
 use Rattle.check_key.proofs.match_gaps.Statement.{statement}
 use Rattle.check_key.proofs.match_gaps.Tie as tie
 
--- the gaps of the rows before i are there, up to k
+-- the gaps of the rows before i agree, up to k
 record Gaps (plan : List ℕ) (at : ℕ) (rows : List ℕ) (from to j k before i : ℕ) : Type 0 where
   left : RowsLeft rows to before i
   found : Left (gapsOf j (slice from to rows)) plan at (gapsOf before (slice i to rows)) k

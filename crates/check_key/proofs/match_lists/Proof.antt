@@ -13,7 +13,7 @@ use Rattle.check_key.proofs.Numbers.{Left, left-all, left-numbers, diff
 use Rattle.check_key.proofs.match_lists.Statement.{statement}
 use Rattle.check_key.proofs.match_lists.Tie as tie
 
--- the lists of the first `done` columns are there, up to k
+-- the lists of the first `done` columns agree, up to k
 record Columns (n : ℕ) (starts rows plan : List ℕ) (at k done : ℕ) : Type 0 where
   few : n ≤ maxColumns
   lists : PassedLists n starts rows

@@ -23,7 +23,7 @@ in-time c = c
 abbrev given : tie.Else1 → tie.Start
 given c = search
 
--- the parent has its places, and no sum is too great
+-- the parent's places are within the slices, and every sum fits
 fitting : (c : tie.Else1)
     → Fitting (now (given c .args .parents)) (now (given c .args .steps)) (now (given c .args .below)) (given c .args .i)
 fitting c = sums-fit _ _ _ _ (given c .pre) (c .if1 .left)
