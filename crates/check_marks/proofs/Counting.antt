@@ -27,7 +27,7 @@ use Rattle.column_list.proofs.Owns.{own-asc, own-makes, own-markable, own-chang
 use Rattle.check_marks.specs.Marked.{newRows, MarkableOnce, MarkedNew, MarkedAre, Counted}
 use Rattle.check_marks.proofs.Marked.{marked-none, marked-more, marked-count}
 
--- the rows of a list above j are marked
+-- marking the rows of a list above j changes only marks
 marks-change : {n j : ℕ} {w : List ℕ} (l w′ : List ℕ) → Asc j l → w′ ≡ marked n j l w → Changed n j w w′
 marks-change {n} {j} {w} l w′ a e = rw e (changed-marked n j l w (λ i t. omega (arith, asc-above j l a t)))
 

@@ -21,7 +21,7 @@ use Rattle.child_lists.specs.Marks.{isMarked, Markable}
 use Rattle.column_list.proofs.Gathering.{below}
 use Rattle.check_marks.specs.Marked.{Counted, Comparable}
 
--- if an ascending list has as many rows as another and all of them are the other's, the two are equal
+-- two ascending lists with as many rows are equal if each row of the one is a row of the other
 pub asc-whole : (b : ℕ) (xs ys : List ℕ) → Asc b xs → Asc b ys → ((i : ℕ) → i ∈ xs → i ∈ ys) → length xs ≡ length ys → xs ≡ ys
 asc-whole b xs ys s t into many = asc-ext b xs ys s t into (λ i m. there i m (test (member i xs)))
   where

@@ -24,7 +24,7 @@ use Rattle.check_subtrees.proofs.Judged.{Fits, Judged, within, strays, 
 use Rattle.check_subtrees.proofs.Windows.{Listing, Inside, step-range, together-inside, together-begins, inside-together}
 
 module _ {par : ℕ → ℕ} {n : ℕ} {order : List ℕ} {step below : ℕ → ℕ} (given : Listing par n order step below) where
-  -- the children of a column fit, each with its subtree within its own steps
+  -- if the children of a column fit, and their subtrees keep within their own steps, so does the column's subtree
   inside-up : (j : ℕ) → ((c : ℕ) → par c ≡ j → Fits par step below c × Inside par step below c) → Inside par step below j
   inside-up j kids y v = go (test (eqb y j))
     where
