@@ -36,7 +36,7 @@ module _ (n : ℕ) (starts rows columns pops : List ℕ) (room : ℕ) (stack : L
   abbrev off : ℕ
   off = getD pops done 0
 
-  -- whether the popped rows stand in the front
+  -- tests whether the popped rows are in the front
   abbrev inside : Bool
   inside = fits (factorOf n starts rows) c (take off (heldIn (held .count) stack))
 
@@ -44,7 +44,7 @@ module _ (n : ℕ) (starts rows columns pops : List ℕ) (room : ℕ) (stack : L
   unfolding fits rowsIn
   fits-is = rw (pops-at call done, column-at columns done)
 
-  -- the column is not one
+  -- there is no such column
   pub fault-low : c < 1 → 14 ≡ fault
   unfolding stepFault
   fault-low h = rw (column-at columns done, lt-leb 1 c h, stepFault)
@@ -72,7 +72,7 @@ module _ (n : ℕ) (starts rows columns pops : List ℕ) (room : ℕ) (stack : L
       fault-outside e f = rw (known, plenty, fits-is, sym e ∙ f, stepFault)
 
       module _ {r : Bool} (e : r ≡ inside) (f : r ≡ true) {u : ℕ} (g : u ≡ used n starts rows columns pops stack held done) where
-        -- too much room
+        -- the step needs too much room
         pub fault-over : room < u → 23 ≡ fault
         unfolding stepFault
         fault-over h =

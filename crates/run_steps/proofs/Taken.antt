@@ -23,7 +23,7 @@ use Rattle.run_updates.proofs.Step.{pops-at, used, used-is}
 use Rattle.run_steps.specs.Ready.{Ready, StepTaken}
 use Rattle.run_steps.proofs.Pushed.{push-root, push-update}
 
--- the last of `count` updates, at most n, has its place in the stack list
+-- the last of `count` updates, at most n, is at a place of the stack list
 pub record Place (n : ℕ) (stack : List ℕ) (count : ℕ) : Type 0 where
   pub some : 1 ≤ count
   pub few : count ≤ n
@@ -87,7 +87,7 @@ module _ {n : ℕ} {starts rows columns pops stack : List ℕ} {held : Held} {do
     abbrev after : State
     after = stepped call (suc done) (stateOf held stack)
 
-    -- by what is on the stack then
+    -- the columns then on the stack and the greatest room make that state
     after-is : (held′ : List ℕ) → held′ ≡ pushed call c staying → record { held = held′; greatest = next .greatest } ≡ after
     unfolding stepped
     after-is held′ q =

@@ -10,7 +10,7 @@ use Rattle.run_front.proofs.Places.{narrow-above, narrow-below}
 use Rattle.run_front.proofs.seek.Statement.{statement}
 use Rattle.run_front.proofs.seek.Tie as tie
 
--- the row's place lies from low on; the next place looked at is no earlier
+-- the row's place is not before low, and the next place looked at is no earlier
 record Looking (rows : List ℕ) (row from low look : ℕ) : Type 0 where
   between : Bracket rows row low (length rows)
   ahead : low ≤ look

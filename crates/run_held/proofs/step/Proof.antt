@@ -60,7 +60,7 @@ stayed = (
 )
 
 module _ {M : Type 1} (𝓤 : URA M) (H : Heap 𝓤) (A : Atoms 𝓤) (at-mem : Memory → SProp 𝓤) (run : Routine → Fun 𝓤) where
-  -- the contract that the proof cites
+  -- the contract that this proof cites
   abbrev Stepped : Contract 𝓤
   Stepped = tripleOf 𝓤 H A stepped.signature (stepped.spec 𝓤 H A at-mem run)
 

@@ -33,7 +33,7 @@ returns c =
     taken-root (entry (search) .pre) (popped (search) .popped-entries .ensures) (updated (search) .entries-of .ensures)
     (used (search) .room-in-use .ensures) (c .before .advance .ensures) (c .if1 .taken)
 
--- the column's own update finds its place
+-- the stack list has a place for the column's own update
 place : (c : tie.Else1) → Place (entry (search) .args .n) (now (entry (search) .args .stack)) (advanced (search) .advance .result .count)
 place c =
     store-within (entry (search) .pre) (popped (search) .popped-entries .ensures) (updated (search) .entries-of .ensures)
