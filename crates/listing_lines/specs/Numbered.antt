@@ -4,7 +4,7 @@ use Prim.Native.Nat.{ℕ}
 use mathlib.Core.List.{List, [], _∷_, _++_}
 use Rattle.papers.specs.Text.{space, decimalOf}
 
--- each number behind a space
+-- writes each number behind a space
 unfoldable pub numbered : List ℕ → List ℕ
 numbered [] = []
 numbered (x ∷ xs) = (space ∷ decimalOf x) ++ numbered xs
