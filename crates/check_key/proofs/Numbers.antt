@@ -53,11 +53,11 @@ module _ {whole plan : List ℕ} {at : ℕ} where
       pub differs-numbers : {place : ℕ} → r ≡ Differs place → Differs place ≡ matchFrom (encode whole) plan at
       differs-numbers = differs-bytes (encode zs) ys (ap encode e ∙ encode-append zs ys) f
 
-    -- all that is left
+    -- compares all numbers that are left
     pub left-last : {r : KeyMatch} → r ≡ matchFrom (encode xs) plan k → r ≡ matchFrom (encode whole) plan at
     left-last f = f ∙ l .same
 
-    -- one number is all that is left
+    -- only one number is left
     pub left-one : {x : ℕ} {r : KeyMatch} → xs ≡ x ∷ [] → r ≡ matchFrom (bytesOf x) plan k → r ≡ matchFrom (encode whole) plan at
     unfolding encode
     left-one {x} e f = f ∙ ap (λ (w : List ℕ). matchFrom w plan k) (sym (ap encode e ∙ append-nil (bytesOf x))) ∙ l .same

@@ -74,7 +74,7 @@ module _ {n m : ℕ} {starts rows fs fr p₀ w₀ p w : List ℕ} (s : Passing n
           let z : k - 1 + 1 ≡ k = omega arith in
           ap (λ x. not (same x (R A k))) (rw z at (plan-list l (k - 1) (omega arith)))
 
-  -- all are right
+  -- all lists are right
   pub pass-all : n ≤ m → ListsCompared n A fs fr p₀ p 0
   pass-all h =
       let z : m ≡ n = omega (arith, s .most) in
@@ -96,7 +96,7 @@ module _ {n m : ℕ} {starts rows fs fr p₀ w₀ p w : List ℕ} (s : Passing n
             within = rw is (plan-within (s .listed .are) m l);
           }
 
-      -- it is wrong
+      -- the list is wrong
       pub pass-wrong : {r : Bool} {w₁ : List ℕ} → Compared n m list A w w₁ r → r ≡ false → ListsCompared n A fs fr p₀ p (m + 1)
       pass-wrong c z =
           let e = sym (c .answers) ∙ z in
@@ -106,7 +106,7 @@ module _ {n m : ℕ} {starts rows fs fr p₀ w₀ p w : List ℕ} (s : Passing n
             stores = λ q. absurd (omega arith);
           }
 
-      -- it is right
+      -- the list is right
       module _ {r : Bool} {w₁ : List ℕ} {q : ℕ} (c : Compared n m list A w w₁ r) (z : r ≡ true) (lw : length w₁ ≡ length w) (first : q ≡ head0 list)
         where
           right : list ≡ R A (m + 1)

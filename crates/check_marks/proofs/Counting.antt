@@ -137,7 +137,7 @@ module _ {n m : ℕ} {A : Pattern} {fs fr w₀ w : List ℕ} {c count : ℕ} (s 
               room = rw lw (s .room);
             }
 
-  -- all are counted
+  -- all rows are counted
   pub count-stop : {w₁ : List ℕ} → Changed n (m + 1) w₁ w₀ → c ≡ 0 → Counted n m A w₁ w count
   count-stop {w₁} g z =
       let whole = makes-end (rw (chain-end w n c (s .left) (s .siblings .chain) z) at (s .makes)) in

@@ -69,6 +69,6 @@ module _ {j : ℕ} {f : ℕ → List ℕ} where
       there {a} {b} m k i t =
           ⊎-elim (λ (u : i ∈ acc). k .acc-in i u) (λ (u : (d : ℕ) × ((d ∈ cs) × (i ∈ f d))). k .hands-in (u .0) i (u .1 .0) (u .1 .1)) (m .made i t)
 
-  -- it never exceeds n rows
+  -- the list never exceeds n rows
   pub makes-few : {n : ℕ} {cs acc whole : List ℕ} → ((i : ℕ) → i ∈ whole → i ≤ n) → Makes j f cs acc whole → length acc ≤ n
   makes-few {n} {cs} {acc} h m = omega (arith, asc-length n j acc (m .asc) (λ i t. h i (m .acc-in i t)))

@@ -94,7 +94,7 @@ module _ {n j c len : ℕ} {fs fr w₀ x₀ y₀ w x y : List ℕ} {d turn count
       pub falls-marked : getD w′ (n + d) 0 < d
       falls-marked = rw next-link falls
 
-      -- and joined
+      -- and they are joined
       pub joins : {x′ y′ : List ℕ} {count′ : ℕ} → Holds (1 - turn) count′ x′ y′ (merge (held turn count x y) more)
           → length x′ ≡ length x → length y′ ≡ length y → length w′ ≡ length w
           → State n j c len fs fr w₀ x₀ y₀ w′ x′ y′ (getD w′ (n + d) 0) (1 - turn) count′

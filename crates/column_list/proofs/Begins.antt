@@ -70,7 +70,7 @@ module _ {n m : ℕ} {starts rows fs fr w x y : List ℕ} (g : Gatherable n m st
   pub linked : Linked n (getD w (m + 1) 0) fs w
   linked = record { children = hung A m (m + 1); siblings = siblings (g .next) }
 
-  -- its list is stored
+  -- the child's list is stored
   pub longest-stands : {d : ℕ} → getD w (m + 1) 0 ≢ 0 → Longest n (getD w (m + 1) 0) fs w d → StoredChild d fs fr
   longest-stands {d} z b = found-child (g .next) d (b .among (hung A m (m + 1)) (chain (g .next)) z) .stands
 
@@ -119,7 +119,7 @@ module _ {n m : ℕ} {starts rows fs fr w x y own more : List ℕ} (f : First n 
     pub first-len : len ≤ length x₁
     first-len = omega (arith, u .counts, long, first-fits)
 
-    -- one child
+    -- the column has one child
     pub single : getD w (n + getD w (m + 1) 0) 0 ≡ 0 → Gathers n m (A g) w w x₁ y 0 len
     single q = rw (u .counts) (holds g (merge own more) x₁ (u .joins) first-fits whole)
       where

@@ -47,7 +47,7 @@ numbers-few job p = omega (arith, lists-few (p .few) (p .lists))
 -- ---- writing them one after the other
 
 module _ (job : Job) (d₀ : List ℕ) where
-  -- of the key these numbers are left, from place k of d on
+  -- these numbers of the key are left, and go to the places of d from k on
   abbrev pub Left : List ℕ → List ℕ → ℕ → Type 0
   Left xs d k = Writes (encode (keyNumbers job)) d₀ 0 (encode xs) d k
 

@@ -15,7 +15,7 @@ pub made-refused : {job : Job} {before lent : Lent} {r : Answer} → r .number �
     → Made job before lent r
 made-refused z e = record { done = λ q. absurd (z q); refused = λ q. e }
 
--- what it left is cleared
+-- the slices are cleared after it
 pub made-cleared : {job : Job} {before lent after : Lent} {r : Answer} → Made job before lent r → Alike before lent → r .number ≢ 0
     → after ≡ allZero lent
     → _≡_ {A = Outcome Lent} (record { answer = r; lent = after }) (analysed job before)

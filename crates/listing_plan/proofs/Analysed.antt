@@ -70,7 +70,7 @@ module _ (job : Job) (lent : Lent) {r : Answer} {after : Lent} (e : _≡_ {A = O
     answer-is : analysed job lent .answer ≡ r
     answer-is = sym (ap (λ (o : Outcome Lent). o .answer) e)
 
-    -- its refusal's line
+    -- the line of its refusal is printed
     pub refused-printed : r .number ≢ 0 → printedFrom job lent ≡ refusalLine r
     refused-printed z = ap (jobPrinted job) answer-is ∙ refusal-printed job r (omega arith)
 

@@ -14,7 +14,7 @@ module _ (order pops starts rows : List ℕ) where
   abbrev pub roomBehind : ℕ → ℕ
   roomBehind k = roomAt (popsAt pops (suc k)) (rowsAt starts order (suc k)) (heldAt starts order pops k)
 
-  -- its line
+  -- the line of that step
   unfoldable pub lineBehind : ℕ → List ℕ
   lineBehind k = printed (decimalOf (getD order k 0)) (getD pops k 0 ∷ roomBehind k ∷ columnOf starts rows (getD order k 0))
 

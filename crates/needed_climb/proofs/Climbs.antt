@@ -129,7 +129,7 @@ module _ {i k t₀ t c : ℕ} {p₀ w₀ p w : List ℕ} (s : Climbing i k p₀ 
                   (below-or (parent A c) i),
             )
 
-    -- its parent is row i
+    -- the column's parent is row i
     pub go-new : getD p (c - 1) 0 ≡ 0 → Climb i k p₀ w₀ t₀ (set p (c - 1) i) (set w c i) (t + 1) i
     go-new e =
         on (set p (c - 1) i) i (here .below) (omega arith) (length-set p (c - 1) i) (λ x z. getD-set-other p (c - 1) x i 0 z)
@@ -146,6 +146,6 @@ module _ {i k t₀ t c : ℕ} {p₀ w₀ p w : List ℕ} (s : Climbing i k p₀ 
     pub go-up : getD p (c - 1) 0 ≢ 0 → (c < getD p (c - 1) 0) × (getD p (c - 1) 0 ≤ i)
     go-up e = let o = old (s .n) (s .pattern) (s .start) e in (omega (arith, o .0, o .1 .0), omega (arith, o .0, o .1 .1))
 
-    -- its parent is stored already
+    -- the column's parent is stored already
     pub go-old : getD p (c - 1) 0 ≢ 0 → Climb i k p₀ w₀ t₀ p (set w c i) (t + 1) (getD p (c - 1) 0)
     go-old e = on p (getD p (c - 1) 0) (go-up e .0) (go-up e .1) refl (λ x z. refl) (λ n A a. let q = old n A a e .0 in (q, sym q))

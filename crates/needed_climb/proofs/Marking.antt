@@ -69,7 +69,7 @@ module _ {n i c t : ℕ} {A : Pattern} {p w : List ℕ} (r : Row n i A p w t c) 
     range : (c < i) × (i ≤ n)
     range = R-range good c i m
 
-    -- its parent, from the number at its place
+    -- the column's parent, from the number at its place
     pub parent-new : getD p (c - 1) 0 ≡ 0 → parent A c ≡ i
     parent-new h =
         let l = parent-least good c i m in

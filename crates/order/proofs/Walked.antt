@@ -99,7 +99,7 @@ module _ {mark : ℕ} {parents factor starts list counts : List ℕ} (lying : Li
     fits = omega arith;
   }
 
-  -- what it writes
+  -- what the walk writes
   pub walk-wrote : (order : List ℕ) {order′ : List ℕ} → length order ≡ n → order′ ≡ sets order 0 (kidsSteps starts list 0)
       → order′ ≡ orderIn mark parents factor
   walk-wrote order e q =

@@ -96,7 +96,7 @@ module _ (low high : ℕ) (s : List ℕ) (at : ℕ) {r : Reading} (e : r ≡ rea
   pub field-read : {v next : ℕ} → r ≡ Found v next → field low high s at ≡ got v next
   field-read g = reading-found (field low high s at) e g
 
-  -- its range, and the place behind it
+  -- the field is in its range, and ends within the bytes
   pub field-found : {v next : ℕ} → r ≡ Found v next → fields.Found low high s at v next
   field-found {v} {next} g = fields.field-got low high s at v next (field-read g)
 

@@ -51,7 +51,7 @@ module _ {n : ℕ} {s : List ℕ} {j count at t : ℕ} {rows₀ rows : List ℕ}
         many = λ h. absurd (h refl);
       }
 
-  -- all are read
+  -- all rows are read
   pub quick-stop : left ≡ 0 → QuickRead n s j count at t rows₀ rows k
   quick-stop z =
       let a = x .counted in

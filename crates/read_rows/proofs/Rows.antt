@@ -35,7 +35,7 @@ row-narrow few h g = omega arith
 
 -- ---- rows read so far
 
--- none read yet
+-- no row is read yet
 pub rows-start : (n : ℕ) (s : List ℕ) (j count at t : ℕ) (rows : List ℕ) → at ≤ length s → j ≤ n → RowsRead n s j count at t rows rows at j count t
 rows-start n s j count at t rows h g =
     record { list = []; whole = onto-nil _; counted = omega arith; placed = omega arith; paced = omega arith; inside = h; high = g; kept = refl }

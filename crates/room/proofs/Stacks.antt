@@ -72,7 +72,7 @@ module _ (factor order pops : List ℕ) where
       rows-here : rowsAt factor order (suc k) ≡ r
       rows-here = ap (rowsIn factor) (column-at order k) ∙ sym (rows .same)
 
-      -- no sum exceeds that of so many largest fronts
+      -- the next step pops no more than is held, and every sum in below is small
       pub stacked-over : Over below depth (getD pops k 0) r
       stacked-over = record {
         enough = enough;

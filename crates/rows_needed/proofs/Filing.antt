@@ -88,7 +88,7 @@ module _ {n i c e q : ℕ} {starts rows w : List ℕ} {P P′ : ℕ
       ended : (r : ℕ) → Points n starts rows w′ e r → ⊥
       ended r z = omega (arith, m .placed, z .0)
 
-  -- it goes to the front of the bucket of its next row
+  -- the column goes to the front of the bucket of its next row
   pub file-some : q < getD starts e 0 → getD w′ (n + getD rows q 0) 0 ≡ e → getD w′ (n + n + e) 0 ≡ getD w (n + getD rows q 0) 0
       → ((r : ℕ) → r ≤ n → r ≢ getD rows q 0 → getD w′ (n + r) 0 ≡ getD w (n + r) 0) → Buckets n i starts rows w′ P′ c
   file-some g head link heads =

@@ -1,5 +1,5 @@
--- Proves the search for a row among ascending rows: a look at one place tells the row's place from all on one side, so the range narrows. Once the
--- range is one place, the row is there or nowhere.
+-- Proves the search for a row among ascending rows: a look at one place rules out all places on one side, so the range narrows. Once the range is one
+-- place, the row is there or nowhere.
 -- Assumes nothing.
 use Prim.Native.Nat.{ℕ, zero, suc, _+_, _<_, _≤_}
 use mathlib.Core.Path.{_≡_}

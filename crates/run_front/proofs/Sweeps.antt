@@ -89,7 +89,7 @@ module _ {column : ℕ} {rows update : List ℕ} {found i : ℕ} (s : Swept colu
         go (inr m) = found-nowhere ascending b (λ l. differ-from rows update place i none l h) m
 
 module _ {column : ℕ} {rows update : List ℕ} (ascending : Asc 0 update) where
-  -- so many rows are at the next places
+  -- this many rows are equal at the next places
   swept-rows : {found i : ℕ} (count : ℕ) → Swept column rows update found i → found + count ≤ length rows → i + count ≤ length update
       → ((k : ℕ) → k < count → getD rows (found + k) 0 ≡ getD update (i + k) 0) → Swept column rows update (found + count) (i + count)
   swept-rows {found} {i} zero s l u e = let p : found + 0 ≡ found = omega arith in let q : i + 0 ≡ i = omega arith in rw (p, q) s

@@ -30,7 +30,7 @@ pub record Same (a b : List ℕ) (count : ℕ) : Type 0 where
   pub in-second : count ≤ length b
   pub same : (k : ℕ) → k < count → getD a k 0 ≡ getD b k 0
 
--- exactly so many first rows are equal: the next rows differ, or one list has ended
+-- exactly `count` first rows are equal: the next rows differ, or one list has ended
 pub record Alike (a b : List ℕ) (count : ℕ) : Type 0 where
   pub first : Same a b count
   pub differ : count < length a → count < length b → getD a count 0 ≢ getD b count 0

@@ -11,7 +11,7 @@ use Rattle.run_held.specs.Record.{steppedOf, Takes}
 abbrev pub Numbers : Type 0
 Numbers = ℕ × (ℕ × (ℕ × (ℕ × Unit {0})))
 
--- each is a number of 64 bits
+-- each of the four is a number of 64 bits
 pub record Fit (m : Numbers) : Type 0 where
   pub pops : m .0 < 2 ^ 64
   pub popped : m .1 .0 < 2 ^ 64

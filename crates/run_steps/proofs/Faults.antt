@@ -57,7 +57,7 @@ module _ (n : ℕ) (starts rows columns pops : List ℕ) (room : ℕ) (stack : L
     known : (leb 1 (columnAt columns (suc done)) && leb (columnAt columns (suc done)) n) ≡ true
     known = rw (column-at columns done, le-leb 1 c (column .low), le-leb c n (column .high))
 
-    -- it pops more than is held
+    -- the step pops more than is held
     pub fault-few : held .count < off → 21 ≡ fault
     unfolding stepFault
     fault-few h = rw (known, pops-at call done, held-length stack (held .count), lt-ltb (held .count) off h, stepFault)

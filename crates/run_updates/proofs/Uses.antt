@@ -41,7 +41,7 @@ module _ {n : ℕ} {starts rows stack : List ℕ} {held : Held} {pops c : ℕ} (
   total-top : 0 < held .count → held .entries ≡ t (length (columnOf starts rows top)) + total n starts rows rest
   total-top h = over .kept .entries-are ∙ (rw (held-top stack (held .count) h) (total-cons n starts rows top rest))
 
-  -- a step takes off no more than is held
+  -- a step pops no more than is held
   pub top-within : {u update : ℕ} → 0 < held .count → u ≡ top → update ≡ t (length (columnOf starts rows u)) → update ≤ held .entries
   top-within h i e = omega (arith, rw i at e, total-top h)
 

@@ -39,7 +39,7 @@ module _ {mark : ℕ} {factor list₀ work₀ list work : List ℕ} {scratch₀ 
     abbrev e : ℕ
     e = getD work₀ (j + 1) 0
 
-    -- its own list
+    -- the list of the column itself
     sorted : sortedIn mark factor list work j w k ≡ arrangedIn mark factor kids n j
     sorted = rw (here pre inv more) (sorted-arranged (pre .family) (part w k work) j (inv .low) more (known pre inv more))
 

@@ -30,7 +30,7 @@ pub record RowsRead (text : List ℕ) (at t : ℕ) (rows₀ rows : List ℕ) (k 
   pub inside : k ≤ length text
   pub kept : rows ≡ sets rows₀ t (map narrowed list)
 
--- none yet
+-- no number is read yet
 pub rows-start : (text : List ℕ) (at t : ℕ) (rows : List ℕ) → at ≤ length text → RowsRead text at t rows rows at 0
 rows-start text at t rows h =
     record { list = []; whole = behind-none _; after = refl; counted = refl; paced = omega arith; inside = h; kept = refl }

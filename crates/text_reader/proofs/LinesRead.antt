@@ -40,7 +40,7 @@ pub record LinesRead (text : List ℕ) (n : ℕ) (starts₀ rows₀ starts rows 
   pub started : starts ≡ sets starts₀ 0 (startsFrom 0 (textLists text j))
   pub kept : rows ≡ sets rows₀ 0 (map narrowed (flat (textLists text j)))
 
--- none yet: the first start is stored
+-- no line is read yet: the first start is stored
 pub lines-start : (text : List ℕ) (n : ℕ) (starts rows : List ℕ) {at : ℕ} → LineTo text 0 at
     → LinesRead text n (set starts 0 0) rows (set starts 0 0) rows 0 0 at
 unfolding least flat startsFrom
@@ -135,7 +135,7 @@ module _ {text : List ℕ} {n : ℕ} {starts₀ rows₀ starts rows : List ℕ} 
           kept = more-kept;
         })
 
-  -- all lines
+  -- all lines are read
   module _ (e : n ≡ textHead text .n) (l : n ≤ j) where
     all-read : j ≡ textHead text .n
     all-read = let d = x .done in omega arith

@@ -24,7 +24,7 @@ module _ (text : List ℕ) where
   unfolding textLists upTo
   lists-none = refl
 
-  -- one column more
+  -- one line more gives one column more
   pub lists-more : (j : ℕ) → textLists text (suc j) ≡ textLists text j ++ (rowsOfLine (numbersAt text (suc (suc j))) ∷ [])
   unfolding textLists
   lists-more j = map-upTo (λ i. rowsOfLine (numbersAt text (suc i))) j

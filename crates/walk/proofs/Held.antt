@@ -92,7 +92,7 @@ module _
               last = omega (arith, behind .place);
             }
 
-        -- so either can be done
+        -- so either block can be done
         pub next-task : Task starts list counts c count place (length d) (ownSteps starts list c)
         next-task = child-task (inv .later) more r (omega (arith, two-fit, inv .long, inv .room))
 

@@ -65,7 +65,7 @@ module _ {starts list counts : List ℕ} {j e i a : ℕ} (later : Later starts l
   in-range : (0 < getD list i 0) × (getD list i 0 < length counts)
   in-range = later .laid .known j (getD list i 0) (later .known) child
 
-  -- its descendants and itself are its steps
+  -- the sibling's descendants and itself are its steps
   own : getD counts (getD list i 0) 0 + 1 ≡ length (ownSteps starts list (getD list i 0))
   own = later .laid .counted (getD list i 0) (in-range .0) (in-range .1)
 
@@ -88,7 +88,7 @@ module _ {starts list counts : List ℕ} {j e i a : ℕ} (later : Later starts l
       place = omega (arith, r .counted, own, next-place, later .place);
     }
 
-    -- it can be done
+    -- the sibling's block can be done
     pub child-task : {room : ℕ} → a + size ≤ room → Task starts list counts c size first room (ownSteps starts list c)
     child-task h = record {
       asks = record { laid = later .laid; known = rw (r .child) (in-range .1); count = counted; fits = omega (arith, r .begins) };

@@ -48,7 +48,7 @@ module _ {n : ℕ} {starts rows : List ℕ} (few : n ≤ maxColumns) (p : Passed
           within = λ row m. let q = p .within (suc k) (omega arith) h row (rw (column-at starts rows k) m) in omega arith;
         })
 
-    -- its numbers come next
+    -- the column's numbers come next
     pub numbers-next : numbersFrom n starts rows k ≡ listNumbers (k + 1) (slice (getD starts k 0) (getD starts (k + 1) 0) rows) ++ numbersFrom n
         starts rows (k + 1)
     unfolding listsNumbers

@@ -63,7 +63,7 @@ module _ {job : Job} {order pops starts rows : List ℕ} {peak : ℕ} (w : Writa
 -- ---- writing the parts one behind the other
 
 module _ (job : Job) (order pops starts rows : List ℕ) (peak : ℕ) (d₀ : List ℕ) where
-  -- of the plan these numbers are left, from place k of d on
+  -- these numbers of the plan are left, and go to the places of d from k on
   abbrev pub Left : List ℕ → List ℕ → ℕ → Type 0
   Left xs d k = Writes (encode (wholeNumbers job order pops starts rows peak)) d₀ 0 (encode xs) d k
 

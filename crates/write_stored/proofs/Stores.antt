@@ -39,7 +39,7 @@ module _ (written before : List ℕ) {entry : List ℕ} {needed : ℕ} (w : Wrot
   same-places : length entry ≡ length before
   same-places = wrote-long w
 
-  -- they do not all fit
+  -- the bytes do not all fit
   pub finished-short : length entry < needed → {r : Answer} {after : List ℕ} → r ≡ answer 10 0 needed → after ≡ zeros entry
       → _≡_ {A = Outcome (List ℕ)} (record { answer = r; lent = after }) (stored written before)
   finished-short h a z = rw (a, z, same-places, counted) (sym (short-is written before (omega (arith, same-places, counted))))

@@ -33,11 +33,11 @@ long c = c
 abbrev made : tie.After-planned → tie.After-planned
 made c = c
 
--- it is refused
+-- the plan is refused
 abbrev refused : tie.Then3 → tie.Then3
 refused c = c
 
--- what the refusal left is cleared
+-- the slices are cleared after the refusal
 abbrev cleared : tie.After-clear-all → tie.After-clear-all
 cleared c = c
 

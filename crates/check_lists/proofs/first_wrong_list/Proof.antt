@@ -28,18 +28,18 @@ at-loop c = c
 abbrev in-loop : tie.In-loop Inv-loop μ-loop → tie.In-loop Inv-loop μ-loop
 in-loop c = c
 
--- the list is at hand
+-- the list is taken as a part
 abbrev read : tie.After-pattern-rows Inv-loop μ-loop → tie.After-pattern-rows Inv-loop μ-loop
 read c = c
 
 abbrev compared : tie.After-is-right Inv-loop μ-loop → tie.After-is-right Inv-loop μ-loop
 compared c = c
 
--- it is right
+-- the list is right
 abbrev right : tie.Else1 Inv-loop μ-loop → tie.Else1 Inv-loop μ-loop
 right c = c
 
--- its least row, the parent, is at hand
+-- its least row, the parent, is read
 abbrev named : tie.After-least Inv-loop μ-loop → tie.After-least Inv-loop μ-loop
 named c = c
 

@@ -12,7 +12,7 @@ use Rattle.check_lists.proofs.is_right.Tie as tie
 abbrev entry : tie.Start → tie.Start
 entry c = c
 
--- the pattern rows are at hand
+-- the pattern rows are taken as a part
 abbrev given : tie.After-pattern-rows → tie.After-pattern-rows
 given c = c
 
@@ -20,7 +20,7 @@ given c = c
 abbrev parental : tie.Else1 → tie.Else1
 parental c = c
 
--- it has one child
+-- the column has one child
 abbrev single : tie.Then2 → tie.Then2
 single c = c
 
