@@ -35,7 +35,7 @@ by-first : (ts us : List (RunCall → Verdict)) (call : RunCall) (lent : List �
 unfolding outcome
 by-first ts us call lent e = rw (e, outcome)
 
--- ---- 7: columns, pops or stack slice are shorter than n
+-- ---- 7: one of the columns, the pops and the stack slice has fewer than n places
 
 abbrev pub anyShort : ℕ → List ℕ → List ℕ → List ℕ → Bool
 anyShort n columns pops stack = ltb (length columns) n || ltb (length pops) n || ltb (length stack) n
@@ -51,7 +51,7 @@ module _ (n : ℕ) (columns pops stack : List ℕ) where
     pub stack-short : n ≤ length pops → ltb (length stack) n ≡ anyShort n columns pops stack
     stack-short h = rw (le-ltb (length columns) n a, le-ltb (length pops) n h)
 
-  -- none of them is shorter
+  -- none of them has fewer
   record AllLong : Type 0 where
     columns-long : n ≤ length columns
     pops-long : n ≤ length pops
