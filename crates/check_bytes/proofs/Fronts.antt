@@ -1,4 +1,4 @@
--- A plan at the front of cleared slices: each slice is the plan's list, then zeros, so it stands at their front.
+-- Proves that a plan read into cleared slices is at their fronts: each slice holds the plan's list, then zeros.
 -- Assumes nothing.
 use Prim.Native.Nat.{ℕ, _≤_}
 use mathlib.Core.Path.{_≡_, refl, ap, _∙_}
@@ -22,7 +22,7 @@ use Rattle.read_plan.specs.Plans.{PlanIn}
 use Rattle.check_judge.specs.Judged.{InFront}
 use Rattle.check_judge.proofs.Lists.{parents-count}
 
--- a list stored in a cleared slice, and the part that holds it
+-- stores a list in a cleared slice; a part then holds it
 stored : (xs l₀ : List ℕ) {l₁ l : List ℕ} → l₁ ≡ zeros l₀ → l ≡ sets l₁ 0 xs → length xs ≤ length l₀ → l ≡ thenZeros xs l₀
 stored xs l₀ c e h = e ∙ ap (λ l. sets l 0 xs) c ∙ sets-zeros xs l₀ h
 
@@ -39,7 +39,7 @@ module _ {n : ℕ} {plan : Plan} (fit : Fit n plan) (before : Lent) where
   }
 
   module _ {order pops starts rows : List ℕ} (in-them : InSlices plan before order pops starts rows) where
-    -- it stands at their front
+    -- the plan is at their fronts
     pub held-in-front : {peak : ℕ} → plan .peak ≡ peak → InFront n plan peak order pops starts rows
     held-in-front declared = record {
       held = record {
@@ -52,7 +52,7 @@ module _ {n : ℕ} {plan : Plan} (fit : Fit n plan) (before : Lent) where
       listed = rw (in-them .listed) (take-then-zeros _ (before .factorRows) refl);
     }
 
--- done: with the parents stored in front, and work cleared
+-- done: the parents are stored in front, and work is cleared
 pub done-holds : (job : Job) (plan : Plan) (before : Lent) {parents₁ parents order pops starts rows : List ℕ} → job .n ≤ length (before .parents)
     → parents₁ ≡ zeros (before .parents)
     → parents ≡ sets parents₁ 0 (map (parent (pattern job)) (upTo (job .n))) → InSlices plan before order pops starts rows

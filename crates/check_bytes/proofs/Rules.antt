@@ -1,5 +1,5 @@
--- From what the key, the reading and the judgement answer to what is known of the check. Each of them decides, or leaves it to the next; what the
--- reading keeps stands at the front of cleared slices, so that a plan that passes is left in them with zeros behind it.
+-- Proves the check's outcome from the answers of the key's test, the reading and the judgement: each decides, or leaves the answer to the next. The
+-- reading keeps its numbers in cleared slices, so a plan that passes is followed by zeros.
 -- Assumes nothing.
 use Prim.Native.Nat.{ℕ, _<_, _≤_}
 use mathlib.Core.Path.{_≡_, refl, sym, ap, _∙_}
@@ -35,7 +35,7 @@ use Rattle.check_bytes.specs.Ruled.{callOf, Checkable, Ruled, refuses, p
 use Rattle.check_bytes.proofs.Ways.{refuses-11, passes-11, refuses-12, refuses-8, from-16}
 use Rattle.check_bytes.proofs.Fronts.{in-slices, held-in-front, done-holds}
 
--- clearing leaves the lengths
+-- clearing keeps the lengths
 zero-long : (l₀ : List ℕ) {l : List ℕ} → l ≡ zeros l₀ → length l ≡ length l₀
 zero-long l₀ e = ap length e ∙ length-replicate (length l₀) 0
 
@@ -88,13 +88,13 @@ module _ (job : Job) (bytes : List ℕ) (lent : Lent) (p : first jobTests job �
 
 -- ---- from the key on
 
--- the plan begins with the job's key, and what stands behind it, from `at` on, is to be read
+-- the plan begins with the job's key, and the bytes behind it, from `at` on, are to be read
 pub record Begun (job : Job) (bytes : List ℕ) (lent : Lent) (at : ℕ) : Type 0 where
   pub asked : Checkable job lent
   pub begins : keyMatch (keyOf job) bytes ≡ Begins at
   pub each-byte : (i : ℕ) → getD bytes i 0 < 256
 
--- 11: it does not
+-- 11: the plan does not begin with the key
 pub ruled-key : {job : Job} {bytes : List ℕ} {lent : Lent} {parents order pops starts rows : List ℕ} {m : KeyMatch} {place : ℕ} {r : Answer}
     → Checkable job lent → m ≡ keyMatch (keyOf job) bytes → m ≡ Differs place → r ≡ answer 11 place 0
     → Ruled (callOf job bytes lent) parents order pops starts rows r
@@ -114,9 +114,9 @@ module _ {job : Job} {bytes : List ℕ} {lent : Lent} {at : ℕ} (begun : Begun 
   at-key : at ≡ length (keyOf job)
   at-key = begins-key (keyOf job) bytes refl (begun .begins) .1
 
-  -- what is read, is read into cleared slices
+  -- the bytes are read into cleared slices
   module _ {p₁ o₁ q₁ s₁ r₁ w₁ : List ℕ} (cleared : six p₁ o₁ q₁ s₁ r₁ w₁ ≡ allZero lent) where
-    -- these are as long as they were
+    -- the slices keep their lengths
     alike : Alike lent (six p₁ o₁ q₁ s₁ r₁ w₁)
     alike =
         let each = each-zero lent _ cleared in
@@ -129,7 +129,7 @@ module _ {job : Job} {bytes : List ℕ} {lent : Lent} {at : ℕ} (begun : Begun 
           work = zero-long (lent .work) (each .work);
         }
 
-    -- so there is room for the plan's steps and starts
+    -- so the slices have room for the plan's steps and starts
     pub plan-asked : PlanAsked (job .n) bytes at o₁ q₁ s₁
     plan-asked =
         let room = long-alike alike long in
@@ -160,7 +160,7 @@ module _ {job : Job} {bytes : List ℕ} {lent : Lent} {at : ℕ} (begun : Begun 
         unfolding planRead
         in-them = told .keeps (whole .plan) (whole .at) (ap (readPlan (job .n) bytes) at-key ∙ whole .read)
 
-        -- the slice of rows is as long as it was
+        -- the slice of rows keeps its length
         as-many : length r ≡ length (lent .factorRows)
         as-many = ap length (in-them .listed) ∙ length-sets r₁ 0 (flat (whole .plan .lists)) ∙ alike .rows
 
@@ -170,7 +170,7 @@ module _ {job : Job} {bytes : List ℕ} {lent : Lent} {at : ℕ} (begun : Begun 
             refuses (refuses-8 job bytes lent p long begins (whole .read) (omega (arith, whole .counted, as-many))
             (e ∙ ap (answer 8 0) (sym (whole .counted)))) (λ n. omega (arith, number-of e))
 
-        -- 16 to 20 and 9: its rows find room, so it stands in the slices
+        -- 16 to 20 and 9: its rows fit, so the slices hold it
         module _ (fits : count ≤ length r) where
           fit : Fit (job .n) (whole .plan)
           unfolding planRead
@@ -197,7 +197,7 @@ module _ {job : Job} {bytes : List ℕ} {lent : Lent} {at : ℕ} (begun : Begun 
               judged-plan job bytes lent p long begins (whole .read) room (whole .declared) (e (whole .plan) front)
               (λ z. done-holds job (whole .plan) lent (long .parents) (each-zero lent _ cleared .parents) (stores z) kept)
 
-      -- what was read can be judged
+      -- the plan that was read can be judged
       pub judgeable : Alike (six p₁ o₁ q₁ s₁ r₁ w₁) (six p₁ o q s r w₁) → Judgeable job reading (six p₁ o q s r w₁)
       judgeable same = record {
         passes = p;
@@ -205,7 +205,7 @@ module _ {job : Job} {bytes : List ℕ} {lent : Lent} {at : ℕ} (begun : Begun 
         long = long-alike same (long-alike alike long);
       }
 
-      -- and what followed is known of the check
+      -- the answer that followed decides the check
       pub ruled : {parents : List ℕ} {a : Answer} → Followed job reading p₁ o q s r parents a → Ruled (callOf job bytes lent) parents o q s r a
       ruled (fault number place f e) = ruled-faulty f e
       ruled (over peak count f h e) = ruled-rows f h e

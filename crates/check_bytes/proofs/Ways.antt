@@ -1,4 +1,4 @@
--- The outcome of a check by the way that its tests go: each test that is made decides, or leaves it to the next.
+-- Proves the outcome of a check for each way through its tests: each test refuses, or leaves the answer to the next one.
 -- Assumes nothing.
 use Prim.Native.Nat.{ℕ, _<_, _≤_}
 use mathlib.Core.Path.{_≡_, refl, sym, ap, _∙_}
@@ -123,7 +123,7 @@ module _ (job : Job) (bytes : List ℕ) (lent : Lent) where
           from-16 l =
               from-8 ∙ first-passes _ _ call (of-plan-got call _ read ∙ over-passes-iff (length (lent .factorRows)) _ _ zeroed .1 l) ∙ same-tests
 
--- what is known once the tests are made is the outcome once the slices are cleared
+-- what is known after the tests gives the outcome once the slices are cleared
 module _ {job : Job} {bytes : List ℕ} {lent : Lent} {parents order pops starts rows : List ℕ} {r : Answer}
     (ruled : Ruled (callOf job bytes lent) parents order pops starts rows r) where
   pub way-refused : {after : Lent} → r .number ≢ 0 → after ≡ allZero lent

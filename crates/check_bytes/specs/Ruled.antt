@@ -1,4 +1,4 @@
--- What is known of a check once its tests are made, before the slices are cleared.
+-- Defines what is known of a check after its tests, before the slices are cleared.
 -- Assumes nothing.
 use Prim.Native.Nat.{ℕ, _<_, _≤_}
 use mathlib.Core.Path.{_≡_}
@@ -20,30 +20,30 @@ use Rattle.check_judge.specs.Judged.{HoldPlan, Judged}
 abbrev pub callOf : Job → List ℕ → Lent → CheckCall
 callOf job plan lent = record { job = job; plan = plan; lent = lent }
 
--- what the check of a plan's bytes stands on: a job that passed its tests, and slices that are long enough for it
+-- what the check of a plan's bytes requires: a job that passed its tests, and slices that are long enough for it
 pub record Checkable (job : Job) (lent : Lent) : Type 0 where
   pub passes : first jobTests job ≡ passed
   pub long : LongEnough (job .n) lent
 
--- a refusal that is to leave zeros; or a plan that passes and stands in the slices, and work is still to be cleared
+-- a refusal, after which the slices are to be cleared; or a plan that passes, which the slices hold, and work is to be cleared
 pub data Ruled (call : CheckCall) (parents order pops starts rows : List ℕ) (r : Answer) : Type 0 where
   refuses : first checkTests call ≡ refused r zeroed → r .number ≢ 0 → Ruled call parents order pops starts rows r
   passes : first checkTests call ≡ passed → r .number ≡ 0
       → _≡_ {A = Outcome Lent} (record { answer = r; lent = six parents order pops starts rows (zeros (call .lent .work)) }) (checkDone call)
       → Ruled call parents order pops starts rows r
 
--- a plan that was read whole, and whose rows found room, stands at the front of the slices
+-- if a plan was read whole and its rows fit, the fronts of the slices hold it
 abbrev pub HeldIfWhole : ℕ → PlanReading → List ℕ → List ℕ → List ℕ → List ℕ → Type 0
 HeldIfWhole n reading order pops starts rows =
     (peak count : ℕ) → reading ≡ Whole peak count → count ≤ length rows → HoldPlan n peak order pops starts rows
 
--- what the judgement on a reading stands on: the same, and that the slices hold the plan
+-- what judging a reading requires: the same, and that the slices hold the plan
 pub record Judgeable (job : Job) (reading : PlanReading) (lent : Lent) : Type 0 where
   pub passes : first jobTests job ≡ passed
   pub held : HeldIfWhole (job .n) reading (lent .order) (lent .pops) (lent .factorStarts) (lent .factorRows)
   pub long : LongEnough (job .n) lent
 
--- what becomes of an answer of the reading: its fault, or rows without room, or the judgement on the plan, which stores the parents where it passes
+-- what follows a reading: its fault, or 8 for rows that do not fit, or the judgement on the plan, which stores the parents of a plan that passes
 pub data Followed (job : Job) (reading : PlanReading) (parents₀ order pops starts rows parents : List ℕ) (r : Answer) : Type 0 where
   fault : (number place : ℕ) → reading ≡ Faulty number place → r ≡ answer number place 0
       → Followed job reading parents₀ order pops starts rows parents r

@@ -1,4 +1,4 @@
--- A plan as slices hold it: its steps are of known columns, and the test of repeats is made on them.
+-- Proves that the steps of a plan held in slices name known columns, and that the test for repeats reads those steps.
 -- Assumes nothing.
 use Prim.Native.Nat.{ℕ, _≤_}
 use mathlib.Core.Path.{_≡_, ap, _∙_}

@@ -1,4 +1,4 @@
--- The test of a plan's lists as slices hold them; where it passes, the parents that it has stored are the job's, and the tests of the tree are left.
+-- Proves the test of a plan's lists held in slices: if it passes, the parents that it stored are the job's, and the tests of the tree are left.
 -- Assumes nothing.
 use Prim.Native.Nat.{ℕ, _+_, _≤_}
 use mathlib.Core.Path.{_≡_, sym, ap, _∙_}
@@ -57,7 +57,7 @@ module _ (job : Job) (valid : first jobTests job ≡ passed) (plan : Plan) {peak
       passes-17 z = at-passes 17 (e (plan .lists) plan-lists) z
 
     module _ (right : listTest job plan ≡ passed) where
-      -- the parents are stored in the front of their slice
+      -- the front of their slice holds the parents
       module _ {limit : ℕ} (parents : List ℕ) {after : List ℕ} (limited : job .limit ≡ limit) (long : job .n ≤ length parents)
           (stored : after ≡ sets parents 0 (map (parent (pattern job)) (upTo (job .n))))
         where
@@ -74,7 +74,7 @@ module _ (job : Job) (valid : first jobTests job ≡ passed) (plan : Plan) {peak
             parents-are = parents-are;
           }
 
-          -- what the tests of the tree ask
+          -- what the tests of the tree require
           pub tree-given : {work : List ℕ} → workLength (job .n) ≤ length work
               → TreeGiven limit peak (take (job .n) after) (take (job .n) order) (take (job .n) pops) (take (job .n + 1) fstarts) work
           tree-given h = record {
@@ -82,7 +82,7 @@ module _ (job : Job) (valid : first jobTests job ≡ passed) (plan : Plan) {peak
             room = rw (parents-count (parent (pattern job)) (job .n) parents-are) h;
           }
 
-          -- they are left, and their answer is the plan's
+          -- the tests of the tree are left, and their answer is the plan's
           pub left-to-tree : {r : Answer}
               → TreeJudged limit peak (take (job .n) after) (take (job .n) order) (take (job .n) pops) (take (job .n + 1) fstarts) r
               → r ≡ ruling (first (judgeTests job) plan) peak

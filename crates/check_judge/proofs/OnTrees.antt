@@ -1,4 +1,4 @@
--- A plan whose lists are R: the parents and the starts in the slices name the pattern's tree and its rows.
+-- Proves that for a plan whose lists are R, the parents and starts in the slices name the pattern's tree and its rows.
 -- Assumes nothing.
 use Prim.Native.Nat.{ℕ, _≤_}
 use mathlib.Core.Path.{_≡_, sym, ap, _∙_}

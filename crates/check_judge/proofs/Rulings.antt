@@ -1,4 +1,4 @@
--- Verdicts of tests one after the other, and the answers to them.
+-- Proves how verdicts of tests combine, one test after the other, and which answers they give.
 -- Assumes nothing.
 use Prim.Native.Nat.{ℕ, zero, suc}
 use mathlib.Core.Path.{_≡_, refl, ap, _∙_}
@@ -28,7 +28,7 @@ pub decides : {C : Type 0} (front : List (C → Verdict)) (test : C → Verdict)
     → first (front ++ (test ∷ behind)) c ≡ refused a l
 decides front test behind c ps q = first-append-passed front (test ∷ behind) c (first-passed-iff front c .1 ps) ∙ first-refuses test behind c q
 
--- a test that refuses at the place found, unless it is 0
+-- a test that refuses at the place found, or passes if that is 0
 pub at-refuses : (number p : ℕ) {q : ℕ} → p ≡ q → p ≢ 0 → refusedAt number q 0 zeroed ≡ refused (answer number p 0) zeroed
 unfolding refusedAt
 at-refuses number zero e z = absurd (z refl)
@@ -43,7 +43,7 @@ number-of e = ap (λ (a : Answer). a .number) e
 
 -- ---- what a refusal of a plan leaves
 
--- it has a number, and leaves zeros
+-- the refusal of a plan has a number other than 0, and leaves zeros
 abbrev Late : Verdict → Type 0
 Late passed = Unit {0}
 Late (refused a l) = (l ≡ zeroed) × (a .number ≢ 0)
@@ -58,7 +58,7 @@ unfolding refusedIf
 late-if true a h = (refl, h)
 late-if false a h = tt
 
--- the answer to a plan's verdict tells it: 0 where the plan passes, else the refusal
+-- the answer tells a plan's verdict: 0 if the plan passes, else the refusal
 pub data Told (v : Verdict) (peak : ℕ) (r : Answer) : Type 0 where
   refusal : v ≡ refused r zeroed → r .number ≢ 0 → Told v peak r
   clean : v ≡ passed → r ≡ answer 0 0 peak → Told v peak r

@@ -1,5 +1,5 @@
--- The tests of a plan whose lists are R: the passes over the slices find what the tests name; and an order that passes them takes off no more than is
--- held.
+-- Proves that for a plan whose lists are R, the passes over the slices find what the tests name, and that an order that passes them pops no more than
+-- is held.
 -- Assumes nothing.
 use Prim.Native.Nat.{ℕ, suc, _-_, _<_, _≤_}
 use mathlib.Core.Path.{_≡_, sym, ap, _∙_}
@@ -87,7 +87,7 @@ module _ {job : Job} {plan : Plan} {limit greatest : ℕ} {parents order pops fs
         each : (j : ℕ) → (j ∈ columnsIn (plan .steps)) ↔ ((1 ≤ j) × (j ≤ job .n))
         each j = (read (on .held) .1 j, λ (l, u). all job plan (read (on .held)) (on .unrepeated) j l u)
 
-    -- the starts in the slice are those of the lists R
+    -- the slice holds the starts of the lists R
     factor-are : fstarts ≡ startsOf (job .n) (pattern job)
     factor-are = on .held .begins ∙ ap (startsFrom 0) (list-iff job plan (on .held .fit) .0 (on .right))
 

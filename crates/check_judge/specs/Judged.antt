@@ -1,4 +1,4 @@
--- A plan that was read, as slices hold it; the tests that judge it, and the answer to their verdict.
+-- Defines a plan that was read, as slices hold it, the tests that judge it, and the answer to their verdict.
 -- Assumes nothing.
 use Prim.Native.Nat.{ℕ, _+_, _≤_}
 use mathlib.Core.Path.{_≡_}
@@ -16,7 +16,7 @@ use Rattle.papers.specs.Check.{repeatTest, listTest, subtreeTest, popsTest, tru
 use Rattle.bytes_laws.proofs.Plans.{Fit}
 use Rattle.lent.specs.Six.{LongEnough}
 
--- a plan of n columns, its numbers in their ranges; its steps and where its lists begin, in slices that are just as long
+-- slices of exactly its lengths hold the steps and the starts of a plan of n columns, whose numbers are in their ranges
 pub record PlanHeld (n : ℕ) (plan : Plan) (peak : ℕ) (order pops fstarts : List ℕ) : Type 0 where
   pub fit : Fit n plan
   pub declared : plan .peak ≡ peak
@@ -24,23 +24,23 @@ pub record PlanHeld (n : ℕ) (plan : Plan) (peak : ℕ) (order pops fstarts : L
   pub popped : pops ≡ popsIn (plan .steps)
   pub begins : fstarts ≡ startsFrom 0 (plan .lists)
 
--- the same at the front of slices, and the rows of its lists
+-- the fronts of slices hold the same, and the rows of its lists
 pub record InFront (n : ℕ) (plan : Plan) (peak : ℕ) (order pops fstarts frows : List ℕ) : Type 0 where
   pub held : PlanHeld n plan peak (take n order) (take n pops) (take (n + 1) fstarts)
   pub listed : take (length (flat (plan .lists))) frows ≡ flat (plan .lists)
 
--- some plan, in these slices
+-- these slices hold some plan
 pub record HoldPlan (n peak : ℕ) (order pops fstarts frows : List ℕ) : Type 0 where
   pub plan : Plan
   pub front : InFront n plan peak order pops fstarts frows
 
--- what 16 to 20 and 9 stand on: a job that passed 1 to 6, and some plan in slices that are long enough
+-- what 16 to 20 and 9 require: a job that passed 1 to 6, and slices that are long enough and hold some plan
 pub record PlanGiven (job : Job) (peak : ℕ) (lent : Lent) : Type 0 where
   pub valid : first jobTests job ≡ passed
   pub plan : HoldPlan (job .n) peak (lent .order) (lent .pops) (lent .factorStarts) (lent .factorRows)
   pub long : LongEnough (job .n) lent
 
--- a plan of a job that passed 1 to 6, with the parents of the job's columns; the plan has passed 16 and 17, so its lists are R
+-- a job passed 1 to 6, the slices hold the parents of its columns and a plan, and this passed 16 and 17, so its lists are R
 pub record OnTree (job : Job) (plan : Plan) (limit peak : ℕ) (parents order pops fstarts : List ℕ) : Type 0 where
   pub valid : first jobTests job ≡ passed
   pub limited : job .limit ≡ limit
@@ -49,22 +49,22 @@ pub record OnTree (job : Job) (plan : Plan) (limit peak : ℕ) (parents order po
   pub right : listTest job plan ≡ passed
   pub parents-are : parents ≡ map (parent (pattern job)) (upTo (job .n))
 
--- some job and plan so, in these slices
+-- the slices hold such a plan of some job
 pub record SomeOnTree (limit peak : ℕ) (parents order pops fstarts : List ℕ) : Type 0 where
   pub job : Job
   pub plan : Plan
   pub on : OnTree job plan limit peak parents order pops fstarts
 
--- what 18, 19, 20 and 9 stand on: these, and room
+-- what 18, 19, 20 and 9 require: such a plan, and room in work
 pub record TreeGiven (limit peak : ℕ) (parents order pops fstarts work : List ℕ) : Type 0 where
   pub plan : SomeOnTree limit peak parents order pops fstarts
   pub room : workLength (length parents) ≤ length work
 
--- 18, 19, 20, 9
+-- the tests 18, 19, 20 and 9, in this order
 unfoldable pub treeTests : Job → List (Plan → Verdict)
 treeTests job = subtreeTest job ∷ popsTest job ∷ declaredTest job ∷ (λ plan. peakTest (job .limit) (truePeak job plan)) ∷ []
 
--- 16 to 20, 9
+-- the tests 16 to 20 and 9, in this order
 unfoldable pub judgeTests : Job → List (Plan → Verdict)
 judgeTests job = repeatTest job ∷ listTest job ∷ treeTests job
 
@@ -73,7 +73,7 @@ unfoldable pub ruling : Verdict → ℕ → Answer
 ruling passed count = answer 0 0 count
 ruling (refused a leaves) count = a
 
--- r answers the tests 18, 19, 20, 9, and 16 to 20 and 9, on the plan that stands there
+-- r answers 18, 19, 20 and 9; then 16 to 20 and 9, of the plan that the slices hold
 abbrev pub TreeJudged : ℕ → ℕ → List ℕ → List ℕ → List ℕ → List ℕ → Answer → Type 0
 TreeJudged limit peak parents order pops fstarts r =
     (job : Job) (plan : Plan) → OnTree job plan limit peak parents order pops fstarts → r ≡ ruling (first (treeTests job) plan) peak
@@ -82,7 +82,7 @@ abbrev pub Judged : Job → ℕ → List ℕ → List ℕ → List ℕ → List 
 Judged job peak order pops fstarts frows r =
     (plan : Plan) → InFront (job .n) plan peak order pops fstarts frows → r ≡ ruling (first (judgeTests job) plan) peak
 
--- r answers 16 to 20 and 9, and where the plan passes the parents stand in front of what lay behind them
+-- r answers 16 to 20 and 9; if the plan passes, the parents are stored at the front of their slice
 pub record Judgement (job : Job) (peak : ℕ) (parents order pops fstarts frows after : List ℕ) (r : Answer) : Type 0 where
   pub answers : Judged job peak order pops fstarts frows r
   pub stores : r .number ≡ 0 → after ≡ sets parents 0 (map (parent (pattern job)) (upTo (job .n)))

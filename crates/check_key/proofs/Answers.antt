@@ -1,5 +1,5 @@
--- The key held against the plan from its beginning: the first byte that is not there is the least place that differs, so what is found is what
--- refusal 11 says.
+-- Proves that comparing the key with the plan's beginning finds what refusal 11 names: the first byte that differs is at the least place that
+-- differs.
 -- Assumes nothing.
 use Prim.Native.Nat.{ℕ, zero, suc, _+_, _-_, _<_, _≤_}
 use mathlib.Core.Bool.{true, false}
@@ -20,7 +20,7 @@ use Rattle.check_key.specs.declared.KeyMatch.{KeyMatch}
 use Rattle.check_key.proofs.Bytes.{begins-inj, begins-differs, byte-there, byte-differs, byte-lacks, Byte, there, differs}
 use Rattle.check_key.proofs.Bytes.{lacks, byte, bytes-inside}
 
--- ---- what is found is what refusal 11 says
+-- ---- what is found is what refusal 11 names
 
 module _ (key plan : List ℕ) where
   key-begins : least (keyDiffers key plan) (length key) ≡ 0 → keyMatch key plan ≡ Begins (length key)
@@ -47,7 +47,7 @@ module _ (key plan : List ℕ) where
     unfolding keyDiffers
     no-byte h = rw (lt-leb (suc i) (length plan) (omega arith), keyDiffers)
 
-  -- the rest of the key, where no byte before it differs
+  -- the rest of the key, if no byte before it differs
   rest-matches : (rest : List ℕ) (i : ℕ) → drop i key ≡ rest → i ≤ length key → least (keyDiffers key plan) i ≡ 0
       → matchFrom rest plan i ≡ keyMatch key plan
   unfolding matchFrom

@@ -1,5 +1,5 @@
--- Bytes held against a plan, byte by byte: the first byte is there or not, and if it is, the rest is held against what follows. So bytes behind
--- others are held against what follows those.
+-- Proves how bytes are compared with a plan one by one: if the first byte agrees, the rest is compared with what follows. So bytes put behind others
+-- are compared with what follows those.
 -- Assumes nothing.
 use Prim.Native.Nat.{ℕ, suc, _+_, _<_, _≤_}
 use mathlib.Core.List.{List, [], _∷_, _++_}
@@ -39,7 +39,7 @@ module _ (b : ℕ) (bytes plan : List ℕ) (at : ℕ) where
   unfolding matchFrom
   byte-lacks h = rw (le-ltb at (length plan) h, matchFrom)
 
--- whether the byte b stands at `at`
+-- tests whether the plan has the byte b at `at`
 pub data Byte (b : ℕ) (plan : List ℕ) (at : ℕ) : Type 0 where
   there : at < length plan → getD plan at 0 ≡ b → Byte b plan at
   differs : at < length plan → getD plan at 0 ≢ b → Byte b plan at
@@ -77,7 +77,7 @@ bytes-differ (x ∷ a) b plan at {place} e = go (byte x plan at) (bytes-differ a
     go (differs h f) ih = byte-differs x (a ++ b) plan at h f ∙ sym (byte-differs x a plan at h f) ∙ e
     go (lacks h) ih = byte-lacks x (a ++ b) plan at h ∙ sym (byte-lacks x a plan at h) ∙ e
 
--- bytes that are there stand inside the plan
+-- bytes that agree are within the plan
 pub bytes-inside : (a plan : List ℕ) (at : ℕ) {k : ℕ} → at ≤ length plan → matchFrom a plan at ≡ Begins k → k ≤ length plan
 unfolding matchFrom
 bytes-inside [] plan at h e = omega (arith, begins-inj e)
@@ -95,7 +95,7 @@ pub one-byte : (x : ℕ) (plan : List ℕ) (at : ℕ) → x < 128 → at < lengt
 unfolding matchFrom
 one-byte x plan at l h e = rw (bytes-small x l) (sym (byte-there x [] plan at h e))
 
--- the first i bytes are there
+-- the first i bytes agree
 pub record Bytes (bytes plan : List ℕ) (at i : ℕ) : Type 0 where
   pub same : matchFrom (drop i bytes) plan (at + i) ≡ matchFrom bytes plan at
   pub few : i ≤ length bytes

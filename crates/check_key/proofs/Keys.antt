@@ -1,4 +1,4 @@
--- A job's key: edition and n, mark and limit, the lists. Behind the first numbers the rest is held against what follows.
+-- Proves how a key is compared: edition and n, then mark and limit, then the lists, each with what follows the numbers before it.
 -- Assumes nothing.
 use Prim.Native.Nat.{ℕ}
 use mathlib.Core.List.{List, [], _∷_, _++_}

@@ -1,5 +1,5 @@
--- Numbers held against a plan one after the other: what is left to find, from the place reached, is what was to find. So one number more is one
--- rewriting, and the first that differs is the answer.
+-- Proves how numbers are compared one after the other: if a number agrees, comparing the rest from the place reached gives the same answer as
+-- comparing all. So the first number that differs decides.
 -- Assumes nothing.
 use Prim.Native.Nat.{ℕ, _≤_}
 use mathlib.Core.List.{List, [], _∷_, _++_, append-nil}
@@ -12,7 +12,7 @@ use Rattle.check_key.specs.declared.KeyMatch.the-variants.{Begins, Diffe
 use Rattle.check_key.specs.declared.KeyMatch.{KeyMatch}
 use Rattle.check_key.proofs.Bytes.{bytes-begin, bytes-differ, bytes-inside}
 
--- of the numbers `whole`, held against the plan from `at` on, xs are left at place k
+-- of the numbers `whole`, which are compared with the plan from `at` on, xs are left at place k
 pub record Left (whole plan : List ℕ) (at : ℕ) (xs : List ℕ) (k : ℕ) : Type 0 where
   pub same : matchFrom (encode xs) plan k ≡ matchFrom (encode whole) plan at
   pub inside : k ≤ length plan
@@ -22,7 +22,7 @@ module _ {whole plan : List ℕ} {at : ℕ} where
   left-all h = record { same = refl; inside = h }
 
   module _ {xs : List ℕ} {k : ℕ} (l : Left whole plan at xs k) where
-    -- bytes more
+    -- compares some bytes more
     module _ (w ys : List ℕ) (e : encode xs ≡ w ++ encode ys) {r : KeyMatch} (f : r ≡ matchFrom w plan k) where
       left-bytes : {next : ℕ} → r ≡ Begins next → Left whole plan at ys next
       left-bytes g =
@@ -35,7 +35,7 @@ module _ {whole plan : List ℕ} {at : ℕ} where
       differs-bytes : {place : ℕ} → r ≡ Differs place → Differs place ≡ matchFrom (encode whole) plan at
       differs-bytes g = sym (bytes-differ w (encode ys) plan k (sym f ∙ g)) ∙ ap (λ (x : List ℕ). matchFrom x plan k) (sym e) ∙ l .same
 
-    -- a number more
+    -- compares a number more
     module _ {x : ℕ} {ys : List ℕ} (e : xs ≡ x ∷ ys) {r : KeyMatch} (f : r ≡ matchFrom (bytesOf x) plan k) where
       pub left-number : {next : ℕ} → r ≡ Begins next → Left whole plan at ys next
       unfolding encode
@@ -45,7 +45,7 @@ module _ {whole plan : List ℕ} {at : ℕ} where
       unfolding encode
       differs-number = differs-bytes (bytesOf x) ys (ap encode e) f
 
-    -- numbers more
+    -- compares some numbers more
     module _ (zs ys : List ℕ) (e : xs ≡ zs ++ ys) {r : KeyMatch} (f : r ≡ matchFrom (encode zs) plan k) where
       pub left-numbers : {next : ℕ} → r ≡ Begins next → Left whole plan at ys next
       left-numbers = left-bytes (encode zs) ys (ap encode e ∙ encode-append zs ys) f
@@ -53,11 +53,11 @@ module _ {whole plan : List ℕ} {at : ℕ} where
       pub differs-numbers : {place : ℕ} → r ≡ Differs place → Differs place ≡ matchFrom (encode whole) plan at
       differs-numbers = differs-bytes (encode zs) ys (ap encode e ∙ encode-append zs ys) f
 
-    -- all that is left
+    -- compares all numbers that are left
     pub left-last : {r : KeyMatch} → r ≡ matchFrom (encode xs) plan k → r ≡ matchFrom (encode whole) plan at
     left-last f = f ∙ l .same
 
-    -- one number is all that is left
+    -- only one number is left
     pub left-one : {x : ℕ} {r : KeyMatch} → xs ≡ x ∷ [] → r ≡ matchFrom (bytesOf x) plan k → r ≡ matchFrom (encode whole) plan at
     unfolding encode
     left-one {x} e f = f ∙ ap (λ (w : List ℕ). matchFrom w plan k) (sym (ap encode e ∙ append-nil (bytesOf x))) ∙ l .same

@@ -1,4 +1,4 @@
--- What is asked of a job's numbers and lists, and of a place of the plan, before they are held against each other.
+-- Defines what comparing a job's numbers and lists with a plan requires of them and of the place.
 -- Assumes nothing.
 use Prim.Native.Nat.{ℕ, _≤_}
 use mathlib.Core.List.{List}
@@ -7,23 +7,23 @@ use Rattle.column_laws.specs.Tested.{Tested}
 use Rattle.groups.specs.Fits.{Fits}
 use Rattle.write_gaps.specs.ListAt.{ListAt}
 
--- a number, against what stands at a place inside the plan
+-- a number is compared from a place within the plan
 pub record NumberAsked (plan : List ℕ) (at x : ℕ) : Type 0 where
   pub fits : Fits x
   pub inside : at ≤ length plan
 
--- two numbers
+-- two numbers are compared
 pub record TwoAsked (plan : List ℕ) (at x y : ℕ) : Type 0 where
   pub first-fits : Fits x
   pub second-fits : Fits y
   pub inside : at ≤ length plan
 
--- the list of column j
+-- the list of column j is compared
 pub record ListAsked (plan : List ℕ) (at : ℕ) (rows : List ℕ) (from to j : ℕ) : Type 0 where
   pub inside : at ≤ length plan
   pub list : ListAt j rows from to
 
--- the lists of n columns
+-- the lists of n columns are compared
 pub record ListsAsked (n : ℕ) (starts rows plan : List ℕ) (at : ℕ) : Type 0 where
   pub inside : at ≤ length plan
   pub tested : Tested n starts rows

@@ -1,4 +1,4 @@
--- What holding bytes against a plan finds.
+-- Defines what comparing bytes with a plan finds.
 -- Assumes nothing.
 use Prim.Native.Nat.{ℕ, zero, suc, _+_}
 use mathlib.Core.Bool.{true, false}
@@ -10,11 +10,11 @@ use Rattle.papers.specs.Check.{keyDiffers}
 use Rattle.check_key.specs.declared.KeyMatch.{KeyMatch}
 use Rattle.check_key.specs.declared.KeyMatch.the-variants.{Begins, Differs}
 
--- the key: its length, or the place that refusal 11 names
+-- compares the key with the plan: finds its length, or the place that refusal 11 names
 unfoldable pub keyMatch : List ℕ → List ℕ → KeyMatch
 keyMatch key plan = elim (least (keyDiffers key plan) (length key)) [ zero ↦ Begins (length key) | suc p ↦ Differs (suc p) ]
 
--- any bytes, from `at` on: the place behind them, or the first byte, counted from 1, that is not theirs or not there
+-- compares bytes from `at` on: finds the place behind them, or the first place, counted from 1, at which the plan differs or has ended
 unfoldable pub matchFrom : List ℕ → List ℕ → ℕ → KeyMatch
 matchFrom [] plan at = Begins at
 matchFrom (b ∷ bytes) plan at =

@@ -1,5 +1,5 @@
--- A list that begins with given rows is these joined with the pattern rows just where all its other rows are pattern rows and no pattern row is
--- missing.
+-- Proves that a list that begins with given rows is these rows joined with the pattern rows exactly if its other rows are all pattern rows and it
+-- misses no pattern row.
 -- Assumes nothing.
 use Prim.Native.Nat.{ℕ, _+_}
 use mathlib.Core.Path.{_≡_, sym, ap, _∙_}
@@ -40,7 +40,7 @@ module _ (n j : ℕ) (w own more list : List ℕ) (marks : MarkedAre n j w own) 
   from-end : {i : ℕ} → i ∈ drop (length more) list → i ∈ list
   from-end t = rw whole (Memᴰ·append-right (take (length more) list) t)
 
-  -- the two tests hold, so the list is the one joined
+  -- both tests pass, so the list is the join
   joined-is : length (keep (isMarked n j w) list) ≡ length own → every (isMarked n j w) (drop (length more) list) ≡ true → Asc j more
       → list ≡ merge own more
   joined-is many all sm =
@@ -61,7 +61,7 @@ module _ (n j : ℕ) (w own more list : List ℕ) (marks : MarkedAre n j w own) 
       out i (inl t) = keep-from (isMarked n j w) list {i = i} (rw kept t) .0
       out i (inr t) = from-begin t
 
-  -- the list is the one joined, so the two tests hold
+  -- the list is the join, so both tests pass
   joined-many : list ≡ merge own more → length (keep (isMarked n j w) list) ≡ length own
   joined-many e =
       ap length (asc-ext j (keep (isMarked n j w) list) own (keep-asc (isMarked n j w) j list sl) so

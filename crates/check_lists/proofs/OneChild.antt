@@ -1,4 +1,4 @@
--- The list of a column with no child is its pattern rows, and that with one child is these joined with what the child hands on.
+-- Proves that the list of a column without a child is its pattern rows, and with one child these joined with what the child hands on.
 -- Assumes nothing.
 use Prim.Native.Nat.{ℕ, _+_, _<_}
 use mathlib.Core.Path.{_≡_, refl, ap, _∙_}
@@ -47,7 +47,7 @@ module _ {n m : ℕ} {list starts rows fs fr w own : List ℕ} (c : Comparable n
       one-joined : merge own more ≡ R A (m + 1)
       one-joined = rw h (makes-end (makes-join (rw (only-child (c .next) z q) at (own-makes (c .next) o))))
 
-      -- a list that begins with its rows
+      -- a list that begins with the child's rows
       module _ (b : Begins list more) where
         pub addable : Addable n list (length more) own w
         addable = record { own-markable = own-markable (c .next) o; list-markable = list-markable c refl; place = b .long }

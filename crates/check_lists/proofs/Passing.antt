@@ -1,5 +1,5 @@
--- The loop over the lists of a plan: those of the columns up to m are right, so what is stored is what the columns' own lists would leave, and the
--- next can be held against R(m + 1).
+-- Proves the steps of the loop over a plan's lists: those of the columns up to m are right, so the slices hold what storing R would leave, and the
+-- next list can be compared with R(m + 1).
 -- Assumes nothing.
 use Prim.Native.Nat.{ℕ, suc, _+_, _-_, _<_, _≤_}
 use mathlib.Core.Path.{_≡_, refl, sym, ap, _∙_}
@@ -28,7 +28,7 @@ use Rattle.check_marks.specs.Marked.{Comparable, Compared}
 use Rattle.check_lists.specs.Lists.{HoldLists, wrong, FirstWrong, ListsComparable, ListsCompared}
 use Rattle.check_lists.proofs.Plans.{starts-long, first-start, plan-part, plan-list, plan-ascending, plan-within, stands-fits, stands}
 
--- whether column j of two slices is another than R(j)
+-- tests whether column j of two slices differs from R(j)
 abbrev wrongIn : Pattern → List ℕ → List ℕ → ℕ → Bool
 wrongIn A fs fr j = not (same (columnOf fs fr j) (R A j))
 
@@ -65,7 +65,7 @@ module _ {n m : ℕ} {starts rows fs fr p₀ w₀ p w : List ℕ} (s : Passing n
   pub long-p : length p ≡ length p₀
   long-p = ap length (s .parents-are) ∙ length-sets p₀ 0 (map (parent A) (upTo m))
 
-  -- the least column of the slices is that of the lists
+  -- the first wrong column in the slices is that of the lists
   least-of : (r : ℕ) → r ≡ least (wrongIn A fs fr) n → FirstWrong n A fs fr r
   least-of r e lists l = e ∙ least-same (wrongIn A fs fr) (wrong A lists) n agree
     where
@@ -74,7 +74,7 @@ module _ {n m : ℕ} {starts rows fs fr p₀ w₀ p w : List ℕ} (s : Passing n
           let z : k - 1 + 1 ≡ k = omega arith in
           ap (λ x. not (same x (R A k))) (rw z at (plan-list l (k - 1) (omega arith)))
 
-  -- all are right
+  -- all lists are right
   pub pass-all : n ≤ m → ListsCompared n A fs fr p₀ p 0
   pass-all h =
       let z : m ≡ n = omega (arith, s .most) in
@@ -87,7 +87,7 @@ module _ {n m : ℕ} {starts rows fs fr p₀ w₀ p w : List ℕ} (s : Passing n
     pass-part = plan-part (s .listed .are) m l
 
     module _ {list : List ℕ} (is : list ≡ columnOf fs fr (m + 1)) where
-      -- its list can be held against R(m + 1)
+      -- its list can be compared with R(m + 1)
       pub pass-next : Comparable n m list starts rows fs fr w
       pass-next =
           record {
@@ -96,7 +96,7 @@ module _ {n m : ℕ} {starts rows fs fr p₀ w₀ p w : List ℕ} (s : Passing n
             within = rw is (plan-within (s .listed .are) m l);
           }
 
-      -- it is wrong
+      -- the list is wrong
       pub pass-wrong : {r : Bool} {w₁ : List ℕ} → Compared n m list A w w₁ r → r ≡ false → ListsCompared n A fs fr p₀ p (m + 1)
       pass-wrong c z =
           let e = sym (c .answers) ∙ z in
@@ -106,7 +106,7 @@ module _ {n m : ℕ} {starts rows fs fr p₀ w₀ p w : List ℕ} (s : Passing n
             stores = λ q. absurd (omega arith);
           }
 
-      -- it is right
+      -- the list is right
       module _ {r : Bool} {w₁ : List ℕ} {q : ℕ} (c : Compared n m list A w w₁ r) (z : r ≡ true) (lw : length w₁ ≡ length w) (first : q ≡ head0 list)
         where
           right : list ≡ R A (m + 1)

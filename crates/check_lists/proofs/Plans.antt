@@ -1,4 +1,4 @@
--- A plan's lists in two slices: they are laid one behind the other, so column j of the slices is the j-th of them, in its range.
+-- Proves that a plan's lists follow one another in two slices: the list of column j in the slices is the plan's j-th list, in its range.
 -- Assumes nothing.
 use Prim.Native.Nat.{ℕ, suc, _+_, _-_, _<_, _≤_}
 use mathlib.Core.Path.{_≡_, refl, sym, ap, _∙_}
@@ -66,14 +66,14 @@ module _ {n : ℕ} {lists : List (List ℕ)} {fs fr : List ℕ} (p : PlanLists n
     pub plan-list : columnOf fs fr (m + 1) ≡ getD lists m []
     plan-list = laid-there ∙ laid-column lists m (omega (arith, p .count))
 
-    -- in its range
+    -- the list is in its range
     pub plan-ascending : Asc (m + 1) (columnOf fs fr (m + 1))
     plan-ascending = rw (laid-there, add-one) (laid .ascending (suc m) (omega arith) h)
 
     pub plan-within : (i : ℕ) → i ∈ columnOf fs fr (m + 1) → i ≤ n
     plan-within = rw laid-there (laid .within (suc m) (omega arith) h)
 
--- ---- a part stored where it stands changes nothing
+-- ---- storing a part over itself changes nothing
 
 sets-part : (s e : ℕ) (l : List ℕ) → s ≤ e → e ≤ length l → l ≡ sets l s (part s e l)
 sets-part s e l a b =
@@ -82,7 +82,7 @@ sets-part s e l a b =
     let z : s + (e - s) ≡ e = omega arith in
     sym (sets-eq (part s e l) l s (omega arith) ∙ rw (q, ← take-add s (e - s) l, z) (take-append-drop e l))
 
--- the list of column m + 1 stands where it would be stored
+-- the list of column m + 1 is already at the place where it would be stored
 module _ {m : ℕ} {fs fr : List ℕ} (q : Part m fs fr) (list : List ℕ) (is : list ≡ columnOf fs fr (m + 1)) where
   taken : list ≡ part (getD fs m 0) (getD fs (m + 1) 0) fr
   taken = is ∙ sym (column-part fs fr m)

@@ -1,4 +1,5 @@
--- The rows of R(m + 1) marked and counted: what is marked and what the children left hand on make R(m + 1), and the count is of what is marked.
+-- Proves the count of the rows of R(m + 1): the marked rows and what the children left hand on make R(m + 1), and the count is the number of marked
+-- rows.
 -- Assumes nothing.
 use Prim.Native.Nat.{ℕ, _+_, _<_, _≤_}
 use mathlib.Core.Path.{_≡_, refl, ap, _∙_}
@@ -26,11 +27,11 @@ use Rattle.column_list.proofs.Owns.{own-asc, own-makes, own-markable, own-chang
 use Rattle.check_marks.specs.Marked.{newRows, MarkableOnce, MarkedNew, MarkedAre, Counted}
 use Rattle.check_marks.proofs.Marked.{marked-none, marked-more, marked-count}
 
--- a list above j that is marked
+-- marking the rows of a list above j changes only marks
 marks-change : {n j : ℕ} {w : List ℕ} (l w′ : List ℕ) → Asc j l → w′ ≡ marked n j l w → Changed n j w w′
 marks-change {n} {j} {w} l w′ a e = rw e (changed-marked n j l w (λ i t. omega (arith, asc-above j l a t)))
 
--- the children from c on are left; acc is marked
+-- the children from c on are left, and acc is marked
 pub record Counting (n m : ℕ) (A : Pattern) (fs fr w₀ w : List ℕ) (c count : ℕ) : Type 0 where
   pub good : Below n A
   pub left : List ℕ
@@ -53,7 +54,7 @@ module _ {n m : ℕ} {starts rows fs fr w own : List ℕ} (g : Next n m starts r
   pub own-once : MarkableOnce n own w
   own-once = record { once = asc-distinct (m + 1) own (own-asc g o); markable = own-markable g o }
 
-  -- they are marked and counted
+  -- marks and counts them
   module _ {w₁ : List ℕ} {count : ℕ} (e : MarkedNew n (m + 1) own w w₁ count) where
     pub own-changed : Changed n (m + 1) w w₁
     own-changed = own-change g o (e .marks)
@@ -136,7 +137,7 @@ module _ {n m : ℕ} {A : Pattern} {fs fr w₀ w : List ℕ} {c count : ℕ} (s 
               room = rw lw (s .room);
             }
 
-  -- all are counted
+  -- all rows are counted
   pub count-stop : {w₁ : List ℕ} → Changed n (m + 1) w₁ w₀ → c ≡ 0 → Counted n m A w₁ w count
   count-stop {w₁} g z =
       let whole = makes-end (rw (chain-end w n c (s .left) (s .siblings .chain) z) at (s .makes)) in

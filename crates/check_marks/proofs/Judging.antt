@@ -1,4 +1,4 @@
--- A list held against R(m + 1): an ascending list that has as many rows, each of them a row of it, is R(m + 1).
+-- Proves that an ascending list with as many rows as R(m + 1), each of them a row of R(m + 1), is R(m + 1).
 -- Assumes nothing.
 use Prim.Native.Nat.{ℕ, _+_}
 use mathlib.Core.Path.{_≡_, sym, ap, _∙_}
@@ -21,7 +21,7 @@ use Rattle.child_lists.specs.Marks.{isMarked, Markable}
 use Rattle.column_list.proofs.Gathering.{below}
 use Rattle.check_marks.specs.Marked.{Counted, Comparable}
 
--- as many rows of an ascending list as it has, ascending, are all of it
+-- two ascending lists with as many rows are equal if each row of the one is a row of the other
 pub asc-whole : (b : ℕ) (xs ys : List ℕ) → Asc b xs → Asc b ys → ((i : ℕ) → i ∈ xs → i ∈ ys) → length xs ≡ length ys → xs ≡ ys
 asc-whole b xs ys s t into many = asc-ext b xs ys s t into (λ i m. there i m (test (member i xs)))
   where
@@ -39,7 +39,7 @@ asc-whole b xs ys s t into many = asc-ext b xs ys s t into (λ i m. there i m (t
         pick k (inr t) = into k t
 
 module _ {n m : ℕ} {A : Pattern} {w₀ w : List ℕ} {count : ℕ} (c : Counted n m A w₀ w count) (l : List ℕ) where
-  -- a list with more rows or fewer
+  -- a list with more or fewer rows
   pub not-as-many : length l ≢ count → false ≡ same l (R A (m + 1))
   not-as-many h = go (test (same l (R A (m + 1))))
     where
@@ -47,16 +47,16 @@ module _ {n m : ℕ} {A : Pattern} {w₀ w : List ℕ} {count : ℕ} (c : Counte
       go (passes e) = absurd (h (ap length (same-true l (R A (m + 1)) e) ∙ sym (c .counts)))
       go (fails e) = sym e
 
--- one that may be the column's
+-- a list that may be the column's
 module _ {n m : ℕ} {l starts rows fs fr w₀ : List ℕ} (f : Comparable n m l starts rows fs fr w₀) where
   abbrev A : Pattern
   A = columnOf starts rows
 
-  -- its rows have their places in the marks
+  -- work has places for the marks of its rows
   pub list-markable : {w : List ℕ} → length w ≡ length w₀ → Markable n l w
   list-markable e = record { most = f .within; long = rw e (f .next .stored .work-long) }
 
-  -- with as many rows as are marked it is the column's just where all are marked
+  -- a list with as many rows as are marked is the column's exactly if all its rows are marked
   pub as-many : {w : List ℕ} {count : ℕ} → Counted n m A w₀ w count → length l ≡ count → every (isMarked n (m + 1) w) l ≡ same l (R A (m + 1))
   as-many {w} c h = go (test (every (isMarked n (m + 1) w) l)) (test (same l (R A (m + 1))))
     where

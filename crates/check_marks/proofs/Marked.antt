@@ -1,5 +1,5 @@
--- Marks that are just those of an ascending list: marking the rows of another one makes them those of the two joined, which is longer by the rows
--- that were not marked.
+-- Proves that marking the rows of a second ascending list gives the marks of the two lists joined, which has as many rows more as were not marked
+-- before.
 -- Assumes nothing.
 use Prim.Native.Nat.{ℕ, _+_, _<_, _≤_}
 use mathlib.Core.Path.{_≡_, refl, _∙_}
@@ -48,7 +48,7 @@ marked-all n j (r ∷ rs) w i k m = go (List·Memᴰ·cases-cons m) (λ t. marke
 
 -- ---- more rows
 
--- no row is marked for a column whose number no mark has reached
+-- no row is marked for a column, if every mark is of an earlier one
 pub marked-none : (n j : ℕ) (w : List ℕ) → ((i : ℕ) → 1 ≤ i → getD w (n + n + i) 0 < j) → MarkedAre n j w []
 marked-none n j w h = record { sound = λ i l e. absurd (omega (arith, h i l)); all = λ i m. absurd (List·Memᴰ·not-nil m) }
 

@@ -1,4 +1,4 @@
--- Rows marked and counted: no row stands twice in a list, so a mark set for an earlier row of it does not make a later one an old one.
+-- Proves the steps of marking and counting a list: no row occurs twice in it, so marking an earlier row never makes a later row an old one.
 -- Assumes nothing.
 use Prim.Native.Nat.{ℕ, suc, _+_, _<_, _≤_}
 use mathlib.Core.Path.{_≡_, refl, sym, ap, _∙_}
@@ -16,7 +16,7 @@ use Rattle.child_lists.specs.Marks.{isMarked}
 use Rattle.child_lists.proofs.Marks.{Marking, mark-begin, mark-turn, mark-stop}
 use Rattle.check_marks.specs.Marked.{newRows, MarkableOnce, MarkedNew}
 
--- whether a row is not marked
+-- tests whether a row is not marked
 abbrev pub isNew : ℕ → ℕ → List ℕ → ℕ → Bool
 isNew n j w i = not (isMarked n j w i)
 
@@ -26,7 +26,7 @@ new-no n j w i e = rw (eq-eqb (getD w (n + n + i) 0) j e)
 new-yes : (n j : ℕ) (w : List ℕ) (i : ℕ) → getD w (n + n + i) 0 ≢ j → isNew n j w i ≡ true
 new-yes n j w i e = rw (ne-eqb (getD w (n + n + i) 0) j e)
 
--- the first k rows of the list are marked, count of them newly; the marks of the others are as they were
+-- the first k rows of the list are marked, count of them newly; the marks of the others stay
 pub record Newly (n j : ℕ) (l w₀ w : List ℕ) (count k : ℕ) : Type 0 where
   pub marking : Marking n j l w₀ w k
   pub counted : count + length (newRows n j w₀ (drop k l)) ≡ length (newRows n j w₀ l)
@@ -51,7 +51,7 @@ module _ {n j : ℕ} {l w₀ w : List ℕ} {count k : ℕ} (m : Newly n j l w₀
   here : getD w (n + n + getD l k 0) 0 ≡ getD w₀ (n + n + getD l k 0) 0
   here = m .ahead (getD l k 0) (rw split (List·Memᴰ·head refl))
 
-  -- a row that was marked
+  -- the row was marked before
   pub new-old : getD w (n + n + getD l k 0) 0 ≡ j → Newly n j l w₀ (set w (n + n + getD l k 0) j) count (k + 1)
   new-old e =
       let same : set w (n + n + getD l k 0) j ≡ w = ap (set w (n + n + getD l k 0)) (sym e) ∙ set-getD w (n + n + getD l k 0) 0 in
@@ -64,7 +64,7 @@ module _ {n j : ℕ} {l w₀ w : List ℕ} {count k : ℕ} (m : Newly n j l w₀
         ahead = λ i t. ap (λ (v : List ℕ). getD v (n + n + i) 0) same ∙ m .ahead i (later i t);
       }
 
-  -- one that was not
+  -- the row was not marked before
   pub new-mark : getD w (n + n + getD l k 0) 0 ≢ j → Newly n j l w₀ (set w (n + n + getD l k 0) j) (count + 1) (k + 1)
   new-mark e =
       let one = keep-yes (isNew n j w₀) (getD l k 0) (drop (suc k) l) (new-yes n j w₀ (getD l k 0) (λ q. e (here ∙ q))) in

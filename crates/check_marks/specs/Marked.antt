@@ -1,5 +1,5 @@
--- The rows of a list that are not marked yet; marks that are just those of a list; the rows of R(m + 1) marked and counted; and a list held
--- against R(m + 1).
+-- Defines the rows of a list that are not marked yet, marks that are exactly those of a list, the rows of R(m + 1) marked and counted, and the test
+-- of a list against R(m + 1).
 -- Assumes nothing.
 use Prim.Native.Nat.{ℕ, _+_, _≤_}
 use mathlib.Core.Path.{_≡_}
@@ -16,34 +16,34 @@ use Rattle.column_list.specs.Stored.{Next}
 abbrev pub newRows : ℕ → ℕ → List ℕ → List ℕ → List ℕ
 newRows n j work l = keep (λ i. not (isMarked n j work i)) l
 
--- a list without repeats, whose rows have their places in the marks
+-- a list without repeats; work has places for the marks of its rows
 pub record MarkableOnce (n : ℕ) (list work : List ℕ) : Type 0 where
   pub once : Distinct list
   pub markable : Markable n list work
 
--- its rows are marked, and r of them were not
+-- its rows are marked, and r of them were not marked before
 pub record MarkedNew (n j : ℕ) (list work₀ work : List ℕ) (r : ℕ) : Type 0 where
   pub counts : r ≡ length (newRows n j work₀ list)
   pub marks : work ≡ marked n j list work₀
 
--- the rows marked for column j are those of a list
+-- exactly the rows of a list are marked for column j
 pub record MarkedAre (n j : ℕ) (work l : List ℕ) : Type 0 where
   pub sound : Sound n j work l
   pub all : (i : ℕ) → i ∈ l → getD work (n + n + i) 0 ≡ j
 
--- the rows of R(m + 1) are counted, and just they are marked; of work only marks have changed
+-- count is the number of rows of R(m + 1), exactly these rows are marked, and work has changed only in marks
 pub record Counted (n m : ℕ) (A : Pattern) (work₀ work : List ℕ) (count : ℕ) : Type 0 where
   pub counts : count ≡ length (R A (m + 1))
   pub marks : MarkedAre n (m + 1) work (R A (m + 1))
   pub changed : Changed n (m + 1) work₀ work
 
--- column m + 1 comes next, and a list has rows that a column of its number may have
+-- column m + 1 comes next, and the list ascends above it, up to n
 pub record Comparable (n m : ℕ) (list starts rows fstarts frows work : List ℕ) : Type 0 where
   pub next : Next n m starts rows fstarts frows work
   pub ascending : Asc (m + 1) list
   pub within : (i : ℕ) → i ∈ list → i ≤ n
 
--- r says whether the list is R(m + 1); of work only marks have changed
+-- r says whether the list is R(m + 1); work has changed only in marks
 pub record Compared (n m : ℕ) (list : List ℕ) (A : Pattern) (work₀ work : List ℕ) (r : Bool) : Type 0 where
   pub answers : r ≡ same list (R A (m + 1))
   pub changed : Changed n (m + 1) work₀ work

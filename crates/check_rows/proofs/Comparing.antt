@@ -1,4 +1,5 @@
--- Two lists compared row by row: as long as no difference was seen, what is left of them decides. And the marked rows of a list counted one by one.
+-- Proves how two lists are compared row by row: while no difference is seen, the rows left decide. And it counts the marked rows of a list one by
+-- one.
 -- Assumes nothing.
 use Prim.Native.Nat.{ℕ, suc, _+_, _-_, _<_, _≤_}
 use mathlib.Core.Path.{_≡_, refl, sym, ap, _∙_}
@@ -18,7 +19,7 @@ use Rattle.list_laws.proofs.Members.{same-true, same-refl}
 use Rattle.list_laws.proofs.Parts.{part-last}
 use Rattle.child_lists.specs.Marks.{Markable}
 
--- lists of other lengths
+-- lists of different lengths differ
 pub other-length : (a b : List ℕ) → length a ≢ length b → false ≡ same a b
 other-length a b h = go (test (same a b))
   where
@@ -34,7 +35,7 @@ same-other : {x y : ℕ} (xs ys : List ℕ) → x ≢ y → same (x ∷ xs) (y �
 unfolding same
 same-other {x} {y} xs ys e = rw (ne-eqb x y e, same)
 
--- the first k rows were compared; alike where no difference was seen
+-- the first k rows are compared; alike says that no difference was seen
 pub record Comparing (a b : List ℕ) (alike : Bool) (k : ℕ) : Type 0 where
   pub none : alike ≡ true → same (drop k a) (drop k b) ≡ same a b
   pub seen : alike ≡ false → same a b ≡ false
@@ -67,7 +68,7 @@ module _ {a b : List ℕ} {alike : Bool} {k : ℕ} (s : Comparing a b alike k) w
       go (passes q) = q ∙ (rw (drop-of-length-le a ha, drop-of-length-le b hb, same-refl) at (s .none q))
       go (fails q) = q ∙ sym (s .seen q)
 
--- ---- rows counted of which a test holds
+-- ---- counts the rows that pass a test
 
 pub record Counts (f : ℕ → Bool) (l : List ℕ) (count k : ℕ) : Type 0 where
   pub counted : count + length (keep f (drop k l)) ≡ length (keep f l)
@@ -95,7 +96,7 @@ module _ {f : ℕ → Bool} {l : List ℕ} {count k : ℕ} (s : Counts f l count
       let whole : count + length (keep f []) ≡ length (keep f l) = rw (drop-of-length-le l h) at (s .counted) in
       omega (arith, ap length (keep-nil f))
 
--- ---- two tests, of which the first is of numbers
+-- ---- two tests, the first of them on numbers
 
 pub not-both : (x y : ℕ) (b : Bool) → x ≢ y → false ≡ (eqb x y && b)
 not-both x y b h = rw (ne-eqb x y h)

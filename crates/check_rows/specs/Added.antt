@@ -1,4 +1,4 @@
--- A list that has the pattern rows besides others, told by the marks of the pattern rows.
+-- Defines a list that adds the pattern rows to others, by the marks of the pattern rows.
 -- Assumes nothing.
 use Prim.Native.Nat.{ℕ, _≤_}
 use mathlib.Core.Path.{_≡_}
@@ -14,11 +14,11 @@ pub record Begins (list more : List ℕ) : Type 0 where
   pub long : length more ≤ length list
   pub front : take (length more) list ≡ more
 
--- whether the rows of a list that are marked are as many as the pattern rows, and all behind place p are marked
+-- tests whether as many rows of a list are marked as there are pattern rows, and all rows behind place p are marked
 abbrev pub addsOwn : ℕ → ℕ → List ℕ → ℕ → List ℕ → List ℕ → Bool
 addsOwn n j list p own work = eqb (length (keep (isMarked n j work) list)) (length own) && every (isMarked n j work) (drop p list)
 
--- pattern rows and rows of a list have their places in the marks, and p is a place of the list
+-- work has places for the marks of the pattern rows and of the list's rows, and p is a place of the list
 pub record Addable (n : ℕ) (list : List ℕ) (p : ℕ) (own work : List ℕ) : Type 0 where
   pub own-markable : Markable n own work
   pub list-markable : Markable n list work

@@ -1,4 +1,5 @@
--- The columns of the first steps, marked: the next step's column is marked just where it stood at one of them.
+-- Proves that marks find a repeated column: the columns of the first steps are marked, so the next step's column is marked exactly if one of these
+-- steps named it.
 -- Assumes nothing.
 use Prim.Native.Nat.{ℕ, suc, _+_, _-_, _<_, _≤_}
 use mathlib.Core.Path.{_≡_, refl, sym, _∙_}

@@ -1,4 +1,4 @@
--- The pops of the first steps, compared: a step is at fault just where its pops differ from what was counted for its column.
+-- Proves how the pops are compared: a step is at fault exactly if its pops differ from the counted children of its column.
 -- Assumes nothing.
 use Prim.Native.Nat.{ℕ, suc, _+_, _-_, _<_, _≤_}
 use mathlib.Core.Path.{_≡_, refl, sym, _∙_}

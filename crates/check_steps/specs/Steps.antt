@@ -1,4 +1,4 @@
--- Steps of known columns, and the step that pops more or fewer updates than its column has children.
+-- Defines steps of known columns, and a step that pops more or fewer updates than its column has children.
 -- Assumes nothing.
 use Prim.Native.Nat.{ℕ, _+_, _-_, _<_, _≤_}
 use mathlib.Core.Path.{_≡_}
@@ -14,18 +14,18 @@ use Rattle.tree.specs.Parents.{TreeIn, kidsIn}
 abbrev pub Within : ℕ → List ℕ → Type 0
 Within n order = (k : ℕ) → k < length order → (1 ≤ getD order k 0) × (getD order k 0 ≤ n)
 
--- a place of a list of known columns
+-- place i of a list of known columns
 pub record StepIn (order : List ℕ) (i : ℕ) : Type 0 where
   pub columns : Within (length order) order
   pub known : i < length order
 
--- steps of known columns, and in work a place for a mark of each column
+-- the steps name known columns, and work has a place for the mark of each
 pub record Markable (order work : List ℕ) : Type 0 where
   pub columns : Within (length order) order
   pub few : length order ≤ maxColumns
   pub room : length order < length work
 
--- a tree, as many steps of known columns with their pops, and in work places for the numbers of children
+-- a tree, as many steps of known columns with their pops, and work has places for the numbers of children
 pub record Comparable (parents order pops work : List ℕ) : Type 0 where
   pub tree : TreeIn parents
   pub columns : Within (length order) order

@@ -1,4 +1,4 @@
--- Counting: an order of n different columns has them all, and a column's subtree has one column more than it has descendants.
+-- Proves that an order of n different columns names all columns, and that a column's subtree has one column more than the column has descendants.
 -- Assumes nothing.
 use Prim.Native.Nat.{ℕ, _+_, _≤_}
 use mathlib.Core.Path.{_≡_}
@@ -22,7 +22,7 @@ use Rattle.tree.proofs.Children.{kids-lower}
 use Rattle.tree.proofs.Blocks.{block-count}
 use Rattle.check_subtrees.specs.Steps.{EachOnce}
 
--- an order of n different columns of 1 to n has each of them
+-- an order of n different columns of 1 to n names each of them
 pub order-has : {n : ℕ} {order : List ℕ} → EachOnce n order → length order ≡ n → (j : ℕ) → (j ∈ order) ↔ ((1 ≤ j) × (j ≤ n))
 order-has {n} {order} o long j = (
   o .range j,
@@ -31,7 +31,7 @@ order-has {n} {order} o long j = (
 )
 
 module _ (parents : List ℕ) (tree : TreeIn parents) (j : ℕ) (l : 1 ≤ j) (u : j ≤ length parents) where
-  -- a column's block of steps has the columns of its subtree, each once
+  -- a column's block of steps names the columns of its subtree, each once
   block-subtree : length (block (kidsIn parents) j) ≡ length (subtreeOf (parentIn parents) (length parents) j)
   unfolding block
   block-subtree =
@@ -44,7 +44,7 @@ module _ (parents : List ℕ) (tree : TreeIn parents) (j : ℕ) (l : 1 ≤ j) (u
   pub subtree-count : (counts : List ℕ) → Descendants parents counts → length (subtreeOf (parentIn parents) (length parents) j) ≡ getD counts j 0 + 1
   subtree-count counts d = omega (arith, block-subtree, block-count (kidsIn parents) (kids-lower parents tree) j l, d .each j u)
 
-  -- and no more columns than there are
+  -- a subtree has no more columns than there are
   pub subtree-few : length (subtreeOf (parentIn parents) (length parents) j) ≤ length parents
   subtree-few =
       omega (

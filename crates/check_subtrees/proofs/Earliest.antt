@@ -1,4 +1,4 @@
--- The least of several steps, 0 standing for none: it is one of them, and none of the others is less.
+-- Proves that the least of several steps, where 0 means none, is one of them, and that none of the others is less.
 -- Assumes nothing.
 use Prim.Native.Nat.{ℕ, zero, suc, _+_, _<_, _≤_, min}
 use mathlib.Core.Path.{_≡_, refl, sym}
@@ -9,7 +9,7 @@ use native.Mathlib.Numerals.{add-one}
 use Rattle.list_laws.proofs.Tests.{below-or}
 use Rattle.check_subtrees.specs.Strays.{earlier, earliest}
 
--- ---- as code tells the cases apart
+-- ---- the cases as the code tells them apart
 
 pub earlier-left : (a b : ℕ) → a ≡ 0 → b ≡ earlier a b
 unfolding earlier
@@ -45,7 +45,7 @@ earliest-all f {n} {i = i} inv u = let q : i ≡ n = omega (arith, inv .seen) in
 
 -- ---- what it is
 
--- none of f 1 to f n is a step; or r is the least of those that are
+-- either f has no step among 1 to n, or r is the least of those it has
 pub data Earliest (f : ℕ → ℕ) (n r : ℕ) : Type 0 where
   none : r ≡ 0 → ((c : ℕ) → 1 ≤ c → c ≤ n → f c ≡ 0) → Earliest f n r
   found : 0 < r → (c : ℕ) → 1 ≤ c → c ≤ n → f c ≡ r → ((d : ℕ) → 1 ≤ d → d ≤ n → (f d ≡ 0) ⊎ (r ≤ f d)) → Earliest f n r
@@ -58,7 +58,7 @@ last-too P n h last c l u = go (le-suc-iff .0 u)
     go (inr e) = rw e last
 
 module _ (f : ℕ → ℕ) (n : ℕ) where
-  -- one number more, b, which is a step or 0
+  -- takes one number more, b, which is a step or 0
   with-last : (a b : ℕ) → f (suc n) ≡ b → Earliest f n a → Earliest f (suc n) (earlier a b)
   unfolding earlier
   with-last zero zero e (none z h) = none refl (last-too (λ c. f c ≡ 0) n h e)

@@ -1,4 +1,4 @@
--- A column judged against its parent: it strays, or its steps lie within its parent's.
+-- Proves that a column either strays from its parent or keeps its steps within its parent's.
 -- Assumes nothing.
 use Prim.Native.Nat.{ℕ, _+_, _<_, _≤_}
 use mathlib.Core.Path.{_≡_, sym}
@@ -10,7 +10,7 @@ use Rattle.list_laws.proofs.Tests.{Test, passes, fails, test, below-or}
 use Rattle.check_subtrees.specs.Strays.{strayStep}
 
 module _ (par step below : ℕ → ℕ) (c : ℕ) where
-  -- ---- as code tells the cases apart
+  -- ---- the cases as the code tells them apart
 
   pub stray-root : par c ≡ 0 → 0 ≡ strayStep par step below c
   unfolding strayStep
@@ -30,7 +30,7 @@ module _ (par step below : ℕ → ℕ) (c : ℕ) where
 
   -- ---- what it says
 
-  -- the steps that c's subtree should take lie within its parent's
+  -- the steps that c's subtree should take are within its parent's
   abbrev pub Fits : Type 0
   Fits = (step c ≤ step (par c)) × (step (par c) + below c ≤ step c + below (par c))
 

@@ -1,4 +1,4 @@
--- The steps of the columns as a slice gets them, one after the other, and a column judged by what the slices hold.
+-- Proves how a slice gets the steps of the columns one after the other, and that the slices' numbers judge a column right.
 -- Assumes nothing.
 use Prim.Native.Nat.{ℕ, suc, _+_, _<_, _≤_}
 use mathlib.Core.Path.{_≡_, sym, _∙_}
@@ -28,7 +28,7 @@ pub writing-start : (order steps : List ℕ) → length steps ≡ length order +
 writing-start order steps h = record { done = λ i l. absurd (omega arith); seen = omega arith; long = h }
 
 module _ {order : List ℕ} (each : EachOnce (length order) order) where
-  -- a step's column has its place
+  -- a step's column has a place in the slice
   pub column-fits : (k : ℕ) → k < length order → getD order k 0 ≤ length order
   column-fits k h = each .range (getD order k 0) (at-place order k h) .1
 
@@ -77,7 +77,7 @@ module _ (parents steps below : List ℕ) (i : ℕ) where
       → 0 ≡ judgedAs
   none-judged = rw above at (stray-none (parentIn parents) (listed steps) (listed below) (i + 1))
 
-  -- the parent has its places, and no sum is too great
+  -- the parent's places are within the slices, and every sum fits
   pub record Fitting : Type 0 where
     pub step : p < length steps
     pub count : p < length below

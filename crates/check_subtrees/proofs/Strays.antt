@@ -1,6 +1,5 @@
--- The least step that a child strays from is the least step of a scattered subtree. Where no child strays, every subtree lies within its
--- steps, child by child from the lowest column up. Where one strays and its own subtree is in one piece, its parent's is
--- not.
+-- Proves that the least step that a child strays from is the least step of a scattered subtree: if no child strays, every subtree keeps within its
+-- steps, from the lowest column up; if one strays and its own subtree is whole, its parent's is not.
 -- Assumes nothing.
 use Prim.Native.Nat.{ℕ, zero, suc, _+_, _<_, _≤_}
 use mathlib.Core.Path.{_≡_, refl, sym, ap, _∙_}
@@ -25,7 +24,7 @@ use Rattle.check_subtrees.proofs.Judged.{Fits, Judged, within, strays, 
 use Rattle.check_subtrees.proofs.Windows.{Listing, Inside, step-range, together-inside, together-begins, inside-together}
 
 module _ {par : ℕ → ℕ} {n : ℕ} {order : List ℕ} {step below : ℕ → ℕ} (given : Listing par n order step below) where
-  -- a column whose children fit, each with its subtree inside its own steps
+  -- if the children of a column fit, and their subtrees keep within their own steps, so does the column's subtree
   inside-up : (j : ℕ) → ((c : ℕ) → par c ≡ j → Fits par step below c × Inside par step below c) → Inside par step below j
   inside-up j kids y v = go (test (eqb y j))
     where
@@ -43,7 +42,7 @@ module _ {par : ℕ → ℕ} {n : ℕ} {order : List ℕ} {step below : ℕ → 
   child-range zero z = absurd (omega (arith, given .tree .none))
   child-range (suc c) z = (omega arith, omega (arith, given .tree .above (suc c) z, given .tree .within (suc c)))
 
-  -- where no child strays from a parent before step b, all subtrees before it lie inside their steps
+  -- if no child strays from a parent before step b, all subtrees before it keep within their steps
   module _ (b : ℕ) (fit : (c : ℕ) → 0 < par c → step (par c) < b → Fits par step below c) where
     child-inside : (j : ℕ) → ((m : ℕ) → m < j → 1 ≤ m → step m < b → Inside par step below m) → 1 ≤ j → step j < b
         → (c : ℕ) → par c ≡ j → Fits par step below c × Inside par step below c
@@ -62,7 +61,7 @@ module _ {par : ℕ → ℕ} {n : ℕ} {order : List ℕ} {step below : ℕ → 
         let (a, c) = given .each j .0 (column-in order k l (omega (arith, given .long))) in
         rw e at (inside-together given j a c (all-inside j a (rw e h)))
 
-  -- a child whose subtree is in one piece fits into its parent's, if that is
+  -- a child whose subtree is whole fits into its parent's subtree if that is whole
   fits-in : (c : ℕ) → 0 < par c → Together par order (step c) → Inside par step below (par c) → Fits par step below c
   fits-in c z t inside =
       let (l, u) = child-range c z in
@@ -86,7 +85,7 @@ module _ {par : ℕ → ℕ} {n : ℕ} {order : List ℕ} {step below : ℕ → 
   parent-step : (c : ℕ) → 0 < par c → (1 ≤ step (par c)) × (step (par c) ≤ n) × (columnAt order (step (par c)) ≡ par c)
   parent-step c z = step-range given (par c) (omega arith) (given .tree .within c)
 
-  -- where no stray is placed before step b
+  -- no child strays from a parent before step b
   module _ (b : ℕ) (none-before : (c : ℕ) → 1 ≤ c → c ≤ n → (strayStep par step below c ≡ 0) ⊎ (b ≤ strayStep par step below c)) where
     fits-before : (c : ℕ) → 0 < par c → step (par c) < b → Fits par step below c
     fits-before c z h = go (judged par step below c) (none-before c (child-range c z .0) (child-range c z .1))

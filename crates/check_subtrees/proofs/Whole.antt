@@ -1,4 +1,4 @@
--- The steps and the counts as the two parts of work hold them: the columns are judged by them, and the least stray step is the answer.
+-- Proves that the two parts of work, the steps and the counts, judge the columns, and that the least stray step is the answer.
 -- Assumes nothing.
 use Prim.Native.Nat.{ℕ, _+_, _-_, _≤_}
 use mathlib.Core.Path.{_≡_, sym, ap, _∙_}

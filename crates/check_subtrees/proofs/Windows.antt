@@ -1,5 +1,5 @@
--- A subtree takes consecutive steps that end at its top's just where each of its columns lies within as many steps as it has columns: so many
--- different steps fill that window.
+-- Proves that a subtree takes consecutive steps that end at its top's exactly if all its columns are within as many steps as it has columns, since
+-- that many different steps fill the window.
 -- Assumes nothing.
 use Prim.Native.Nat.{ℕ, suc, _+_, _-_, _≤_}
 use mathlib.Core.Path.{_≡_, refl, ap, _∙_, sym}
@@ -18,7 +18,7 @@ use Rattle.order_laws.proofs.Subtrees.{subtree-is, subtree-distinct}
 use Rattle.order_laws.proofs.Steps.{slice-steps, step-of, slice-distinct}
 use Rattle.order_laws.proofs.Pieces.{Piece, together-piece, piece-together}
 
--- an order of the columns 1 to n with the step of each, and how many columns stand below each in its subtree
+-- an order of the columns 1 to n, the step of each, and the number of its descendants
 pub record Listing (par : ℕ → ℕ) (n : ℕ) (order : List ℕ) (step below : ℕ → ℕ) : Type 0 where
   pub tree : Tree par n
   pub long : length order ≡ n
@@ -27,11 +27,11 @@ pub record Listing (par : ℕ → ℕ) (n : ℕ) (order : List ℕ) (step below 
   pub stepped : (s : ℕ) → 1 ≤ s → s ≤ n → step (columnAt order s) ≡ s
   pub counted : (j : ℕ) → 1 ≤ j → j ≤ n → length (subtreeOf par n j) ≡ below j + 1
 
--- each column of j's subtree lies within the steps that should be its own
+-- each column of j's subtree is within the steps that the subtree should take
 abbrev pub Inside : (ℕ → ℕ) → (ℕ → ℕ) → (ℕ → ℕ) → ℕ → Type 0
 Inside par step below j = (y : ℕ) → Under par j y → (step y ≤ step j) × (step j ≤ step y + below j)
 
--- a column of j's subtree that is done at the first of those steps
+-- finds a column of j's subtree that is done at the first of those steps
 pub record Begins (par step below : ℕ → ℕ) (j : ℕ) : Type 0 where
   pub column : ℕ
   pub under : Under par j column
@@ -70,7 +70,7 @@ module _ {par : ℕ → ℕ} {n : ℕ} {order : List ℕ} {step below : ℕ → 
       all : (x : ℕ) → (x ∈ slice (piece .from) (step j) order) ↔ Under par j x
       all x = rw here at (piece .all x)
 
-      -- the piece has as many steps as the subtree has columns
+      -- the subtree takes as many steps as it has columns
       room : step j ≡ piece .from + below j + 1
       room =
           omega (

@@ -1,4 +1,4 @@
--- Two buffers that take turns: what is joined stands in the one whose turn it then is.
+-- Proves that the two buffers take turns: the joined list is in the buffer that is next in turn.
 -- Assumes nothing.
 use Prim.Native.Nat.{ℕ, zero, suc, _-_, _≤_}
 use mathlib.Core.Path.{_≡_, refl}
@@ -27,7 +27,7 @@ module _ {t len : ℕ} {more x y : List ℕ} (r : Roomy t len more x y) where
   pub fits-x : t ≢ 0 → length (merge (take len y) more) ≤ length x
   fits-x e = rw (second-buffer t x y e) at (r .joined-x)
 
-  -- joined from x into y
+  -- joins from x into y
   pub joined-in-y : {k : ℕ} {y′ : List ℕ} → t ≡ 0 → United (take len x) more y y′ k → Holds (1 - t) k x y′ (merge (held t len x y) more)
   joined-in-y {k} {y′} e u =
       let z : 1 - t ≢ 0 = λ q. omega arith in
@@ -37,7 +37,7 @@ module _ {t len : ℕ} {more x y : List ℕ} (r : Roomy t len more x y) where
         list = rw (second-buffer (1 - t) x y′ z, u .joins, u .counts) (front-stored y (merge (take len x) more) (fits-y e));
       })
 
-  -- joined from y into x
+  -- joins from y into x
   pub joined-in-x : {k : ℕ} {x′ : List ℕ} → t ≢ 0 → United (take len y) more x x′ k → Holds (1 - t) k x′ y (merge (held t len x y) more)
   joined-in-x {k} {x′} e u =
       let z : 1 - t ≡ 0 = omega arith in

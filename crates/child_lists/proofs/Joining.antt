@@ -1,5 +1,5 @@
--- The loop over a column's children, from its first to its last turn: what is held and the children left make the whole list, what is marked is held,
--- and only marks change.
+-- Proves the loop over a column's children from its first turn to its last: the held rows and the children left make the whole list, every marked row
+-- is held, and only marks change.
 -- Assumes nothing.
 use Prim.Native.Nat.{ℕ, _≤_}
 use mathlib.Core.Path.{_≡_, refl, sym, ap, _∙_}

@@ -1,5 +1,5 @@
--- A list made of a column's rows and what its children hand on: one child joined, one that brings nothing passed over, and the end, where
--- two ascending lists with the same numbers are one.
+-- Proves how a column's list grows: one child is joined, or is skipped since it brings nothing. At the end the held list is the whole, since two
+-- ascending lists with the same numbers are equal.
 -- Assumes nothing.
 use Prim.Native.Nat.{ℕ, _≤_}
 use mathlib.Core.Path.{_≡_, refl}
@@ -14,7 +14,7 @@ use Rattle.child_lists.specs.Joining.{Makes}
 
 module _ {j : ℕ} {f : ℕ → List ℕ} where
   module _ {c : ℕ} {cs acc whole : List ℕ} (m : Makes j f (c ∷ cs) acc whole) where
-    -- a child that brings nothing new
+    -- skips a child that brings nothing new
     pub makes-skip : ((i : ℕ) → i ∈ f c → i ∈ acc) → Makes j f cs acc whole
     makes-skip h =
         record {
@@ -49,11 +49,11 @@ module _ {j : ℕ} {f : ℕ → List ℕ} where
         made i (inl t) = inl (merge-left acc (f c) t)
         made i (inr t) = inr t
 
-  -- a child joined
+  -- joins a child
   pub makes-join : {c : ℕ} {cs acc whole : List ℕ} → Makes j f (c ∷ cs) acc whole → Makes j f cs (merge acc (f c)) whole
   makes-join {c} {cs} {acc} m = makes-skip (wider m) (λ i t. merge-right acc (f c) t)
 
-  -- where all are joined, the list is whole
+  -- once all children are joined, the list is whole
   pub makes-end : {acc whole : List ℕ} → Makes j f [] acc whole → acc ≡ whole
   makes-end {acc} {whole} m = asc-ext j acc whole (m .asc) (m .asc-whole) (m .acc-in) (λ i t. only i (m .made i t))
     where
@@ -61,7 +61,7 @@ module _ {j : ℕ} {f : ℕ → List ℕ} where
       only i (inl t) = t
       only i (inr t) = absurd (List·Memᴰ·not-nil (t .1 .0))
 
-  -- what is made is one list
+  -- two lists made so are equal
   pub makes-only : {cs acc whole other : List ℕ} → Makes j f cs acc whole → Makes j f cs acc other → whole ≡ other
   makes-only {cs} {acc} {whole} {other} m k = asc-ext j whole other (m .asc-whole) (k .asc-whole) (λ i t. there m k i t) (λ i t. there k m i t)
     where
@@ -69,6 +69,6 @@ module _ {j : ℕ} {f : ℕ → List ℕ} where
       there {a} {b} m k i t =
           ⊎-elim (λ (u : i ∈ acc). k .acc-in i u) (λ (u : (d : ℕ) × ((d ∈ cs) × (i ∈ f d))). k .hands-in (u .0) i (u .1 .0) (u .1 .1)) (m .made i t)
 
-  -- it has at most n rows all the way
+  -- the list never exceeds n rows
   pub makes-few : {n : ℕ} {cs acc whole : List ℕ} → ((i : ℕ) → i ∈ whole → i ≤ n) → Makes j f cs acc whole → length acc ≤ n
   makes-few {n} {cs} {acc} h m = omega (arith, asc-length n j acc (m .asc) (λ i t. h i (m .acc-in i t)))

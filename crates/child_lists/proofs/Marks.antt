@@ -1,4 +1,4 @@
--- Marks set and read: a place of work keeps its number or, where it is the place of a row of the list, has the column's.
+-- Proves what marking leaves in work: the place of each marked row holds the column's number, and every other place keeps its number.
 -- Assumes nothing.
 use Prim.Native.Nat.{ℕ, suc, _+_, _<_, _≤_}
 use mathlib.Core.Path.{_≡_, refl, sym, ap, _∙_}
@@ -26,7 +26,7 @@ set-cases l k v p = go (compare p k) (below-or p (length l))
     go (level e) (inl b) = inr (e, rw e (getD-set-same l k v 0 (rw e at b)))
     go (level e) (inr b) = inl (ap (λ s. getD s p 0) (set-out l k v (rw e at b)))
 
--- place p of work once the rows of l are marked
+-- what place p of work holds once the rows of l are marked
 pub marked-cases : (n j : ℕ) (l w : List ℕ) (p : ℕ)
     → (getD (marked n j l w) p 0 ≡ getD w p 0) ⊎ ((getD (marked n j l w) p 0 ≡ j) × ((i : ℕ) × ((i ∈ l) × (p ≡ n + n + i))))
 unfolding marked
@@ -43,7 +43,7 @@ marked-cases n j (r ∷ rs) w p = go (marked-cases n j rs (set w (n + n + r) j) 
     go (inl e) (inr f) = inr (e ∙ f .1, (r, (List·Memᴰ·head refl, f .0)))
     go (inr e) f = inr (e .0, (e .1 .0, (List·Memᴰ·tail (e .1 .1 .0), e .1 .1 .1)))
 
--- a mark set in sound marks is sound for what has its rows as well
+-- marking keeps marks sound, for a list that contains the old rows and the marked ones
 pub marks-sound : (n j : ℕ) (l w acc more : List ℕ) → Sound n j w acc → ((i : ℕ) → i ∈ acc → i ∈ more) → ((i : ℕ) → i ∈ l → i ∈ more)
     → Sound n j (marked n j l w) more
 marks-sound n j l w acc more s f g i h e = go (marked-cases n j l w (n + n + i))
@@ -54,7 +54,7 @@ marks-sound n j l w acc more s f g i h e = go (marked-cases n j l w (n + n + i))
     go (inl q) = f i (s i h (sym q ∙ e))
     go (inr q) = let z : i ≡ q .1 .0 = omega (arith, q .1 .1 .1) in rw z (g (q .1 .0) (q .1 .1 .0))
 
--- only marks change, to j
+-- marking changes only marks, and sets them to j
 pub changed-none : (n j : ℕ) (w : List ℕ) → Changed n j w w
 changed-none n j w = record { links = λ p h. refl; marks = λ p h. inl refl }
 
@@ -99,11 +99,11 @@ pub mark-stop : {n j : ℕ} {l w₀ w : List ℕ} {k : ℕ} → Marking n j l w�
 unfolding marked
 mark-stop {l = l} m h = rw (drop-of-length-le l h) at (m .left)
 
--- the place of a row's mark lies in work
+-- work has the place of a row's mark
 pub mark-place : {n : ℕ} {l w : List ℕ} → Markable n l w → (k : ℕ) → k < length l → n + n + getD l k 0 < length w
 mark-place {l = l} m k h = omega (arith, m .most (getD l k 0) (at-place l k h), m .long)
 
--- ---- the loop that reads them
+-- ---- the loop that tests marks
 
 module _ (n j : ℕ) (l w : List ℕ) where
   -- the rows before k are marked
@@ -128,6 +128,6 @@ module _ (n j : ℕ) (l w : List ℕ) where
   pub cover-yes : {k : ℕ} → Covering k → length l ≤ k → true ≡ every (isMarked n j w) l
   cover-yes {k} c h = sym (every-nil (isMarked n j w)) ∙ (rw (drop-of-length-le l h) at (c .left))
 
-  -- a list covered by sound marks brings nothing new
+  -- if sound marks cover a list, it brings nothing new
   pub covered-in : (acc : List ℕ) → every (isMarked n j w) l ≡ true → Sound n j w acc → (i : ℕ) → 1 ≤ i → i ∈ l → i ∈ acc
   covered-in acc e s i h m = s i h (eqb-true (getD w (n + n + i) 0) j (every-all (isMarked n j w) l .0 e i m))

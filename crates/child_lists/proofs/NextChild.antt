@@ -1,4 +1,4 @@
--- One turn of the loop over a column's children: all that child d hands on is marked already, or it is joined and marked.
+-- Proves one turn of the loop over a column's children: either all rows that child d hands on are marked already, or they are joined and marked.
 -- Assumes nothing.
 use Prim.Native.Nat.{ℕ, _+_, _-_, _<_, _≤_}
 use mathlib.Core.Path.{_≡_, refl, sym, ap, _∙_}
@@ -44,7 +44,7 @@ module _ {n j c len : ℕ} {fs fr w₀ x₀ y₀ w x y : List ℕ} {d turn count
   makes : Makes j (handedOn fs fr) (d ∷ next .rest) (held turn count x y) (s .whole)
   makes = rw (next .is) at (s .makes)
 
-  -- what d hands on
+  -- the rows that d hands on
   module _ {more : List ℕ} (e : more ≡ handedOn fs fr d) where
     new-row : (i : ℕ) → i ∈ more → i ∈ s .whole
     new-row i m = s .makes .hands-in d i here (rw e at m)
@@ -63,7 +63,7 @@ module _ {n j c len : ℕ} {fs fr w₀ x₀ y₀ w x y : List ℕ} {d turn count
         let ly = s .long-y in
         record { held-x = omega arith; held-y = omega arith; joined-x = rw e (omega arith); joined-y = rw e (omega arith) }
 
-    -- all its rows are marked
+    -- if all its rows are marked
     pub passes-over : true ≡ every (isMarked n j w) more → State n j c len fs fr w₀ x₀ y₀ w x y (getD w (n + d) 0) turn count
     passes-over q =
         record {
@@ -83,7 +83,7 @@ module _ {n j c len : ℕ} {fs fr w₀ x₀ y₀ w x y : List ℕ} {d turn count
           long-y = s .long-y;
         }
 
-    -- its rows are marked
+    -- else its rows are marked
     module _ {w′ : List ℕ} (f : w′ ≡ marked n j more w) where
       change : Changed n j w w′
       change = rw f (changed-marked n j more w (λ i m. positive i (rw e at m)))
@@ -94,7 +94,7 @@ module _ {n j c len : ℕ} {fs fr w₀ x₀ y₀ w x y : List ℕ} {d turn count
       pub falls-marked : getD w′ (n + d) 0 < d
       falls-marked = rw next-link falls
 
-      -- and joined
+      -- and they are joined
       pub joins : {x′ y′ : List ℕ} {count′ : ℕ} → Holds (1 - turn) count′ x′ y′ (merge (held turn count x y) more)
           → length x′ ≡ length x → length y′ ≡ length y → length w′ ≡ length w
           → State n j c len fs fr w₀ x₀ y₀ w′ x′ y′ (getD w′ (n + d) 0) (1 - turn) count′

@@ -1,4 +1,4 @@
--- Two buffers that take turns: a list is held in one of them, and joining writes into the other.
+-- Defines two buffers that take turns: one of them holds a list, and a join is written into the other.
 -- Assumes nothing.
 use Prim.Native.Nat.{ℕ, zero, suc, _≤_}
 use mathlib.Core.Path.{_≡_}
@@ -6,21 +6,21 @@ use mathlib.Core.List.{List}
 use lib.ListN.{length, take}
 use Rattle.papers.specs.Lists.{merge}
 
--- the buffer whose turn it is
+-- the buffer that is next in turn
 unfoldable pub buffer : ℕ → List ℕ → List ℕ → List ℕ
 buffer zero x y = x
 buffer (suc turn) x y = y
 
--- the first len numbers of it
+-- its first len numbers
 abbrev pub held : ℕ → ℕ → List ℕ → List ℕ → List ℕ
 held turn len x y = take len (buffer turn x y)
 
--- these are the list l
+-- these numbers are the list l
 pub record Holds (turn len : ℕ) (x y l : List ℕ) : Type 0 where
   pub count : len ≡ length l
   pub list : held turn len x y ≡ l
 
--- either buffer has room for the list held and for more joined to it
+-- each buffer has room for the held list and for more rows joined to it
 pub record Roomy (turn len : ℕ) (more x y : List ℕ) : Type 0 where
   pub held-x : len ≤ length x
   pub held-y : len ≤ length y

@@ -1,4 +1,4 @@
--- The list that a column's rows and those its children hand on make, and the state before and after the children are joined.
+-- Defines the list that a column's rows and the rows its children hand on make, and the state before and after the children are joined.
 -- Assumes nothing.
 use Prim.Native.Nat.{ℕ, _+_, _<_, _≤_}
 use mathlib.Core.Logic.{_⊎_}
@@ -9,7 +9,7 @@ use Rattle.linked_children.specs.Children.{handedOn, Siblings}
 use Rattle.child_lists.specs.Marks.{Sound, Changed}
 use Rattle.child_lists.specs.Buffers.{Holds}
 
--- acc and what the children hand on make the ascending list whole
+-- acc and the rows that the children hand on make the ascending list whole
 pub record Makes (j : ℕ) (hands : ℕ → List ℕ) (children acc whole : List ℕ) : Type 0 where
   pub asc : Asc j acc
   pub asc-whole : Asc j whole
@@ -18,7 +18,7 @@ pub record Makes (j : ℕ) (hands : ℕ → List ℕ) (children acc whole : List
   pub hands-in : (d i : ℕ) → d ∈ children → i ∈ hands d → i ∈ whole
   pub made : (i : ℕ) → i ∈ whole → (i ∈ acc) ⊎ ((d : ℕ) × ((d ∈ children) × (i ∈ hands d)))
 
--- the list of column j is begun in x, its rows are marked, and the children from c on are to be joined to it
+-- x holds the beginning of column j's list, its rows are marked, and the children from c on are still to be joined
 pub record Begun (n j c len : ℕ) (fstarts frows work x y children whole : List ℕ) : Type 0 where
   pub siblings : Siblings n c fstarts work children
   pub ends : (d : ℕ) → d ∈ children → getD fstarts d 0 ≤ length frows
@@ -35,7 +35,7 @@ pub record Joining (n j c len : ℕ) (fstarts frows work x y : List ℕ) : Type 
   pub whole : List ℕ
   pub begun : Begun n j c len fstarts frows work x y children whole
 
--- the list of column j is held in the buffers; of work only marks have changed, to j
+-- the buffers hold the list of column j; work has changed only in marks, which were set to j
 pub record Joined (n j c len₀ : ℕ) (fstarts frows work₀ x₀ y₀ : List ℕ) (turn len : ℕ) (work x y : List ℕ) : Type 0 where
   pub list : (children whole : List ℕ) → Begun n j c len₀ fstarts frows work₀ x₀ y₀ children whole
       → Holds turn len x y whole

@@ -1,4 +1,5 @@
--- The ways to gather a column's list: no child, one child, or several, of which the longest is joined first and the rest follow.
+-- Proves the three ways to gather a column's list: it has no child, one child, or several. Of several, the longest is joined first, and the others
+-- follow.
 -- Assumes nothing.
 use Prim.Native.Nat.{ℕ, _+_, _<_, _≤_}
 use mathlib.Core.Path.{_≡_, refl, ap, _∙_}
@@ -28,7 +29,7 @@ use Rattle.column_list.specs.Stored.{Part, Next, Gatherable, Gathers}
 use Rattle.column_list.proofs.Gathering.{below, found-child, chain, siblings, makes}
 use Rattle.column_list.proofs.Owns.{own-asc, own-in, own-makes, own-alone, first-linked, only-child}
 
--- the pattern rows of the next column have their part
+-- the pattern rows of the next column are a part of the slice
 pub part-of : {n m : ℕ} {starts rows fs fr w : List ℕ} → Next n m starts rows fs fr w → Part m starts rows
 part-of {m = m} g =
     let l = g .column in
@@ -45,7 +46,7 @@ module _ {n m : ℕ} {starts rows fs fr w x y : List ℕ} (g : Gatherable n m st
   few : (l : List ℕ) → Asc (m + 1) l → ((i : ℕ) → i ∈ l → i ∈ R A (m + 1)) → length l ≤ n
   few l s f = omega (arith, asc-length n (m + 1) l s (λ i t. R-range (below (g .next)) (m + 1) i (f i t) .1))
 
-  -- a list at the front of x that is R(m + 1)
+  -- R(m + 1) is at the front of x
   holds : (l x₁ : List ℕ) → x₁ ≡ sets x 0 l → length l ≤ length x → l ≡ R A (m + 1) → Gathers n m A w w x₁ y 0 (length l)
   holds l x₁ e h q =
       record {
@@ -56,11 +57,11 @@ module _ {n m : ℕ} {starts rows fs fr w x y : List ℕ} (g : Gatherable n m st
   -- ---- the pattern rows
 
   module _ {own : List ℕ} (o : own ≡ A (m + 1)) where
-    -- they have room
+    -- the pattern rows find room
     pub own-fits : length own ≤ length x
     own-fits = omega (arith, few own (own-asc (g .next) o) (own-in (g .next) o), g .room-x)
 
-    -- without a child they are the list
+    -- without a child they are the whole list
     pub alone : {x₁ : List ℕ} → getD w (m + 1) 0 ≡ 0 → x₁ ≡ sets x 0 own → Gathers n m A w w x₁ y 0 (length own)
     alone {x₁} z e = holds own x₁ e own-fits (own-alone (g .next) o z)
 
@@ -69,11 +70,11 @@ module _ {n m : ℕ} {starts rows fs fr w x y : List ℕ} (g : Gatherable n m st
   pub linked : Linked n (getD w (m + 1) 0) fs w
   linked = record { children = hung A m (m + 1); siblings = siblings (g .next) }
 
-  -- its list is stored
+  -- the child's list is stored
   pub longest-stands : {d : ℕ} → getD w (m + 1) 0 ≢ 0 → Longest n (getD w (m + 1) 0) fs w d → StoredChild d fs fr
   longest-stands {d} z b = found-child (g .next) d (b .among (hung A m (m + 1)) (chain (g .next)) z) .stands
 
--- the pattern rows, and those that the longest of the children hands on
+-- joins the pattern rows with the rows that the longest child hands on
 pub record First (n m : ℕ) (starts rows fs fr w x y own more : List ℕ) : Type 0 where
   pub gatherable : Gatherable n m starts rows fs fr w x y
   pub own-is : own ≡ columnOf starts rows (m + 1)
@@ -86,7 +87,7 @@ module _ {n m : ℕ} {starts rows fs fr w x y own more : List ℕ} (f : First n 
   abbrev g : Gatherable n m starts rows fs fr w x y
   g = f .gatherable
 
-  -- the link of the first child has its place
+  -- work has the place of the first child's link
   pub first-link : n + getD w (m + 1) 0 < length w
   first-link = first-linked (g .next) (f .some)
 
@@ -107,7 +108,7 @@ module _ {n m : ℕ} {starts rows fs fr w x y own more : List ℕ} (f : First n 
   pub first-fits : length (merge own more) ≤ length x
   first-fits = omega (arith, few g (merge own more) (begun .asc) (begun .acc-in), g .room-x)
 
-  -- the two are joined in x
+  -- x holds the two joined
   module _ {x₁ : List ℕ} {len : ℕ} (u : United own more x x₁ len) where
     front : take len x₁ ≡ merge own more
     front = rw (u .joins, u .counts) (front-stored x (merge own more) first-fits)
@@ -118,7 +119,7 @@ module _ {n m : ℕ} {starts rows fs fr w x y own more : List ℕ} (f : First n 
     pub first-len : len ≤ length x₁
     first-len = omega (arith, u .counts, long, first-fits)
 
-    -- one child
+    -- the column has one child
     pub single : getD w (n + getD w (m + 1) 0) 0 ≡ 0 → Gathers n m (A g) w w x₁ y 0 len
     single q = rw (u .counts) (holds g (merge own more) x₁ (u .joins) first-fits whole)
       where
@@ -131,7 +132,7 @@ module _ {n m : ℕ} {starts rows fs fr w x y own more : List ℕ} (f : First n 
             only : {a b : ℕ} → a ∈ (b ∷ []) → a ≡ b
             only {a} {b} t = ⊎-elim (λ (e : a ≡ b). e) (λ (u : a ∈ []). absurd (List·Memᴰ·not-nil u)) (List·Memᴰ·cases-cons t)
 
-    -- several: the rows of x are marked, the other children follow
+    -- several children: the rows of x are marked, and the other children follow
     pub first-markable : Markable n (take len x₁) w
     first-markable = record { most = λ i t. range i (rw front at t) .1; long = g .next .stored .work-long }
 

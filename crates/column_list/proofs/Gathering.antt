@@ -1,5 +1,5 @@
--- R(m + 1) is made of its pattern rows and what its children hand on, so joining the pattern rows with any child's first and then with
--- the others gives it.
+-- Proves that joining the pattern rows with what one child hands on, and then with what the others hand on, gives R(m + 1), whichever child comes
+-- first.
 -- Assumes nothing.
 use Prim.Native.Nat.{ℕ, zero, suc, _+_, _-_, _<_, _≤_}
 use mathlib.Core.Path.{_≡_, refl, ap}
@@ -26,10 +26,10 @@ use Rattle.column_list.specs.Hung.{hung}
 use Rattle.column_list.specs.Stored.{rowsTo, Stored, Next}
 use Rattle.column_list.proofs.Hung.{hung-from, hung-into, hung-desc}
 
--- ---- the list of a column in what is stored
+-- ---- the list of a column as it is stored
 
 module _ {n m : ℕ} {A : Pattern} {fs fr w : List ℕ} (st : Stored n m A fs fr w) where
-  -- of a column with rows
+  -- the list of a column with rows
   pub record Found (c : ℕ) : Type 0 where
     pub stands : StoredChild c fs fr
     pub hands : handedOn fs fr c ≡ drop 1 (R A c)
@@ -62,7 +62,7 @@ module _ {n m : ℕ} {starts rows fs fr w : List ℕ} (g : Next n m starts rows 
   abbrev A : Pattern
   A = columnOf starts rows
 
-  -- rows strictly below the diagonal
+  -- rows that are strictly below the diagonal
   pub below : Below n (columnOf starts rows)
   below = tested-below (g .tested)
 
@@ -88,7 +88,7 @@ module _ {n m : ℕ} {starts rows fs fr w : List ℕ} (g : Next n m starts rows 
         links = omega (arith, g .stored .work-long);
       }
 
-  -- pattern rows and what the children hand on make R(m + 1), begun with any list between the two
+  -- the pattern rows and what the children hand on make R(m + 1), from any list between the two on
   pub makes : (acc : List ℕ) → Asc (m + 1) acc → ((i : ℕ) → i ∈ A (m + 1) → i ∈ acc) → ((i : ℕ) → i ∈ acc → i ∈ R A (m + 1))
       → Makes (m + 1) (handedOn fs fr) (hung A m (m + 1)) acc (R A (m + 1))
   makes acc s own into =

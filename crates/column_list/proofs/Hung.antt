@@ -1,4 +1,5 @@
--- The children of a column among the columns 1 to m, the last first: they are just the columns up to m whose parent it is.
+-- Proves that the chain of a column's children among the columns 1 to m, the last first, lists exactly the columns up to m that have it as their
+-- parent.
 -- Assumes nothing.
 use Prim.Native.Nat.{ℕ, zero, suc, _≤_}
 use mathlib.Core.Path.{_≡_, refl}

@@ -1,5 +1,5 @@
--- Proves what is known of the next column's pattern rows and of its first child. The rows ascend and belong to R(m + 1); without a child they are
--- R(m + 1), since nothing is handed on. The first child heads the chain of the children, so its link has its place.
+-- Proves what is known of the next column's pattern rows and first child. The rows ascend and belong to R(m + 1), and without a child they are R(m +
+-- 1). The first child heads the chain of children, so its link has a place.
 -- Assumes nothing.
 use Prim.Native.Nat.{ℕ, _+_, _<_}
 use mathlib.Core.Path.{_≡_, refl}
@@ -44,7 +44,7 @@ module _ {n m : ℕ} {starts rows fs fr w : List ℕ} (g : Next n m starts rows 
     pub own-markable : Markable n own w
     own-markable = record { most = λ i t. below g .within i (m + 1) (rw o at t); long = g .stored .work-long }
 
-    -- to mark them changes marks alone
+    -- marking them changes only marks
     pub own-change : {w₁ : List ℕ} → w₁ ≡ marked n (m + 1) own w → Changed n (m + 1) w w₁
     own-change e = rw e (changed-marked n (m + 1) own w (λ i t. omega (arith, asc-above (m + 1) own own-asc t)))
 

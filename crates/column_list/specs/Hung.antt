@@ -1,4 +1,4 @@
--- The children of a column, as columns are hung under their parents one after the other.
+-- Defines the children of a column as columns are hung under their parents, one after the other.
 -- Assumes nothing.
 use Prim.Native.Nat.{ℕ, zero, suc}
 use mathlib.Core.Bool.{true, false}

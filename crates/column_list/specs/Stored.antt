@@ -1,4 +1,4 @@
--- The state between two columns: the lists found so far, where they begin, and the columns hung under their parents.
+-- Defines the state between two columns: the lists made so far, the starts of these lists, and the columns hung under their parents.
 -- Assumes nothing.
 use Prim.Native.Nat.{ℕ, _+_, _<_, _≤_}
 use mathlib.Core.Path.{_≡_}
@@ -14,7 +14,7 @@ use Rattle.child_lists.specs.Marks.{Changed, Fresh}
 use Rattle.child_lists.specs.Buffers.{Holds}
 use Rattle.column_list.specs.Hung.{hung}
 
--- column m + 1 has its rows between its two starts
+-- the rows of column m + 1 are between its two starts
 pub record Part (m : ℕ) (starts rows : List ℕ) : Type 0 where
   pub started : m + 1 < length starts
   pub rises : getD starts m 0 ≤ getD starts (m + 1) 0
@@ -24,7 +24,7 @@ pub record Part (m : ℕ) (starts rows : List ℕ) : Type 0 where
 abbrev pub rowsTo : Pattern → ℕ → List ℕ
 rowsTo A m = flat (listsOf m (R A))
 
--- after m columns
+-- the state after m columns
 pub record Stored (n m : ℕ) (A : Pattern) (fstarts frows work : List ℕ) : Type 0 where
   pub rows-fit : length (rowsTo A m) ≤ length frows
   pub rows-are : take (length (rowsTo A m)) frows ≡ rowsTo A m
@@ -34,24 +34,24 @@ pub record Stored (n m : ℕ) (A : Pattern) (fstarts frows work : List ℕ) : Ty
   pub fresh : Fresh n m work
   pub work-long : n + n + n < length work
 
--- after m columns of a tested job, column m + 1 comes next
+-- m columns of a tested job are done, and column m + 1 comes next
 pub record Next (n m : ℕ) (starts rows fstarts frows work : List ℕ) : Type 0 where
   pub tested : Tested n starts rows
   pub column : m < n
   pub stored : Stored n m (columnOf starts rows) fstarts frows work
 
--- there are two buffers for its list
+-- two buffers are lent for its list
 pub record Gatherable (n m : ℕ) (starts rows fstarts frows work x y : List ℕ) : Type 0 where
   pub next : Next n m starts rows fstarts frows work
   pub room-x : n ≤ length x
   pub room-y : n ≤ length y
 
--- its list is held in the buffers; of work only marks have changed
+-- the buffers hold its list; work has changed only in marks
 pub record Gathers (n m : ℕ) (A : Pattern) (work₀ work x y : List ℕ) (turn len : ℕ) : Type 0 where
   pub holds : Holds turn len x y (R A (m + 1))
   pub changed : Changed n (m + 1) work₀ work
 
--- either buffer has len rows
+-- each buffer holds len rows
 pub record Buffered (len : ℕ) (x y : List ℕ) : Type 0 where
   pub in-x : len ≤ length x
   pub in-y : len ≤ length y

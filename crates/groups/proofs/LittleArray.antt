@@ -1,4 +1,4 @@
--- The little array that has a number's bytes: each stands at its own place in it.
+-- Proves that the little array holds each byte of a number at the byte's own place.
 -- Assumes nothing.
 use Prim.Native.Nat.{ℕ, _+_, _<_, _≤_}
 use mathlib.Core.Path.{_≡_}

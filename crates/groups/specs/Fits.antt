@@ -1,8 +1,8 @@
--- What the writer of numbers asks of a number.
+-- Defines what the writer of numbers requires of a number.
 -- Assumes nothing.
 use Prim.Native.Nat.{ℕ, _*_, _^_, _<_}
 use Rattle.papers.specs.Bounds.{maxGroups}
 
--- the most groups that a number may have hold x
+-- x fits into the greatest number of groups
 abbrev pub Fits : ℕ → Type 0
 Fits x = x < 2 ^ (7 * maxGroups)

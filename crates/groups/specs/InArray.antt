@@ -1,4 +1,4 @@
--- What the little array of a number holds.
+-- Defines what the little array of a number holds.
 -- Assumes nothing.
 use Prim.Native.Nat.{ℕ}
 use mathlib.Core.Path.{_≡_}
@@ -8,7 +8,7 @@ use lib.Seq.{sets}
 use Rattle.papers.specs.Bounds.{maxGroups}
 use Rattle.papers.specs.Numbers.{bytesOf}
 
--- the bytes of x, then zeros, and how many bytes they are
+-- the array holds the bytes of x, then zeros, and count is how many bytes x has
 pub record InArray (x : ℕ) (bytes : List ℕ) (count : ℕ) : Type 0 where
   pub stored : bytes ≡ sets (replicate maxGroups 0) 0 (bytesOf x)
   pub counted : count ≡ length (bytesOf x)

@@ -1,5 +1,5 @@
--- The columns and their rows read in order: the invariants of the two loops, and a law for each way through them. The columns passed are without
--- fault, so the first column at fault is the least; and the rows passed are, so the first fault of those left is the column's.
+-- Proves each way through the two loops over columns and rows: the columns passed have no fault, so the first at fault is the least; nor have the
+-- rows passed, so the first fault of those left is the column's.
 -- Assumes nothing.
 use Prim.Native.Nat.{ℕ, suc, _+_, _<_, _≤_}
 use mathlib.Core.Path.{_≡_, refl, sym, subst, _∙_}
@@ -17,7 +17,7 @@ use Rattle.job_laws.proofs.Faults.{faulty, faults-next, faults-pass, faults-ref
 use Rattle.job_laws.proofs.Starts.{Starts, start-at, column-at, starts-iff, start-within}
 use Rattle.job_laws.proofs.Rows.{rows-fault, rows-next, rows-test-is}
 
--- the first `done` columns are read, and nothing is found
+-- the first `done` columns are read, and no fault is found
 pub record Columns (n : ℕ) (starts rows : List ℕ) (number place done : ℕ) : Type 0 where
   pub no-number : number ≡ 0
   pub no-place : place ≡ 0
@@ -25,7 +25,7 @@ pub record Columns (n : ℕ) (starts rows : List ℕ) (number place done : ℕ) 
   pub reached : done ≤ n
   pub none : least (faulty (columnFault n starts rows)) done ≡ 0
 
--- the rows of column j before i are read, the last of them `before`, and nothing is found
+-- the rows of column j before i are read, `before` is the last of them, and no fault is found
 pub record Rows (n : ℕ) (starts rows : List ℕ) (j end number place i before : ℕ) : Type 0 where
   pub no-number : number ≡ 0
   pub no-place : place ≡ 0

@@ -1,4 +1,4 @@
--- Starts whose fault is none pass their test, so that the test of the rows may follow.
+-- Proves that starts without a fault pass their test, so that the test of the rows may follow.
 -- Assumes nothing.
 use Prim.Native.Nat.{ℕ, _≤_}
 use mathlib.Core.Path.{_≡_}

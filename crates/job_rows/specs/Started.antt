@@ -1,4 +1,4 @@
--- What the test of a job's rows stands on.
+-- Defines what the test of a job's rows requires.
 -- Assumes nothing.
 use Prim.Native.Nat.{ℕ, _≤_}
 use mathlib.Core.Path.{_≡_}

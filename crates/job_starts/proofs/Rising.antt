@@ -1,5 +1,5 @@
--- The starts read in order: the loop's invariant, and a law for each way through it. None of the columns passed has a start that falls, so the
--- first that is met is the least; behind the last column there is none.
+-- Proves each way through the loop over the starts: no start of the columns passed falls, so the first that falls is the least, and after the last
+-- column none falls.
 -- Assumes nothing.
 use Prim.Native.Nat.{ℕ, suc, _+_, _<_, _≤_}
 use mathlib.Core.Path.{_≡_, refl, _∙_}
@@ -23,7 +23,7 @@ pub record Rising (n : ℕ) (starts : List ℕ) (done : ℕ) : Type 0 where
   pub reached : done ≤ n
   pub none : least (falls starts) done ≡ 0
 
--- there are n + 1 starts, the first 0
+-- starts has n + 1 numbers, and the first is 0
 pub begin : {n : ℕ} (starts : List ℕ) → length starts ≡ n + 1 → getD starts 0 0 ≡ 0 → Rising n starts 0
 unfolding least
 begin starts long z = record { long = long; from-zero = start-at starts 0 ∙ z; reached = omega arith; none = refl }

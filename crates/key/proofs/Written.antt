@@ -1,4 +1,4 @@
--- The numbers of a key in front of its lists, and what a stored key and a refused job come to.
+-- Proves how the numbers of a key are written one after the other, up to its lists, and the outcomes of a stored key and of a refused job.
 -- Assumes nothing.
 use Prim.Native.Nat.{ℕ, _+_, _*_, _^_, _<_, _≤_}
 use mathlib.Core.Path.{_≡_, refl, sym, _∙_}
@@ -27,11 +27,11 @@ use Rattle.write_stored.proofs.Stores.{short-is, whole-is}
 
 -- ---- its numbers
 
--- what is written behind the edition, n, mark and limit
+-- the numbers of the lists, which are written behind edition, n, mark and limit
 abbrev pub keyLists : Job → List ℕ
 keyLists job = listsNumbers 1 (listsOf (job .n) (pattern job))
 
--- each fits the groups
+-- each number fits the groups
 pub numbers-fit : (job : Job) → Passed job → (job .n < 2 ^ (7 * maxGroups)) × (job .mark < 2 ^ (7 * maxGroups)) × (job .limit < 2 ^ (7 * maxGroups))
 numbers-fit job p =
     let few = p .few in
@@ -39,19 +39,19 @@ numbers-fit job p =
     let limited = p .limited in
     (omega arith, omega arith, omega arith)
 
--- they are few
+-- the numbers are few
 pub numbers-few : (job : Job) → Passed job → length (keyNumbers job) ≤ (maxColumns + 1) * maxColumns + 4
 unfolding keyNumbers
 numbers-few job p = omega (arith, lists-few (p .few) (p .lists))
 
--- ---- put one after the other
+-- ---- writing them one after the other
 
 module _ (job : Job) (d₀ : List ℕ) where
-  -- of the key these numbers are left, from place k of d on
+  -- these numbers of the key are left, and go to the places of d from k on
   abbrev pub Left : List ℕ → List ℕ → ℕ → Type 0
   Left xs d k = Writes (encode (keyNumbers job)) d₀ 0 (encode xs) d k
 
-  -- every place among them is near
+  -- every place among them is small
   pub key-near : Passed job → {xs d : List ℕ} {k : ℕ} → Writes (encode (keyNumbers job)) d₀ 0 xs d k → k < 2 ^ 60
   key-near p w = omega (arith, writes-near (keyNumbers job) w, numbers-few job p)
 

@@ -1,4 +1,4 @@
--- Slices of the same lengths: what is long enough stays so, and clearing makes them one.
+-- Proves that slices of the same lengths behave alike: if the ones are long enough, so are the others, and once cleared they are equal.
 -- Assumes nothing.
 use Prim.Native.Nat.{ℕ, _≤_}
 use mathlib.Core.Path.{_≡_, sym, ap, _∙_}
@@ -23,7 +23,7 @@ pub record Alike (before lent : Lent) : Type 0 where
   pub rows : length (lent .factorRows) ≡ length (before .factorRows)
   pub work : length (lent .work) ≡ length (before .work)
 
--- cleared, they are the same
+-- once cleared, they are equal
 pub zeros-alike : (before lent : Lent) {after : Lent} → Alike before lent → after ≡ allZero lent → after ≡ allZero before
 unfolding allZero
 zeros-alike before lent a e =

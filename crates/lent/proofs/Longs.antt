@@ -1,4 +1,4 @@
--- Slices that are not too short are long enough, and the other way round: none of the five tests holds.
+-- Proves that slices are long enough exactly if none of the five tests for a short slice holds.
 -- Assumes nothing.
 use Prim.Native.Nat.{ℕ, _+_}
 use mathlib.Core.Path.{_≡_, refl, sym, _∙_}

@@ -1,4 +1,4 @@
--- Which of the lent slices is too short: the tests one after the other come to the whole.
+-- Proves that the tests of the single slices, made one after the other, decide whether any lent slice is too short.
 -- Assumes nothing.
 use Prim.Native.Nat.{ℕ, _+_, _<_, _≤_}
 use mathlib.Core.Path.{_≡_}

@@ -1,4 +1,4 @@
--- Six equations of slices are one.
+-- Proves that two values of six slices are equal if each of the six slices is.
 -- Assumes nothing.
 use Prim.Native.Nat.{ℕ}
 use mathlib.Core.Path.{_≡_, ap}
@@ -16,7 +16,7 @@ pub all-cleared : (p o q s r w : List ℕ) {p′ o′ q′ s′ r′ w′ : List
 unfolding allZero
 all-cleared p o q s r w a b c d e f = sixes a b c d e f
 
--- what is cleared, slice by slice
+-- clears slice by slice
 pub record EachZero (before lent : Lent) : Type 0 where
   pub parents : lent .parents ≡ zeros (before .parents)
   pub order : lent .order ≡ zeros (before .order)

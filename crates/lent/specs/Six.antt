@@ -1,4 +1,4 @@
--- The six slices that an analysis or a check is lent, as one value.
+-- Defines the six slices that an analysis or a check is lent, as one value.
 -- Assumes nothing.
 use Prim.Native.Nat.{ℕ, _+_, _≤_}
 use mathlib.Core.Bool.{Bool, _||_}
@@ -18,11 +18,11 @@ zeroes =
     six (replicate programColumns 0) (replicate programColumns 0) (replicate programColumns 0) (replicate (programColumns + 1) 0)
     (replicate programFactorRows 0) (replicate (workLength programColumns) 0)
 
--- one of them is below its fixed length for n columns, by their lengths
+-- tests by their lengths whether one of them is below its fixed length for n columns
 abbrev pub isShort : ℕ → ℕ → ℕ → ℕ → ℕ → ℕ → Bool
 isShort n parents order pops starts work = ltb parents n || ltb order n || ltb pops n || ltb starts (n + 1) || ltb work (workLength n)
 
--- each of them has its fixed length for n columns
+-- each of them is as long as n columns need
 pub record LongEnough (n : ℕ) (lent : Lent) : Type 0 where
   pub parents : n ≤ length (lent .parents)
   pub order : n ≤ length (lent .order)

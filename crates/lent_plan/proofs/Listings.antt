@@ -1,4 +1,4 @@
--- The column lists in the lent slices: the slices are long enough for them, and what is cleared behind them is followed by zeros.
+-- Proves that the lent slices are long enough for the column lists, and that zeros follow the lists once the places behind them are cleared.
 -- Assumes nothing.
 use Prim.Native.Nat.{ℕ, zero, suc, _+_, _-_, _<_, _≤_}
 use mathlib.Core.Path.{_≡_, refl, sym, ap, _∙_}
@@ -25,11 +25,11 @@ use Rattle.lent_plan.specs.Listing.{ListableIn, Listing}
 
 -- ---- zeros behind the front
 
--- a slice holds zeros from place n on
+-- a slice is zero from place n on
 abbrev pub ZerosBehind : ℕ → List ℕ → Type 0
 ZerosBehind n l = drop n l ≡ replicate (length l - n) 0
 
--- one that was cleared from there on does
+-- clearing it from there on makes it so
 pub cleared-behind : (n : ℕ) (l : List ℕ) → ZerosBehind n (zerosFrom n l)
 unfolding zerosFrom
 cleared-behind zero l = let e : length (zeros l) - 0 ≡ length l = omega (arith, length-replicate {A = ℕ} (length l) 0) in rw e
@@ -37,14 +37,14 @@ cleared-behind (suc n) [] = let e : 0 - suc n ≡ 0 = omega arith in rw e
 cleared-behind (suc n) (x ∷ l) =
     let e : length (x ∷ zerosFrom n l) - suc n ≡ length (zerosFrom n l) - n = omega arith in rw e (cleared-behind n l)
 
--- as one that is as long, cleared
+-- it equals a cleared slice of the same length there
 behind-zero : (n : ℕ) (o l : List ℕ) → ZerosBehind n o → length o ≡ length l → drop n o ≡ zeros (drop n l)
 behind-zero n o l z e = z ∙ rw (e, length-drop)
 
 -- ---- the lists
 
 module _ {n : ℕ} {starts rows : List ℕ} {before : Lent} (g : ListableIn n starts rows before) where
-  -- the fronts of order and pops are the buffers
+  -- the fronts of order and pops serve as buffers
   pub listable : Listable n starts rows (before .parents) (before .factorStarts) (take n (before .order)) (take n (before .pops)) (before .work)
   listable =
       let long = g .long in
@@ -88,7 +88,7 @@ module _ {n : ℕ} {starts rows : List ℕ} {before : Lent} (g : ListableIn n st
       pub last-fits : getD s n 0 ≤ length r
       last-fits = omega (arith, last-is, whole .fits, ap length (whole .rows-are), length-sets (before .factorRows) 0 (flat ls))
 
-      -- all are, and the slices are cleared behind them
+      -- all columns are done, and the places behind the lists are cleared
       pub all-listed : {p′ o q s′ r′ w : List ℕ} → p′ ≡ zerosFrom n p → ZerosBehind n o → length o ≡ length (before .order)
           → ZerosBehind n q → length q ≡ length (before .pops) → s′ ≡ zerosFrom (n + 1) s → r′ ≡ zerosFrom (getD s n 0) r
           → Listing n done A before (six p′ o q s′ r′ w)

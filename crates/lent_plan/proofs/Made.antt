@@ -1,4 +1,4 @@
--- A refusal of the analysis leaves zeros, so the outcome is told by the answer alone, and clearing the slices makes it.
+-- Proves that the answer alone decides the outcome of a refused analysis, since a refusal leaves zeros; so clearing the slices makes that outcome.
 -- Assumes nothing.
 use mathlib.Core.Path.{_≡_}
 use mathlib.Core.Logic.{_≢_}
@@ -9,13 +9,13 @@ use Rattle.papers.specs.Analysis.{analysed}
 use Rattle.lent.proofs.Alike.{Alike, zeros-alike}
 use Rattle.lent_plan.specs.Made.{Made}
 
--- a refusal, whatever it left
+-- a refusal, whatever it leaves
 pub made-refused : {job : Job} {before lent : Lent} {r : Answer} → r .number ≢ 0
     → _≡_ {A = Outcome Lent} (record { answer = r; lent = allZero before }) (analysed job before)
     → Made job before lent r
 made-refused z e = record { done = λ q. absurd (z q); refused = λ q. e }
 
--- what it left is cleared
+-- the slices are cleared after it
 pub made-cleared : {job : Job} {before lent after : Lent} {r : Answer} → Made job before lent r → Alike before lent → r .number ≢ 0
     → after ≡ allZero lent
     → _≡_ {A = Outcome Lent} (record { answer = r; lent = after }) (analysed job before)

@@ -1,4 +1,4 @@
--- The order in the lent slices: it works in the front of order and pops, and what lies behind stays.
+-- Proves that the order is made in the front of order and pops, and that the places behind stay as they were.
 -- Assumes nothing.
 use Prim.Native.Nat.{ℕ, _+_}
 use mathlib.Core.Path.{_≡_}
@@ -10,7 +10,7 @@ use Rattle.lent_plan.specs.Ordering.{Orderable, Ordering}
 use lib.Seq.{length-take-le}
 
 module _ {mark n : ℕ} {parents order pops starts work : List ℕ} (h : Orderable mark n parents order pops starts work) where
-  -- the parts that are lent are as long as the order asks
+  -- the lent parts are as long as the order requires
   pub order-given : Given mark (take n parents) (take (n + 1) starts) (length (take n order)) (length (take n pops)) (length work)
   order-given = rw (length-take-le n order (h .order-long), length-take-le n pops (h .pops-long)) (h .given)
 

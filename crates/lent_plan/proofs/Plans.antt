@@ -1,5 +1,5 @@
--- The lists and the order that were made in the lent slices are those of the job's plan. A list in front of what is cleared behind it is the result,
--- then zeros; the tree and the rows that the order was made from are the pattern's (Ties).
+-- Proves that the lists and the order made in the lent slices are those of the job's plan, each followed by zeros: the tree and the rows that the
+-- order was made from are the pattern's (Ties).
 -- Assumes nothing.
 use Prim.Native.Nat.{ℕ, suc, _+_, _<_, _≤_}
 use mathlib.Core.Path.{_≡_, refl, sym, ap, _∙_}
@@ -31,7 +31,7 @@ use Rattle.lent_plan.specs.Made.{Plannable, Made}
 use Rattle.lent_plan.proofs.Made.{made-refused}
 use Rattle.lent_plan.proofs.Ways.{needed, peakIn, way-rows, way-peak, way-done}
 
--- in front of what is cleared behind it, a result is followed by zeros
+-- once the places behind a result are cleared, zeros follow it
 zeros-behind : (n : ℕ) (xs l : List ℕ) → length xs ≡ n → xs ++ zeros (drop n l) ≡ thenZeros xs l
 unfolding thenZeros
 zeros-behind n xs l e = rw (length-drop, e)
@@ -47,13 +47,13 @@ module _ {job : Job} {before : Lent} (g : Plannable job before) where
   listable-in = record { tested = tested job (g .passes); long = g .long }
 
   module _ {done : ℕ} {mid : Lent} (listing : Listing (job .n) done (pattern job) before mid) (alike : Alike before mid) where
-    -- the rows needed can be counted in what is left
+    -- parents and work are long enough to count the rows needed in them
     pub countable : Countable (job .n) (job .starts) (job .rows) (mid .parents) (mid .work)
     countable =
         let long = long-alike alike (g .long) in
         record { tested = tested job (g .passes); parents-long = long .parents; work-long = omega (arith, long .work) }
 
-    -- 8: where not all columns are done, the rows needed exceed the slice
+    -- 8: if not all columns are done, the rows needed exceed the slice
     pub made-rows : {count : ℕ} {after : Lent} → done < job .n → count ≡ needed job → Made job before after (answer 8 0 count)
     made-rows h e = made-refused (λ z. omega arith) (way-rows job before (g .passes) (g .long) exceeds (ap (answer 8 0) e) refl)
       where

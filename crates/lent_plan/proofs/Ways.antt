@@ -1,4 +1,4 @@
--- The outcome of an analysis by the way that its tests go: each test that is made decides, or leaves it to the next.
+-- Proves the outcome of an analysis for each way through its tests: each test refuses, or leaves the answer to the next one.
 -- Assumes nothing.
 use Prim.Native.Nat.{ℕ, _<_, _≤_}
 use mathlib.Core.Path.{_≡_, sym, _∙_}

@@ -1,4 +1,4 @@
--- What the lent slices hold when the column lists are made, and what that asks for.
+-- Defines what the lent slices hold once the column lists are made, and what making them requires.
 -- Assumes nothing.
 use Prim.Native.Nat.{ℕ, suc, _<_, _≤_}
 use mathlib.Core.Path.{_≡_}
@@ -18,7 +18,7 @@ pub record ListableIn (n : ℕ) (starts rows : List ℕ) (lent : Lent) : Type 0 
   pub tested : Tested n starts rows
   pub long : LongEnough n lent
 
--- the lists of all n columns, their starts and the parents, then zeros; and zeros behind the first n places of order and pops
+-- the slices hold the lists of all n columns, their starts and the parents, then zeros; order and pops hold zeros behind the first n places
 pub record AllListed (n : ℕ) (A : Pattern) (before lent : Lent) : Type 0 where
   pub fits : length (flat (listsOf n (R A))) ≤ length (before .factorRows)
   pub parents : lent .parents ≡ thenZeros (map (parent A) (upTo n)) (before .parents)
@@ -27,7 +27,7 @@ pub record AllListed (n : ℕ) (A : Pattern) (before lent : Lent) : Type 0 where
   pub order : drop n (lent .order) ≡ zeros (drop n (before .order))
   pub pops : drop n (lent .pops) ≡ zeros (drop n (before .pops))
 
--- `done` columns are done: as many as there is room for, or all
+-- `done` columns are done: all, or as many as fit
 pub record Listing (n done : ℕ) (A : Pattern) (before lent : Lent) : Type 0 where
   pub lacks : done < n → length (before .factorRows) < length (flat (listsOf (suc done) (R A)))
   pub all : n ≤ done → AllListed n A before lent

@@ -1,5 +1,5 @@
--- What a plan is made from, and what is left when it is made: the outcome of the analysis if it is done; if not, that outcome once the slices are
--- cleared.
+-- Defines what a plan is made from, and what making it leaves: the outcome of the analysis if it is done; if not, slices that are that outcome once
+-- they are cleared.
 -- Assumes nothing.
 use mathlib.Core.Path.{_≡_}
 use mathlib.Core.Logic.{_≢_}

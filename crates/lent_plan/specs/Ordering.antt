@@ -1,4 +1,4 @@
--- What the lent slices hold before and after the order of the columns is made in them.
+-- Defines what the lent slices hold before and after the order of the columns is made in them.
 -- Assumes nothing.
 use Prim.Native.Nat.{ℕ, _+_, _≤_}
 use mathlib.Core.Path.{_≡_}
@@ -9,7 +9,7 @@ use Rattle.papers.specs.Room.{peakOf}
 use Rattle.room.specs.Rows.{rowsIn}
 use Rattle.order.specs.Given.{Given, popsIn, orderIn}
 
--- the parents and the factor starts of n columns in the front of their slices, and places for the order and the pops
+-- the fronts of their slices hold the parents and the factor starts of n columns, and order and pops have places for the result
 pub record Orderable (mark n : ℕ) (parents order pops starts work : List ℕ) : Type 0 where
   pub given : Given mark (take n parents) (take (n + 1) starts) n n (length work)
   pub parents-long : n ≤ length parents
@@ -17,7 +17,7 @@ pub record Orderable (mark n : ℕ) (parents order pops starts work : List ℕ) 
   pub pops-long : n ≤ length pops
   pub starts-long : n + 1 ≤ length starts
 
--- the order of the mark and its pops in front of what lay behind the first n places; the peak is answered, and work is zero
+-- order and pops hold the order and its pops, and keep what is behind the first n places; the peak is answered, and work is zero
 pub record Ordering (mark n : ℕ) (parents order₀ pops₀ starts work₀ order pops work : List ℕ) (peak : ℕ) : Type 0 where
   pub steps : order ≡ orderIn mark (take n parents) (take (n + 1) starts) ++ drop n order₀
   pub counts : pops ≡ map (popsIn (take n parents)) (orderIn mark (take n parents) (take (n + 1) starts)) ++ drop n pops₀

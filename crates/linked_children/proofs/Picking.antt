@@ -1,4 +1,4 @@
--- The longest of linked children: of those passed none has more rows than the best, and the rest is still linked.
+-- Proves the steps of the search for the longest child: none of the children passed has more rows than the best, and links still lead to the others.
 -- Assumes nothing.
 use Prim.Native.Nat.{ℕ, zero, suc, _+_, _<_, _≤_}
 use mathlib.Core.Path.{_≡_, refl, sym, _∙_}
@@ -40,7 +40,7 @@ further {n} {c} {fs} {w} {children} s h =
       falls = f .0;
     }
 
--- another work with the same links
+-- another work that keeps the same links
 pub siblings-ext : {n c : ℕ} {fs w children : List ℕ} (w′ : List ℕ) → Siblings n c fs w children → ((p : ℕ) → p ≤ n + n → getD w′ p 0 ≡ getD w p 0)
     → length w′ ≡ length w
     → Siblings n c fs w′ children
@@ -53,7 +53,7 @@ siblings-ext {n} {c} {fs} {w} {children} w′ s same l =
       links = rw l (s .links);
     }
 
--- best, with most rows, of the children before d
+-- best is a child before d with the most rows
 pub record Picking (n c : ℕ) (fs w : List ℕ) (best most d : ℕ) : Type 0 where
   pub children : List ℕ
   pub chain : Chain w n c children
@@ -94,7 +94,7 @@ module _ {n c : ℕ} {fs w : List ℕ} {best most d : ℕ} (p : Picking n c fs w
     here : d ∈ p .children
     here = p .left-in d (rw (next .is) (List·Memᴰ·head refl))
 
-    -- d is passed with at most that many rows
+    -- passes d, which has at most that many rows
     on : (b k : ℕ) → most ≤ k → rowsOf fs d ≤ k → (b ∈ p .children) × (rowsOf fs b ≡ k) → 0 < k → Picking n c fs w b k (getD w (n + d) 0)
     on b k u v q z =
         record {
@@ -120,7 +120,7 @@ module _ {n c : ℕ} {fs w : List ℕ} {best most d : ℕ} (p : Picking n c fs w
     pub takes : most < rowsOf fs d → Picking n c fs w d (rowsOf fs d) (getD w (n + d) 0)
     takes l = on d (rowsOf fs d) (omega arith) (omega arith) (here, refl) (omega arith)
 
-    -- it has no more; since it has rows, there is a best
+    -- d has no more rows than the best; since it has rows, there is a best
     pub keeps : rowsOf fs d ≤ most → Picking n c fs w best most (getD w (n + d) 0)
     keeps l =
         let b = child-at .begins in

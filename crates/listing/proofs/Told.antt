@@ -1,5 +1,5 @@
--- What is read of a text is the job that is printed: its lists lie in the fronts of the buffers, its rows as they are kept, and neither the analysis
--- nor what is printed of it sees the difference.
+-- Proves that the job read from a text is the job that is printed: the fronts of the buffers hold its lists, with rows as they are kept, and this
+-- changes neither the analysis nor what is printed.
 -- Assumes nothing.
 use Prim.Native.Nat.{ℕ, _+_, _≤_}
 use mathlib.Core.Path.{_≡_, sym, ap, _∙_}
@@ -25,7 +25,7 @@ use Rattle.text_reader.proofs.KeptJobs.{kept-printed}
 use Rattle.text_reader.proofs.Sizes.{Sizes, passed-sizes}
 use Rattle.listing_plan.specs.PlanLines.{printedFrom}
 
--- the front of a slice, where so many numbers were stored
+-- the front of a slice holds the numbers that were stored there
 front : (xs l : List ℕ) (k : ℕ) {m : List ℕ} → m ≡ sets l 0 xs → length xs ≡ k → k ≤ length l → take k m ≡ xs
 front xs l k s e h = rw (s, ← e) (front-stored l xs (omega arith))
 
@@ -47,7 +47,7 @@ module _ (input : Input) where
 
 -- ---- a text whose job was read
 
--- the job's lists at the front of two slices
+-- the fronts of two slices hold the job's lists
 pub record JobFound (input : Input) (starts₀ rows₀ starts rows : List ℕ) (head : JobHead) (count : ℕ) : Type 0 where
   pub passes : first textTests input ≡ passed
   pub columns : head .n ≡ textJob (input .text) .n
@@ -118,7 +118,7 @@ module _ {input : Input} {starts rows : List ℕ} {head : JobHead} {count : ℕ}
       (omega (arith, found-rows, long)))
       (f .marked) (f .limited)
 
-  -- what is printed of it is what is printed of the text
+  -- what is printed of the job is what is printed of the text
   pub found-printed : programPrints input ≡ printedFrom (jobOf head (take (head .n + 1) starts) (take count rows)) buffers
   unfolding programPrints
   found-printed =

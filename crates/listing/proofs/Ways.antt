@@ -1,4 +1,4 @@
--- The outcome of a listing by the length of its slice: 7 where it is too short, else what is printed, which fits, in the cleared slice.
+-- Proves the outcome of a listing by the length of its slice: 7 if it is too short; else the cleared slice gets what is printed, which fits.
 -- Assumes nothing.
 use Prim.Native.Nat.{ℕ, _<_, _≤_}
 use mathlib.Core.Path.{_≡_, sym, ap, _∙_}

@@ -1,4 +1,4 @@
--- A number in decimal, written digit by digit: below ten it is one digit, else its last digit stands behind the digits of its tenth.
+-- Proves how a number is written in decimal: below ten it is one digit, else its last digit follows the digits of its tenth.
 -- Assumes nothing.
 use Prim.Native.Nat.{ℕ, _+_, _/_, _%_, _<_, _≤_}
 use mathlib.Core.Path.{_≡_}
@@ -22,7 +22,7 @@ module _ (x at : ℕ) (bytes : List ℕ) where
     length-more : length (decimalOf x) ≡ length (decimalOf (x / 10)) + 1
     length-more = rw (decimal-more x h) (length-append (decimalOf (x / 10)) (digit (x % 10) ∷ []))
 
-    -- the last digit's place is there, behind those of the tenth
+    -- the slice has a place for the last digit, behind those of the tenth
     pub last-fits : at + length (decimalOf x) ≤ length bytes → at + length (decimalOf (x / 10)) < length bytes
     last-fits f = omega (arith, length-more)
 

@@ -1,4 +1,4 @@
--- A line is its first word, the numbers each behind a space, and a newline; a word and the numbers are written one after the other.
+-- Proves that a line is its first word, the numbers with a space before each, and a newline, written one after the other.
 -- Assumes nothing.
 use Prim.Native.Nat.{ℕ, _+_, _<_, _≤_}
 use mathlib.Core.Path.{_≡_, refl, sym, ap, _∙_}
@@ -37,12 +37,12 @@ module _ {rows d₀ : List ℕ} {at : ℕ} {d : List ℕ} {next i : ℕ} (l : Li
 
 -- ---- a whole line
 
--- a number behind a space
+-- a space, then a number
 pub spaced-number : (x : ℕ) {bytes : List ℕ} {at : ℕ} {d : List ℕ} {m : ℕ} → Wrote (decimalOf x) (set bytes at space) d (at + 1) m
     → Wrote (space ∷ decimalOf x) bytes d at m
 spaced-number x p = wrote-both wrote-byte p
 
--- what stands behind the first word
+-- the bytes behind the first word
 abbrev pub tail : List ℕ → List ℕ
 tail xs = numbered xs ++ (newline ∷ [])
 
@@ -64,7 +64,7 @@ module _ (word xs d₀ : List ℕ) (at : ℕ) where
   behind-word p = writes-part writes-all p (printed-parts word xs)
 
 module _ {whole d₀ : List ℕ} {at : ℕ} {d : List ℕ} {k : ℕ} where
-  -- a number more
+  -- writes a number more
   module _ (x : ℕ) (xs : List ℕ) (w : Writes whole d₀ at (tail (x ∷ xs)) d k) where
     pub number-fits : at + length whole ≤ length d₀ → k + length (space ∷ decimalOf x) ≤ length d
     number-fits h = part-fits w (space ∷ decimalOf x) (tail xs) (tail-next x xs) h
@@ -72,7 +72,7 @@ module _ {whole d₀ : List ℕ} {at : ℕ} {d : List ℕ} {k : ℕ} where
     pub behind-number : {e : List ℕ} {m : ℕ} → Wrote (space ∷ decimalOf x) d e k m → Writes whole d₀ at (tail xs) e m
     behind-number p = writes-part w p (tail-next x xs)
 
-  -- all numbers that are left
+  -- writes all numbers that are left
   module _ (xs : List ℕ) (w : Writes whole d₀ at (tail xs) d k) where
     pub numbers-fit : at + length whole ≤ length d₀ → k + length (numbered xs) ≤ length d
     numbers-fit h = part-fits w (numbered xs) (newline ∷ []) refl h
@@ -81,7 +81,7 @@ module _ {whole d₀ : List ℕ} {at : ℕ} {d : List ℕ} {k : ℕ} where
     unfolding numbered
     behind-numbers p = writes-part w p refl
 
-  -- the newline
+  -- writes the newline
   module _ (w : Writes whole d₀ at (tail []) d k) where
     pub end-fits : at + length whole ≤ length d₀ → k < length d
     unfolding numbered
@@ -94,7 +94,7 @@ module _ {whole d₀ : List ℕ} {at : ℕ} {d : List ℕ} {k : ℕ} where
     pub line-long : length (set d k newline) ≡ length d₀
     line-long = length-set d k newline ∙ w .long
 
--- a word and two numbers, in front of those that are left
+-- writes a word and two numbers before those that are left
 module _ (word : List ℕ) (x y : ℕ) (xs d₀ : List ℕ) (at : ℕ) {d₁ : List ℕ} {k₁ : ℕ} (p₁ : Wrote word d₀ d₁ at k₁) {d₂ : List ℕ}
     {k₂ : ℕ} (p₂ : Wrote (space ∷ decimalOf x) d₁ d₂ k₁ k₂) where
   pub behind-one : Writes (printed word (x ∷ y ∷ xs)) d₀ at (tail (y ∷ xs)) d₂ k₂

@@ -1,4 +1,4 @@
--- What is printed of an analysis that is done lies in the parts of its slices that hold the steps and the lists of the job's plan.
+-- Proves that the listing of an analysis that is done is printed from the parts of its slices that hold the steps and the lists of the job's plan.
 -- Assumes nothing.
 use Prim.Native.Nat.{ℕ, zero, _+_, _≤_}
 use mathlib.Core.Path.{_≡_, sym, ap, _∙_}
@@ -70,7 +70,7 @@ module _ (job : Job) (lent : Lent) {r : Answer} {after : Lent} (e : _≡_ {A = O
     answer-is : analysed job lent .answer ≡ r
     answer-is = sym (ap (λ (o : Outcome Lent). o .answer) e)
 
-    -- its refusal's line
+    -- the line of its refusal is printed
     pub refused-printed : r .number ≢ 0 → printedFrom job lent ≡ refusalLine r
     refused-printed z = ap (jobPrinted job) answer-is ∙ refusal-printed job r (omega arith)
 
@@ -88,11 +88,11 @@ pub record Done (job : Job) (lent : Lent) : Type 0 where
   pub zero : answered .number ≡ 0
 
 module _ {job : Job} {lent : Lent} (d : Done job lent) where
-  -- the plan lies in front of its slices
+  -- the fronts of its slices hold the plan
   pub done-lies : Parts (job .n) (planOf job) (d .after .order) (d .after .pops) (d .after .factorStarts) (d .after .factorRows)
   done-lies = done-parts job lent (d .ends) (d .zero)
 
-  -- it has few columns, and a step for each
+  -- the plan has few columns, and a step for each
   pub done-columns : job .n ≤ maxColumns
   done-columns = done-few job lent (d .ends) (d .zero)
 
@@ -104,7 +104,7 @@ module _ {job : Job} {lent : Lent} (d : Done job lent) where
       (take (getD (d .after .factorStarts) (job .n) 0) (d .after .factorRows))
   done-printable = parts-printable job done-lies (done-valid job lent (d .ends) (d .zero))
 
-  -- and are what is printed
+  -- the lines of these steps are what is printed
   pub done-printed : printedFrom job lent
       ≡ planLines (job .n) (job .mark) (d .answered .count) (take (job .n) (d .after .order)) (take (job .n) (d .after .pops))
       (take (job .n + 1) (d .after .factorStarts)) (take (getD (d .after .factorStarts) (job .n) 0) (d .after .factorRows))

@@ -1,5 +1,5 @@
--- The lines of the steps of an analysed order, from the slices that hold it, are those of the job: each column's rows lie between its starts, and the
--- rooms by steps are those of the columns.
+-- Proves that the lines printed from the slices of an analysis are the job's: each column's rows are between its starts, and the rooms of the steps
+-- are those of the columns.
 -- Assumes nothing.
 use Prim.Native.Nat.{ℕ, zero, suc, _+_, _*_, _<_, _≤_}
 use mathlib.Core.Path.{_≡_, refl, sym, ap, _∙_}

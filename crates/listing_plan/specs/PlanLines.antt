@@ -1,4 +1,4 @@
--- The listing of a plan, as the slices of an analysis hold it, and what its writers ask.
+-- Defines the listing of a plan that the slices of an analysis hold, and what its writers require.
 -- Assumes nothing.
 use Prim.Native.Nat.{ℕ, _<_, _≤_}
 use mathlib.Core.List.{List, [], _∷_, _++_}
@@ -17,13 +17,13 @@ planLines n mark peak order pops starts rows = printed wordPlan (n ∷ mark ∷ 
 abbrev pub printedFrom : Job → Lent → List ℕ
 printedFrom job lent = jobPrinted job (analysed job lent .answer)
 
--- the steps can be printed, there are places for the sums of the updates, and the listing fits
+-- the steps can be printed, below has places for the sums of the updates, and the listing fits
 pub record PlanFits (n mark peak : ℕ) (order pops starts rows below bytes : List ℕ) : Type 0 where
   pub printable : Printable order pops starts rows
   pub wide : length order < length below
   pub fits : length (planLines n mark peak order pops starts rows) ≤ length bytes
 
--- there are places for the sums of the updates, and what is printed fits
+-- work has places for the sums of the updates, and what is printed fits
 pub record PrintFits (job : Job) (lent : Lent) (bytes : List ℕ) : Type 0 where
   pub wide : job .n < length (lent .work)
   pub fits : length (printedFrom job lent) ≤ length bytes

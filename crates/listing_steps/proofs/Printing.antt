@@ -1,5 +1,4 @@
--- The lines of the steps, one behind the other. One step more is one line more behind those written, and the room in use of a step is what the
--- updates held before it leave.
+-- Proves how the lines of the steps follow one another: one step more writes one line more, and the updates held before a step give its room in use.
 -- Assumes nothing.
 use Prim.Native.Nat.{ℕ, zero, suc, _+_, _-_, _<_, _≤_, min}
 use mathlib.Core.Path.{_≡_, refl, sym, ap, _∙_}

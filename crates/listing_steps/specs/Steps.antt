@@ -1,4 +1,4 @@
--- The lines of the steps of an order, as the slices of an analysis hold it.
+-- Defines the lines of the steps of an order that the slices of an analysis hold.
 -- Assumes nothing.
 use Prim.Native.Nat.{ℕ, zero, suc, _+_, _<_, _≤_}
 use mathlib.Core.List.{List, [], _∷_, _++_}
@@ -10,11 +10,11 @@ use Rattle.room.specs.Rows.{Column}
 use Rattle.room.specs.Steps.{rowsAt, popsAt, heldAt, Stepped}
 
 module _ (order pops starts rows : List ℕ) where
-  -- the room in use at the step behind the first k
+  -- the room in use at the step after the first k
   abbrev pub roomBehind : ℕ → ℕ
   roomBehind k = roomAt (popsAt pops (suc k)) (rowsAt starts order (suc k)) (heldAt starts order pops k)
 
-  -- its line
+  -- the line of that step
   unfoldable pub lineBehind : ℕ → List ℕ
   lineBehind k = printed (decimalOf (getD order k 0)) (getD pops k 0 ∷ roomBehind k ∷ columnOf starts rows (getD order k 0))
 
@@ -23,18 +23,18 @@ module _ (order pops starts rows : List ℕ) where
   linesTo zero = []
   linesTo (suc k) = linesTo k ++ lineBehind k
 
--- steps that can be done, of columns whose rows are there
+-- the steps can be done, and the slices hold the rows of their columns
 pub record Printable (order pops starts rows : List ℕ) : Type 0 where
   pub stepped : Stepped starts order pops
   pub inside : (k : ℕ) → k < length order → getD starts (getD order k 0) 0 ≤ length rows
 
--- the line of a step of column j can be written from `at` on: the column's rows are there, and the line fits
+-- the line of a step of column j can be written from `at` on: the slices hold the column's rows, and the line fits
 pub record LineFits (j pops room : ℕ) (starts rows bytes : List ℕ) (at : ℕ) : Type 0 where
   pub column : Column starts j
   pub inside : getD starts j 0 ≤ length rows
   pub fits : at + length (printed (decimalOf j) (pops ∷ room ∷ columnOf starts rows j)) ≤ length bytes
 
--- the lines of all steps can be written from `at` on: there are places for the sums of the updates, and the lines fit
+-- the lines of all steps can be written from `at` on: below has places for the sums of the updates, and the lines fit
 pub record StepsFit (order pops starts rows below bytes : List ℕ) (at : ℕ) : Type 0 where
   pub printable : Printable order pops starts rows
   pub wide : length order < length below

@@ -1,4 +1,4 @@
--- The climb's loop: the columns on the way have row i; it ends at the first that is marked, at the latest at column i itself.
+-- Proves the steps of the climb's loop: every column on the way has row i, and the climb ends at the first marked column, at the latest at column i.
 -- Assumes nothing.
 use Prim.Native.Nat.{ℕ, _+_, _-_, _*_, _<_, _≤_}
 use mathlib.Core.Path.{_≡_, refl, sym, _∙_}
@@ -18,7 +18,7 @@ use Rattle.fill_laws.proofs.Parents.{parent-least, parent-above, hands-on}
 use Rattle.needed_climb.specs.Row.{Row, Start, Climbing, Climbed}
 use Rattle.needed_climb.proofs.Marking.{settle, step, parent-new, parent-old, count-few}
 
--- the climb from k stands at c
+-- the climb from k has reached c
 pub record Climb (i k : ℕ) (p₀ w₀ : List ℕ) (t₀ : ℕ) (p w : List ℕ) (t c : ℕ) : Type 0 where
   pub state : (n : ℕ) (A : Pattern) → Start n i k A p₀ w₀ t₀ → Row n i A p w t c × ((c ≡ i) ⊎ (i ∈ R A c))
   pub low : 1 ≤ c
@@ -42,7 +42,7 @@ begin {i} {k} {t} {p} {w} s =
       long-w = refl;
     }
 
--- bounds at the place where the climb stands
+-- bounds at the column that the climb has reached
 pub record Here (i c : ℕ) (p w : List ℕ) (t : ℕ) : Type 0 where
   pub below : c < i
   pub in-p : c - 1 < length p
@@ -57,7 +57,7 @@ module _ {i k t₀ t c : ℕ} {p₀ w₀ p w : List ℕ} (s : Climbing i k p₀ 
   pub in-work : c < length w
   in-work = omega (arith, R-range (s .start .good) k i (s .start .leaf), s .start .long-work, r .long-w, r .high)
 
-  -- it meets a mark
+  -- the climb meets a mark
   pub stop : getD w c 0 ≡ i → Climbed i k p₀ w₀ t₀ p w t
   stop h =
       record {
@@ -100,7 +100,7 @@ module _ {i k t₀ t c : ℕ} {p₀ w₀ p w : List ℕ} (s : Climbing i k p₀ 
     others-on : (x : ℕ) → i < x → getD (set w c i) x 0 ≡ getD w₀ x 0
     others-on x l = getD-set-other w c x i 0 (λ q. omega (arith, here .below)) ∙ r .others x l
 
-    -- it goes on at the parent c′
+    -- the climb goes on at the parent c′
     on : (p′ : List ℕ) (c′ : ℕ) → c < c′ → c′ ≤ i → length p′ ≡ length p → ((x : ℕ) → x ≢ c - 1 → getD p′ x 0 ≡ getD p x 0)
         → ((n : ℕ) (A : Pattern) → Start n i k A p₀ w₀ t₀ → (getD p′ (c - 1) 0 ≡ parent A c) × (parent A c ≡ c′))
         → Climb i k p₀ w₀ t₀ p′ (set w c i) (t + 1) c′
@@ -129,7 +129,7 @@ module _ {i k t₀ t c : ℕ} {p₀ w₀ p w : List ℕ} (s : Climbing i k p₀ 
                   (below-or (parent A c) i),
             )
 
-    -- its parent is row i
+    -- the column's parent is row i
     pub go-new : getD p (c - 1) 0 ≡ 0 → Climb i k p₀ w₀ t₀ (set p (c - 1) i) (set w c i) (t + 1) i
     go-new e =
         on (set p (c - 1) i) i (here .below) (omega arith) (length-set p (c - 1) i) (λ x z. getD-set-other p (c - 1) x i 0 z)
@@ -146,6 +146,6 @@ module _ {i k t₀ t c : ℕ} {p₀ w₀ p w : List ℕ} (s : Climbing i k p₀ 
     pub go-up : getD p (c - 1) 0 ≢ 0 → (c < getD p (c - 1) 0) × (getD p (c - 1) 0 ≤ i)
     go-up e = let o = old (s .n) (s .pattern) (s .start) e in (omega (arith, o .0, o .1 .0), omega (arith, o .0, o .1 .1))
 
-    -- its parent is known
+    -- the column's parent is stored already
     pub go-old : getD p (c - 1) 0 ≢ 0 → Climb i k p₀ w₀ t₀ p (set w c i) (t + 1) (getD p (c - 1) 0)
     go-old e = on p (getD p (c - 1) 0) (go-up e .0) (go-up e .1) refl (λ x z. refl) (λ n A a. let q = old n A a e .0 in (q, sym q))

@@ -1,4 +1,5 @@
--- Within a row: one more column is marked and counted, and its parent is known. What was open at that column is then open at its parent.
+-- Proves what one turn of the climb does: it marks and counts one more column and stores its parent. What was still to be marked from that column is
+-- then to be marked from its parent.
 -- Assumes nothing.
 use Prim.Native.Nat.{ℕ, _+_, _-_, _*_, _<_, _≤_}
 use mathlib.Core.Path.{_≡_, refl, sym, ap, _∙_}
@@ -20,7 +21,7 @@ use Rattle.needed_climb.specs.Sums.{sumTo, under, hit}
 use Rattle.needed_climb.specs.Row.{tally, Row}
 use Rattle.needed_climb.proofs.Sums.{hit-yes, hit-no, sum-same, sum-bump, sum-few, under-few}
 
--- a climb that meets a mark leaves nothing open
+-- a climb that meets a mark leaves no column to mark
 pub settle : {n i d t : ℕ} {A : Pattern} {p w : List ℕ} (e : ℕ) → Row n i A p w t d → getD w d 0 ≡ i → Row n i A p w t e
 settle {n} {i} {d} {t} {A} {p} {w} e r h =
     record {
@@ -32,7 +33,7 @@ settle {n} {i} {d} {t} {A} {p} {w} e r h =
       low = r .low;
     }
 
--- another work with the same marks
+-- another work that keeps the same marks
 pub row-ext : {n i d t : ℕ} {A : Pattern} {p w : List ℕ} (w′ : List ℕ) → Below n A → i ≤ n → ((x : ℕ) → x ≤ n → getD w′ x 0 ≡ getD w x 0)
     → Row n i A p w t d → Row n i A p w′ t d
 row-ext {n} {i} {d} {t} {A} {p} {w} w′ good h f r =
@@ -62,13 +63,13 @@ count-few {n} {i} {t} {d} {A} {p} {w} good h r = omega (arith, r .sum, sum-few n
     few : (c : ℕ) → tally A w i c ≤ maxColumns + 1
     few c = omega (arith, under-few i (R A c), at-most c, asc-length n c (R A c) (R-asc good c) (λ x m. R-range good c x m .1))
 
--- the climb stands at column c, which has row i and is not marked for it
+-- the climb has reached column c, which has row i and is not marked for it
 module _ {n i c t : ℕ} {A : Pattern} {p w : List ℕ} (r : Row n i A p w t c) (good : Below n A) (m : i ∈ R A c) (a : 1 ≤ c) (fresh : getD w c 0 ≢ i)
   where
     range : (c < i) × (i ≤ n)
     range = R-range good c i m
 
-    -- its parent, by what stands at its place
+    -- the column's parent, from the number at its place
     pub parent-new : getD p (c - 1) 0 ≡ 0 → parent A c ≡ i
     parent-new h =
         let l = parent-least good c i m in
@@ -81,7 +82,7 @@ module _ {n i c t : ℕ} {A : Pattern} {p w : List ℕ} (r : Row n i A p w t c) 
     parent-old h =
         ⊎-elim (λ (u : getD p (c - 1) 0 ≡ 0). absurd (h u)) (λ (u : getD p (c - 1) 0 ≡ parent A c). u) (r .known .right c a (omega (arith, range)))
 
-    -- it is marked, its parent stored where it was not
+    -- marks the column, and stores its parent if none was stored
     pub step : (p′ : List ℕ) → n < length w → ((x : ℕ) → x ≢ c - 1 → getD p′ x 0 ≡ getD p x 0) → getD p′ (c - 1) 0 ≡ parent A c
         → Row n i A p′ (set w c i) (t + 1) (parent A c)
     step p′ lw f e =

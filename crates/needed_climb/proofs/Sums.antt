@@ -1,4 +1,4 @@
--- Sums over the columns, and how many rows of a list are below i.
+-- Proves facts of sums over the columns, and of how many rows of a list are below i.
 -- Assumes nothing.
 use Prim.Native.Nat.{ℕ, zero, suc, _+_, _*_, _<_, _≤_}
 use mathlib.Core.Path.{_≡_, refl}
@@ -27,7 +27,7 @@ unfolding sumTo
 sum-same zero g h f = refl
 sum-same (suc n) g h f = omega (arith, sum-same n g h (λ c a b. f c a (omega arith)), f (suc n) (omega arith) (omega arith))
 
--- one more at d
+-- raises the number at d by one
 pub sum-bump : (n d : ℕ) (g h : ℕ → ℕ) → 1 ≤ d → d ≤ n → h d ≡ g d + 1 → ((c : ℕ) → 1 ≤ c → c ≤ n → c ≢ d → h c ≡ g c) → sumTo n h ≡ sumTo n g + 1
 unfolding sumTo
 sum-bump zero d g h a b e f = absurd (omega arith)
@@ -41,7 +41,7 @@ sum-bump (suc n) d g h a b e f =
     (λ (l : d ≡ suc n). omega (arith, sum-same n g h (λ c u v. f c u (omega arith) (λ z. omega arith)), rw l at e))
     (le-suc-iff .0 b)
 
--- a sum of numbers of at most maxColumns + 1
+-- bounds a sum of numbers of at most maxColumns + 1
 pub sum-few : (n : ℕ) (g : ℕ → ℕ) → ((c : ℕ) → 1 ≤ c → c ≤ n → g c ≤ maxColumns + 1) → sumTo n g ≤ n * (maxColumns + 1)
 unfolding sumTo
 sum-few zero g f = omega arith

@@ -1,5 +1,5 @@
--- The state within row i: which columns are marked for it, what is counted, which parents are known.
--- The mark of column c stands at c in work, its parent at c - 1 in parents.
+-- Defines the state within row i: which columns are marked for it, what is counted, and which parents are known. Place c of work holds the mark of
+-- column c, and place c - 1 of parents its parent.
 -- Assumes nothing.
 use Prim.Native.Nat.{ℕ, _+_, _-_, _<_, _≤_}
 use mathlib.Core.Path.{_≡_}
@@ -13,16 +13,16 @@ use Rattle.papers.specs.Fill.{R}
 use Rattle.papers.specs.Tree.{parent}
 use Rattle.needed_climb.specs.Sums.{sumTo, under, hit}
 
--- the rows of column c below i, and one more where it is marked for row i
+-- counts the rows of column c below i, and one more if it is marked for row i
 abbrev pub tally : Pattern → List ℕ → ℕ → ℕ → ℕ
 tally A work i c = under i (R A c) + hit (getD work c 0) i
 
--- at each column its parent or nothing, and each parent below i
+-- parents holds at each column its parent or 0, and it holds every parent below i
 pub record Known (n i : ℕ) (A : Pattern) (parents : List ℕ) : Type 0 where
   pub right : (c : ℕ) → 1 ≤ c → c ≤ n → (getD parents (c - 1) 0 ≡ 0) ⊎ (getD parents (c - 1) 0 ≡ parent A c)
   pub known : (c : ℕ) → 1 ≤ c → c ≤ n → 0 < parent A c → parent A c < i → getD parents (c - 1) 0 ≡ parent A c
 
--- a column marked for row i has row i and its parent; the parent is marked too, or is d, where the climb stands; t rows are counted
+-- a column marked for row i has row i and its parent is stored; the parent is marked too, or is d, the climb's next; t rows are counted
 pub record Row (n i : ℕ) (A : Pattern) (parents work : List ℕ) (t d : ℕ) : Type 0 where
   pub known : Known n i A parents
   pub sum : sumTo n (tally A work i) ≡ t + 1
@@ -46,7 +46,7 @@ pub record Climbing (i k : ℕ) (parents work : List ℕ) (t : ℕ) : Type 0 whe
   pub pattern : Pattern
   pub start : Start n i k pattern parents work t
 
--- what a climb leaves, whatever the pattern
+-- what a climb leaves for any pattern
 pub record Climbed (i k : ℕ) (parents₀ work₀ : List ℕ) (t₀ : ℕ) (parents work : List ℕ) (t : ℕ) : Type 0 where
   pub row : (n : ℕ) (A : Pattern) → Start n i k A parents₀ work₀ t₀ → Row n i A parents work t i
   pub met : getD work k 0 ≡ i

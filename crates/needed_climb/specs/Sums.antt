@@ -1,4 +1,4 @@
--- Counting the rows of all lists by rows instead of by columns.
+-- Defines how the rows of all lists are counted by rows instead of by columns.
 -- Assumes nothing.
 use Prim.Native.Nat.{ℕ, zero, suc, _+_}
 use mathlib.Core.Bool.{true, false}
@@ -10,11 +10,11 @@ unfoldable pub sumTo : ℕ → (ℕ → ℕ) → ℕ
 sumTo zero g = 0
 sumTo (suc n) g = sumTo n g + g (suc n)
 
--- how many numbers of a list are below i
+-- counts the numbers of a list that are below i
 unfoldable pub under : ℕ → List ℕ → ℕ
 under i [] = 0
 under i (x ∷ xs) = elim (ltb x i) [ true ↦ suc (under i xs) | false ↦ under i xs ]
 
--- 1 where a is b, else 0
+-- 1 if a is b, else 0
 unfoldable pub hit : ℕ → ℕ → ℕ
 hit a b = elim (eqb a b) [ true ↦ 1 | false ↦ 0 ]

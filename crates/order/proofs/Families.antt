@@ -1,4 +1,5 @@
--- The columns of parents and factor starts: what holds of 1 to n holds of every number, since there are no rows and no parent elsewhere.
+-- Proves that what holds of the columns 1 to n, by parents and factor starts, holds of every number, since any other number has no rows and no
+-- parent.
 -- Assumes nothing.
 use Prim.Native.Nat.{ℕ, zero, suc, _+_, _<_, _≤_}
 use mathlib.Core.Path.{_≡_, refl, sym, fun-ext, _∙_}
@@ -42,7 +43,7 @@ module _ {parents factor : List ℕ} (rowed : Rowed parents factor) where
   no-parent zero h = absurd (omega arith)
   no-parent (suc i) h = let past : length parents ≤ i = omega arith in parent-is parents i ∙ List·getD-eq-default parents 0 past
 
-  -- no column has more rows than there may be columns
+  -- no column has more rows than the greatest number of columns
   pub rows-few : (j : ℕ) → rowsIn factor j ≤ maxColumns
   unfolding rowsIn
   rows-few zero = omega arith
@@ -52,7 +53,7 @@ module _ {parents factor : List ℕ} (rowed : Rowed parents factor) where
       go (inl h) = omega (arith, no-rows (suc i) h)
       go (inr h) = rowed .few (suc i) (omega arith) h
 
-  -- no rows exactly where there is no parent
+  -- a column has no rows exactly if it has no parent
   pub roots-all : (j : ℕ) → (rowsIn factor j ≡ 0) ↔ (parentIn parents j ≡ 0)
   unfolding rowsIn parentIn
   roots-all zero = (λ e. refl, λ e. omega arith)
@@ -62,7 +63,7 @@ module _ {parents factor : List ℕ} (rowed : Rowed parents factor) where
       go (inl h) = (λ e. no-parent (suc i) h, λ e. no-rows (suc i) h)
       go (inr h) = rowed .roots (suc i) (omega arith) h
 
-  -- children are lower columns with rows
+  -- children are lower columns and have rows
   pub kin-of : Kin (rowsIn factor) (kidsIn parents)
   kin-of =
       record {
@@ -78,7 +79,7 @@ module _ {parents factor : List ℕ} (rowed : Rowed parents factor) where
   pub family-of : (mark : ℕ) → n ≤ maxColumns → Family mark factor (kidsIn parents) n
   family-of mark h = record { kin = kin-of; column = column-of; rows = rows-few; short = steps-short (rowed .tree) mark (rowsIn factor); few = h }
 
--- ---- lists that lie one behind the other are those of the children, of every number
+-- ---- lists that follow one another are those of the children, for every number
 module _ (parents : List ℕ) {starts list : List ℕ} (tree : TreeIn parents) (lie : Lie (kidsIn parents) (length parents) starts list)
     (long : length starts ≡ length parents + 2) where
   -- past the last column there is none

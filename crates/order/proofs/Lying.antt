@@ -1,5 +1,5 @@
--- The lists of children laid out in the first numbers of work and in the list, the descendants behind, and then arranged by the mark: so they lie
--- as the walk takes them.
+-- Proves that the lists of children, laid out in work and in the list with the descendants behind them and arranged by the mark, are in the form that
+-- the walk takes.
 -- Assumes nothing.
 use Prim.Native.Nat.{ℕ, _+_, _<_, _≤_}
 use mathlib.Core.Path.{_≡_, sym, ap, _∙_}
@@ -47,7 +47,7 @@ module _ {mark : ℕ} {parents factor list work : List ℕ} {order pops lent : �
     kids-lie : kidsAt (take m work) list ≡ (λ j. kidsIn parents j)
     kids-lie = lists-are parents (given .rowed .tree) (laid .lie) front-length
 
-    -- what arranging asks
+    -- what arranging requires
     pub arrange-asked : Arrangeable mark factor list work order w k
     arrange-asked = record {
       family = rw (list-length, kids-lie) (family-of (given .rowed) mark (given .columns));
@@ -87,7 +87,7 @@ module _ {mark : ℕ} {parents factor list work : List ℕ} {order pops lent : �
         many = part-length m w work (omega arith) (omega (arith, work-kept, given .work-length)) ∙ omega arith;
       })
 
-      -- as the walk takes them, the starts fill the front of work
+      -- the starts fill the front of work, as the walk takes them
       pub starts-long : length (take m work′) ≡ m
       starts-long = rw front-same front-length
 

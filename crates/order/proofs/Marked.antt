@@ -1,5 +1,5 @@
--- The walk over lists arranged by a mark gives the steps of that mark; a subtree has as many steps under every mark, and in its order no step
--- takes off more updates than are held.
+-- Proves that the walk over lists arranged by a mark gives the steps of that mark. A subtree takes as many steps under every mark, and no step of its
+-- order pops more updates than are held.
 -- Assumes nothing.
 use Prim.Native.Nat.{ℕ, suc, _+_, _<_, _≤_}
 use mathlib.Core.Path.{_≡_, sym, ap, _∙_}
@@ -54,7 +54,7 @@ module _ {par : ℕ → ℕ} {n : ℕ} (tree : Tree par n) where
   steps-once mark size f j l u =
       valid-distinct par (stepsOf mark size (children par n) f j) [] (steps-order tree mark size f j l u .valid [] (λ x s m. List·Memᴰ·not-nil m)) .0
 
-  -- as many steps under every mark
+  -- a subtree takes as many steps under every mark
   pub steps-count : (mark other : ℕ) (size size′ : ℕ → ℕ) (f g j : ℕ) → 0 < j → j ≤ f → j ≤ g
       → length (stepsOf mark size (children par n) f j) ≡ length (stepsOf other size′ (children par n) g j)
   steps-count mark other size size′ f g j l u v =
@@ -82,7 +82,7 @@ module _ {par : ℕ → ℕ} {n : ℕ} (tree : Tree par n) (mark : ℕ) (size : 
   abbrev order : List ℕ
   order = flatMap (stepsOf mark size (children par n) n) (children par n 0)
 
-  -- no step takes off more updates than are held
+  -- no step pops more updates than are held
   pub order-enough : (k : ℕ) → k < length order → pops (getD order k 0) ≤ length (heldAfterAll size pops [] (take k order))
   order-enough k h =
       rw (held-entries size pops par roots order k (omega arith), ← (column-at order k))

@@ -1,4 +1,4 @@
--- The steps written, their pops are the numbers of children by the starts, and the pass over both finds the peak of the order.
+-- Proves that the pops, counted by the starts, are the numbers of children, and that the pass over the steps and pops finds the peak of the order.
 -- Assumes nothing.
 use Prim.Native.Nat.{ℕ, _+_, _<_, _≤_}
 use mathlib.Core.Path.{_≡_, refl, ap, _∙_}
@@ -57,7 +57,7 @@ module _ {mark : ℕ} {parents factor : List ℕ} {order-room pops-room lent : �
     order-length : length order ≡ length parents
     order-length = ap length (written .steps) ∙ steps-length
 
-    -- what their pops ask
+    -- what counting the pops requires
     pub pops-asked : {pops : List ℕ} → length pops ≡ pops-room → PopsGiven front order pops
     pops-asked room = rw (written .steps) (record {
       list = λ k h. record {
@@ -74,7 +74,7 @@ module _ {mark : ℕ} {parents factor : List ℕ} {order-room pops-room lent : �
           counted ∙ rw (written .steps)
           (map-same (countAt front) (popsIn parents) steps (λ j m. written .starts .count j (in-range j m .1)))
 
-      -- what the peak asks
+      -- what finding the peak requires
       pub peak-given : PeakGiven factor order pops work
       peak-given = record { stepped = peak-asked (written .steps) pops-are; room = omega (arith, order-length, given .work-length) }
 

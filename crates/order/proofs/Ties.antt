@@ -1,5 +1,5 @@
--- The tree that a list of the parents names, and the rows that the factor starts count, are those of the pattern: for every column of it by the
--- place where it stands, and for every other number because it has neither rows nor a parent.
+-- Proves that the tree named by the list of parents, and the rows counted by the factor starts, are those of the pattern: for each column by its
+-- place, and for any other number since it has no rows and no parent.
 -- Assumes nothing.
 use Prim.Native.Nat.{ℕ, zero, suc, _-_, _<_, _≤_}
 use mathlib.Core.Path.{_≡_, sym, ap, _∙_}
@@ -25,7 +25,7 @@ use Rattle.tree.specs.Parents.{parentIn, kidsIn}
 use Rattle.room.specs.Rows.{rowsIn}
 use Rattle.order.specs.Given.{Rowed, popsIn, orderIn}
 
--- the parents of the columns 1 to n, and the starts of their lists, as the slices hold them
+-- the slices hold the parents of the columns 1 to n, and the starts of their lists
 abbrev pub parentsOf : ℕ → Pattern → List ℕ
 parentsOf n A = map (parent A) (upTo n)
 

@@ -1,4 +1,4 @@
--- From lists of children arranged by the mark to the order: they are what the walk asks for, and it writes the order of the mark.
+-- Proves that lists of children arranged by the mark are what the walk requires, and that the walk then writes the order of the mark.
 -- Assumes nothing.
 use Prim.Native.Nat.{ℕ, zero, suc, _+_, _<_, _≤_}
 use mathlib.Core.Path.{_≡_, sym, ap, _∙_}
@@ -25,7 +25,7 @@ use Rattle.order.specs.Given.{Rowed, stepsIn, orderIn}
 use Rattle.siblings.specs.Arranged.{arrangedIn}
 use Rattle.order.proofs.Marked.{block-marked, steps-count}
 
--- lists of children that lie arranged by the mark, those of the roots ascending, and the descendants of each column counted
+-- the lists of children are arranged by the mark, those of the roots ascend, and the descendants of each column are counted
 pub record Lists (mark : ℕ) (parents factor starts list counts : List ℕ) : Type 0 where
   pub rowed : Rowed parents factor
   pub few : length parents ≤ maxColumns
@@ -86,7 +86,7 @@ module _ {mark : ℕ} {parents factor starts list counts : List ℕ} (lying : Li
       ∙ flatMap-same (block (kidsAt starts list)) (stepsIn mark parents factor) (kids 0) (λ c m. let (l, u, e) = children-are (parentIn parents) n 0
       c .0 m in own-steps c l u)
 
-  -- what the walk asks
+  -- what the walk requires
   pub walk-asked : (room : ℕ) → room ≡ n → Asked starts list counts 0 n 0 room (kidsSteps starts list 0)
   walk-asked room e = record {
     laid = laid;
@@ -99,7 +99,7 @@ module _ {mark : ℕ} {parents factor starts list counts : List ℕ} (lying : Li
     fits = omega arith;
   }
 
-  -- what it writes
+  -- what the walk writes
   pub walk-wrote : (order : List ℕ) {order′ : List ℕ} → length order ≡ n → order′ ≡ sets order 0 (kidsSteps starts list 0)
       → order′ ≡ orderIn mark parents factor
   walk-wrote order e q =

@@ -1,4 +1,4 @@
--- The tree and the rows that an order is made from, as slices hold them; and the order, in the paper's terms.
+-- Defines the tree and the rows that an order is made from, as slices hold them, and the order in the papers' terms.
 -- Assumes nothing.
 use Prim.Native.Nat.{ℕ, _+_, _-_, _*_, _<_, _≤_}
 use mathlib.Core.Path.{_≡_}
@@ -11,7 +11,7 @@ use Rattle.papers.specs.Order.{stepsOf}
 use Rattle.tree.specs.Parents.{parentIn, TreeIn, kidsIn}
 use Rattle.room.specs.Rows.{countAt, rowsIn}
 
--- parents rise, factor starts rise; a column has rows exactly if it has a parent, and no more than there may be columns
+-- parents name a tree, and factor starts ascend; a column has rows exactly if it has a parent, and no more than the greatest number of columns
 pub record Rowed (parents factor : List ℕ) : Type 0 where
   pub tree : TreeIn parents
   pub starts : length factor ≡ length parents + 1
@@ -19,7 +19,7 @@ pub record Rowed (parents factor : List ℕ) : Type 0 where
   pub few : (j : ℕ) → 0 < j → j ≤ length parents → rowsIn factor j ≤ maxColumns
   pub roots : (j : ℕ) → 0 < j → j ≤ length parents → (rowsIn factor j ≡ 0) ↔ (parentIn parents j ≡ 0)
 
--- what the order is asked: of so many lent places for order, pops and work
+-- what making the order requires of the mark, the tree, and the lengths of order, pops and work
 pub record Given (mark : ℕ) (parents factor : List ℕ) (order pops work : ℕ) : Type 0 where
   pub rowed : Rowed parents factor
   pub columns : length parents ≤ maxColumns
@@ -40,18 +40,18 @@ stepsIn mark parents factor j = stepsOf mark (rowsIn factor) (kidsIn parents) (l
 abbrev pub orderIn : ℕ → List ℕ → List ℕ → List ℕ
 orderIn mark parents factor = flatMap (stepsIn mark parents factor) (kidsIn parents 0)
 
--- the starts of the children's lists: each list is as long as its column has children
+-- the starts of the children's lists: each list has as many places as its column has children
 pub record Starts (parents starts : List ℕ) : Type 0 where
   pub count : (j : ℕ) → j ≤ length parents → countAt starts j ≡ popsIn parents j
   pub rise : (j : ℕ) → j ≤ length parents → getD starts j 0 ≤ getD starts (j + 1) 0
   pub inside : (j : ℕ) → j ≤ length parents → getD starts (j + 1) 0 ≤ length parents
 
--- the steps are written, and the starts of the children's lists stand in the front of work
+-- the steps are written, and the front of work holds the starts of the children's lists
 pub record StepsWritten (mark : ℕ) (parents factor order work : List ℕ) : Type 0 where
   pub steps : order ≡ orderIn mark parents factor
   pub starts : Starts parents (take (length parents + 2) work)
 
--- the order, the pops of its steps, and its peak
+-- order holds the order, pops the pops of its steps, and peak is its peak
 pub record OrderMade (mark : ℕ) (parents factor order pops : List ℕ) (peak : ℕ) : Type 0 where
   pub steps : order ≡ orderIn mark parents factor
   pub counts : pops ≡ map (popsIn parents) (orderIn mark parents factor)

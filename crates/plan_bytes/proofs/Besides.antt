@@ -1,4 +1,4 @@
--- Bytes that were stored in their slice, or refused there, are stored or refused beside the others.
+-- Proves that bytes stored or refused in their slice are stored or refused beside the slices of the analysis.
 -- Assumes nothing.
 use Prim.Native.Nat.{ℕ, _<_, _≤_}
 use mathlib.Core.Path.{_≡_, sym, ap, _∙_}

@@ -1,5 +1,5 @@
--- The parts of the slices of an analysis that is done are the steps and the lists of the job's plan, so they can be written, and what is written is
--- that plan.
+-- Proves that the fronts of the slices of an analysis that is done hold the steps and the lists of the job's plan. So they can be written, and the
+-- bytes are that plan's.
 -- Assumes nothing.
 use mathlib.Core.Path.{_≡_, refl}
 use Rattle.papers.specs.declared.Answer.{Answer}
@@ -25,7 +25,7 @@ module _ (job : Job) (lent : Lent) {r : Answer} {after : Lent} (e : _≡_ {A = O
   lists-again : listsOf (job .n) (columnOf (startsFrom 0 (planOf job .lists)) (flat (planOf job .lists))) ≡ planOf job .lists
   lists-again = rw (done-fit job lent e z .all-lists) at (laid-lists (planOf job .lists))
 
-  -- the plan lies in front of its slices
+  -- the fronts of the slices hold the plan
   pub done-in-front : InFront job (after .order) (after .pops) (after .factorStarts) (after .factorRows) (r .count)
   done-in-front =
       let parts = done-parts job lent e z in
@@ -51,7 +51,7 @@ module _ (job : Job) (lent : Lent) {r : Answer} {after : Lent} (e : _≡_ {A = O
         planned = rw (parts .columns, parts .popped, parts .begins, parts .listed, steps-again (planOf job .steps), lists-again);
       })
 
--- what is then stored beside it is the outcome
+-- storing it beside the analysis gives the outcome
 pub done-stored : (job : Job) (slices : PlanLent) {r : Answer} {after : Lent}
     → _≡_ {A = Outcome Lent} (record { answer = r; lent = after }) (analysed job (slices .analysis)) → r .number ≡ 0
     → {found : Outcome PlanLent} → Alike (slices .analysis) after

@@ -1,5 +1,5 @@
--- The outcome of writing a plan by the outcome of the analysis: what that refuses is refused here, with the same answer; where it is done, the room
--- for the bytes decides.
+-- Proves the outcome of writing a plan from the outcome of the analysis: if that refuses, so does the writing, with the same answer; if it is done,
+-- the room for the bytes decides.
 -- Assumes nothing.
 use Prim.Native.Nat.{ℕ, _<_, _≤_}
 use mathlib.Core.Path.{_≡_, refl, sym, _∙_}
@@ -90,7 +90,7 @@ module _ (job : Job) (slices : PlanLent) where
     whole-way h =
         outcome-done planTests planDone planZero call slices (last-test ∙ over-passes-iff (length (slices .bytes)) (length written) _ zeroed .1 h)
 
-    -- what is stored beside the analysis is the outcome
+    -- storing the bytes beside the analysis gives the outcome
     pub way-stored : {after : Lent} {found : Outcome PlanLent} → after ≡ holdingPlan job (planOf job) (slices .analysis)
         → allZero after ≡ allZero (slices .analysis)
         → found ≡ storedBeside (planBytes job (planOf job)) (record { analysis = after; bytes = slices .bytes }) → found ≡ planWritten job slices

@@ -1,4 +1,4 @@
--- What storing bytes beside the slices of an analysis comes to.
+-- Defines the outcome of storing bytes beside the slices of an analysis.
 -- Assumes nothing.
 use Prim.Native.Nat.{ℕ}
 use mathlib.Core.List.{List, [], _∷_}
@@ -7,7 +7,7 @@ use Rattle.papers.specs.Lists.{thenZeros}
 use Rattle.papers.specs.Refusals.{answer, Outcome, outcome, bytesTest}
 use Rattle.papers.specs.Analysis.{PlanLent, planZero}
 
--- 10 where they do not fit, and all slices zero; else they stand in theirs, then zeros, and the others are as they were
+-- answers 10 if the bytes do not fit, and clears all slices; else stores them, then zeros, and keeps the other slices
 unfoldable pub storedBeside : List ℕ → PlanLent → Outcome PlanLent
 storedBeside written slices =
     outcome ((λ lent. bytesTest written (lent .bytes)) ∷ [])

@@ -1,4 +1,4 @@
--- The plan of a job in front of the slices of its analysis.
+-- Defines that the fronts of an analysis's slices hold the plan of its job.
 -- Assumes nothing.
 use Prim.Native.Nat.{ℕ, _+_, _≤_}
 use mathlib.Core.Path.{_≡_}
@@ -8,7 +8,7 @@ use Rattle.papers.specs.Job.{Job}
 use Rattle.papers.specs.Plan.{planOf}
 use Rattle.write_plan.specs.Lists.{planIn, Writable}
 
--- the fronts of the slices, as long as a plan of n columns has them, can be written and are the plan of the job; the last start says how many rows
+-- the fronts of the slices, as long as n columns need, can be written and are the plan of the job; the last start tells how many rows
 -- there are
 pub record InFront (job : Job) (order pops starts rows : List ℕ) (peak : ℕ) : Type 0 where
   pub order-long : job .n ≤ length order

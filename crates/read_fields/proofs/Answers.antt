@@ -1,4 +1,4 @@
--- Between what is read and what is answered: a field's answer is told by its number and its range, and from an answer the reading follows.
+-- Proves how readings and answers correspond: a field's number and range decide its answer, and an answer tells what was read.
 -- Assumes nothing.
 use Prim.Native.Nat.{ℕ, _+_, _-_, _*_, _<_, _≤_}
 use mathlib.Core.Bool.{true, false}
@@ -22,7 +22,7 @@ use Rattle.read_fields.specs.declared.Reading.{Reading}
 -- ---- a field, by its number
 
 module _ (low high at v next : ℕ) where
-  -- outside its range it is 14, where it starts
+  -- a number outside its range is 14, at its first place
   pub below-range : v < low → Refused 14 (at + 1) ≡ reading (inField low high at (Value v next))
   unfolding inField reading
   below-range h = rw (lt-ltb v low h, inField)
@@ -36,7 +36,7 @@ module _ (low high at v next : ℕ) where
     unfolding inField reading
     in-range h = rw (le-ltb v low l, le-ltb high v h, inField)
 
--- bytes that end inside it are 12; too long and not shortest are 13
+-- bytes that end within a number are 12; a number that is too long or not shortest is 13
 module _ (low high at : ℕ) where
   pub ended-is-12 : Refused 12 (at + 1) ≡ reading (inField low high at Ended)
   unfolding inField reading
@@ -50,7 +50,7 @@ module _ (low high at : ℕ) where
   unfolding inField reading
   not-shortest-is-13 = refl
 
--- a field's answer is that of the number that is read there
+-- the number read at a place gives the field's answer
 pub field-by-number : (low high : ℕ) (s : List ℕ) (at : ℕ) {x : Number} {r : Reading} → x ≡ readNumber s at → r ≡ reading (inField low high at x)
     → r ≡ reading (field low high s at)
 unfolding field
@@ -63,7 +63,7 @@ one-group s at {b} h e l =
     let last = read-last true s at h (maxGroups - 1) (omega arith) ∙ last-shown true (getD s at 0) at tt in
     ap (λ (x : ℕ). Value x (at + 1)) e ∙ sym last
 
--- a byte of 128 or more and behind it one below 128, but not 0, are a number
+-- a byte of 128 or more and a byte from 1 to 127 behind it are a number
 pub two-groups : (s : List ℕ) (at : ℕ) {low next : ℕ} → at + 1 < length s → low ≡ getD s at 0 → 128 ≤ low → next ≡ getD s (at + 1) 0 → next ≢ 0
     → next < 128
     → Value (low - 128 + 128 * next) (at + 2) ≡ readNumber s at
@@ -96,16 +96,16 @@ module _ (low high : ℕ) (s : List ℕ) (at : ℕ) {r : Reading} (e : r ≡ rea
   pub field-read : {v next : ℕ} → r ≡ Found v next → field low high s at ≡ got v next
   field-read g = reading-found (field low high s at) e g
 
-  -- its range, and where it ends
+  -- the field is in its range, and ends within the bytes
   pub field-found : {v next : ℕ} → r ≡ Found v next → fields.Found low high s at v next
   field-found {v} {next} g = fields.field-got low high s at v next (field-read g)
 
--- a field by a number in its range
+-- finds a field from a number in its range
 pub field-is : (low high : ℕ) (s : List ℕ) (at : ℕ) {v next : ℕ} → Value v next ≡ readNumber s at → low ≤ v → v ≤ high
     → field low high s at ≡ got v next
 field-is low high s at {v} {next} e l h = field-read low high s at (field-by-number low high s at e (in-range low high at v next l h)) refl
 
--- a part that is found, and kept
+-- a part is found, and kept
 pub record PartFound {A : Type 0} (f : A → ℕ) (Kept : A → Type 0) (found : Read A) (v next : ℕ) : Type 0 where
   pub part : A
   pub read : found ≡ got part next
@@ -117,12 +117,12 @@ module _ {A : Type 0} {f : A → ℕ} {Kept : A → Type 0} {found : Read A} whe
   told-found {next = next} (finds a m e g k) h = let y : m ≡ next = cc in record { part = a; read = e ∙ ap (got a) y; value = cc; kept = k }
   told-found (refuses c p e g) h = absurd (let z : _≡_ {A = ℕ} 0 1 = cc in omega arith)
 
-  -- a part that is refused
+  -- a part is refused
   pub told-refused : {r : Reading} {number place : ℕ} → Told f Kept found r → r ≡ Refused number place → found ≡ bad number place
   told-refused (finds a m e g k) h = absurd (let z : _≡_ {A = ℕ} 0 1 = cc in omega arith)
   told-refused {number = number} {place = place} (refuses c p e g) h = let x : c ≡ number = cc in let y : p ≡ place = cc in rw (← x, ← y) e
 
--- what is told of one reading is told of another that is the same
+-- what is told of one reading is told of any equal reading
 pub told-of : {A : Type 0} {f : A → ℕ} {Kept : A → Type 0} {found same : Read A} {r : Reading} → same ≡ found → Told f Kept found r
     → Told f Kept same r
 told-of e (finds a next g h k) = finds a next (e ∙ g) h k

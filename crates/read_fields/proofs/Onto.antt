@@ -1,4 +1,4 @@
--- Parts put onto those read before: what a loop that reads a list part by part needs of `onto`. It is the whole list that is found, or refused.
+-- Proves facts of `onto`, which puts parts onto those read before: a loop that reads a list part by part finds or refuses the whole list.
 -- Assumes nothing.
 use Prim.Native.Nat.{ℕ, _+_}
 use mathlib.Core.List.{List, [], _∷_, _++_, append-assoc, append-nil}
@@ -18,12 +18,12 @@ module _ {A : Type 0} where
   onto-onto xs ys (got a at) = ap (λ (l : List A). got l at) (sym (append-assoc xs ys a))
   onto-onto xs ys (bad c p) = refl
 
-  -- some parts more are read: what was left is those, and what is left behind them
+  -- reads some parts more: those left before are these and the ones left behind them
   pub more : (done some : List A) (next : Read (List A)) {left whole : Read (List A)} → onto done left ≡ whole → left ≡ onto some next
       → onto (done ++ some) next ≡ whole
   more done some next e f = sym (onto-onto done some next) ∙ ap (onto done) (sym f) ∙ e
 
-  -- what is left is refused
+  -- the part left is refused
   pub fails : (done : List A) {left whole : Read (List A)} {number place : ℕ} → onto done left ≡ whole → left ≡ bad number place
       → whole ≡ bad number place
   fails done e f = sym e ∙ onto-bad done f

@@ -1,4 +1,4 @@
--- Places and counts as machine numbers: what a proof of code cites, so that it is not sought among all that is known at that point of the code.
+-- Proves bounds of places and counts as machine numbers, which code proofs cite by name.
 -- Assumes nothing.
 use Prim.Native.Nat.{ℕ, _+_, _-_, _*_, _^_, _<_, _≤_}
 use mathlib.Core.Path.{_≡_}
@@ -12,7 +12,7 @@ use mir.Val.{Fits}
 pub none-left : {x : ℕ} → x ≤ 0 → x ≡ 0
 none-left h = omega arith
 
--- one is less left
+-- one less is left
 pub fewer : (x y : ℕ) → 0 < x - y → x - y - 1 < x
 fewer x y h = omega arith
 
@@ -28,7 +28,7 @@ module _ {l : ℕ} (machine : l < 2 ^ 64) where
 pub bytes-fit : {i l : ℕ} → i < l → l * 4 < 2 ^ 63 → Fits w64 (i * 4)
 bytes-fit {i} h m = let e : i * 4 < 2 ^ 64 = omega arith in fits-of-lt e
 
--- the next of m places from `at` on, all before the end
+-- the next of m places from `at` on, all of them before the end
 module _ (at : ℕ) {i m l : ℕ} (h : i < m) (room : m ≤ l - at) where
   pub before-end : at + i < l
   before-end = omega arith

@@ -1,4 +1,5 @@
--- The numbers before the lists, one field behind another: the first at fault makes the key unreadable, and all four in their ranges are the head.
+-- Proves that the numbers before the lists are read one field after the other: the first at fault makes the key unreadable, and four fields in their
+-- ranges make the head.
 -- Assumes nothing.
 use Prim.Native.Nat.{ℕ}
 use mathlib.Core.Path.{_≡_, refl, sym, ap, _∙_}
@@ -50,7 +51,7 @@ module _ (s : List ℕ) where
 
 -- ---- from the answer
 
--- the head that is answered is read, and no other
+-- the head that is answered is the one that is read
 pub head-found : (found : Read JobHead) {r : HeadReading} {head : JobHead} {next : ℕ} → r ≡ headReading found → r ≡ Head head next
     → found ≡ got head next
 unfolding headReading
@@ -63,7 +64,7 @@ unfolding headReading
 head-faulty (got h m) e g = absurd (let z : _≡_ {A = ℕ} 0 1 = cc in omega arith)
 head-faulty (bad c p) e g = (c, p, refl)
 
--- it has a size within bounds, and ends within the bytes: its lists can be counted
+-- the head's size is within its bound, and it ends within the bytes, so its lists can be counted
 pub head-fits : (s : List ℕ) (head : JobHead) (at : ℕ) → readHead s ≡ got head at → CountAsked s at (head .n)
 unfolding readHead readMark
 head-fits s head at e =

@@ -1,5 +1,5 @@
--- A key is its head, its lists and the end (key-by-head), so its first part at fault makes it unreadable; where all are read it is the key of the job
--- of that head and those lists.
+-- Proves that a key is its head, its lists and the end (key-by-head): the first part at fault makes it unreadable, and if all are read it is the key
+-- of the job with that head and those lists.
 -- Assumes nothing.
 use Prim.Native.Nat.{ℕ, _+_, _<_, _≤_}
 use mathlib.Core.Path.{_≡_, refl, sym, ap, _∙_}
@@ -21,7 +21,7 @@ use Rattle.read_key.specs.declared.KeyReading.{KeyReading}
 use Rattle.read_key.specs.declared.KeyReading.the-variants.{Whole, Unreadable}
 use Rattle.read_key.proofs.Heads.{head-fits}
 
--- what is read behind two parts is read behind the first and then the second
+-- reading behind two parts is reading behind the first, then behind the second
 then-then : {A B C : Type 0} (r : Read A) (f : A → ℕ → Read B) (g : B → ℕ → Read C) → then (then r f) g ≡ then r (λ a at. then (f a at) g)
 unfolding then
 then-then (got a at) f g = refl
@@ -94,14 +94,14 @@ module _ (s : List ℕ) where
             inside = fits .inside;
           }) refl
 
--- what is told of a part that is also kept is told of it where nothing is
+-- what is told of a part that is kept is told of it without keeping
 pub told-alone : {A : Type 0} {f : A → ℕ} {Kept : A → Type 0} {found : Read A} {r : Reading} → Told f Kept found r → Told f (λ a. Unit {0}) found r
 told-alone (finds a next e g k) = finds a next e g tt
 told-alone (refuses number place e g) = refuses number place e g
 
 -- ---- what a caller has of the answer
 
--- a key that is answered whole has these parts
+-- a key that is answered as whole has these parts
 pub told-whole : {s : List ℕ} {r : KeyReading} {head : JobHead} {rows at : ℕ} → KeyTold s r → r ≡ Whole head rows at → KeyParts s head rows at
 told-whole {s} {head = head} {rows = rows} {at = at} (reads {head = h} {rows = c} {at = p} parts e) g =
     let x : h ≡ head = cc in
@@ -110,7 +110,7 @@ told-whole {s} {head = head} {rows = rows} {at = at} (reads {head = h} {rows = c
     rw (← x, ← y, ← z) parts
 told-whole (unreadable e f) g = absurd (let z : _≡_ {A = ℕ} 0 1 = cc in omega arith)
 
--- one that is not does not read through
+-- any other key does not read through
 pub told-unreadable : {s : List ℕ} {r : KeyReading} → KeyTold s r → r ≡ Unreadable → (number : ℕ) × (place : ℕ) × (readKey s ≡ bad number place)
 told-unreadable (reads parts e) g = absurd (let z : _≡_ {A = ℕ} 0 1 = cc in omega arith)
 told-unreadable (unreadable {number = number} {place = place} e f) g = (number, place, e)

@@ -1,4 +1,4 @@
--- What the reader of a key answers. A key that does not read through is unreadable, wherever its fault is, so no number and no place is kept of it.
+-- Defines what the reader of a key answers. A key with any fault is unreadable, so the answer tells neither the number nor the place of the fault.
 -- Assumes nothing.
 use Prim.Native.Nat.{ℕ, _≤_}
 use mathlib.Core.Path.{_≡_}
@@ -17,12 +17,12 @@ use Rattle.read_key.specs.declared.KeyReading.the-variants.{Whole, Unrea
 
 -- ---- the numbers before the lists
 
--- mark and limit, behind the size n
+-- reads mark and limit, behind the size n
 unfoldable pub readMark : ℕ → List ℕ → ℕ → Read JobHead
 readMark n s at =
     then (field 0 maxMark s at) λ mark at. then (field 0 maxLimit s at) λ limit at. got (record { n = n; mark = mark; limit = limit }) at
 
--- edition, size, mark and limit
+-- reads edition, size, mark and limit
 unfoldable pub readHead : List ℕ → Read JobHead
 readHead s = then (field edition edition s 0) λ e at. then (field 0 maxColumns s at) λ n at. readMark n s at
 
@@ -32,14 +32,14 @@ headReading (bad number place) = Faulty
 
 -- ---- the lists
 
--- the lists of n columns, to be counted from a place inside the key
+-- the lists of n columns are counted from a place within the key
 pub record CountAsked (key : List ℕ) (at n : ℕ) : Type 0 where
   pub inside : at ≤ length key
   pub few : n ≤ maxColumns
 
 -- ---- the whole key
 
--- the key reads through as the job of a head and of lists, which stand from `at` on and have so many rows
+-- the key reads through as the job of this head and of lists that begin at `at` and have this many rows
 pub record KeyParts (key : List ℕ) (head : JobHead) (rows at : ℕ) : Type 0 where
   pub lists : List (List ℕ)
   pub end : ℕ

@@ -1,5 +1,5 @@
--- The list of a column is its count and the rows behind it: the first number at fault is the list's fault, and rows read to the end are the list.
--- Where the quick reader of rows leaves off, the other keeps its rows over those kept.
+-- Proves that a column's list is its count, then its rows: the first number at fault is the list's fault, and rows read to the end are the list. If
+-- the quick reader gives up, the other reader keeps its rows over those kept.
 -- Assumes nothing.
 use Prim.Native.Nat.{zero, suc, ℕ, _+_, _-_, _*_, _^_, _<_}
 use mathlib.Core.List.{List}
@@ -35,7 +35,7 @@ module _ (n j : ℕ) (s : List ℕ) (at : ℕ) where
   unfolding readList
   list-got e = then-got _ e
 
--- a count that is found: behind it stand its rows
+-- the count is found, and its rows follow it
 module _ {s : List ℕ} {at n j t count next : ℕ} (asked : ListAsked s at n j t) (found : fields.Found 0 (n - j) s at count next) where
   pub rows-asked : RowsAsked s next n j count t
   rows-asked =
@@ -80,7 +80,7 @@ module _ {n : ℕ} {s : List ℕ} {j count at t : ℕ} {rows₀ rows : List ℕ}
   quick-told h =
       finds (q .list) r (q .whole h) (ap (λ (v : ℕ). Found (t + v) r) (sym (q .many h))) (q .kept)
 
-  -- what the other reader keeps covers what was kept
+  -- the other reader's rows overwrite those kept before
   pub quick-again : {rows′ : List ℕ} {a : Reading} → Told (λ list. t + length list) (RowsIn t rows rows′) (readRows n j count s at) a
       → Told (λ list. t + length list) (RowsIn t rows₀ rows′) (readRows n j count s at) a
   quick-again (refuses number place e g) = refuses number place e g

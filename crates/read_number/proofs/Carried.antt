@@ -1,5 +1,5 @@
--- Reading a number group by group: what is found behind, carried on top of what the groups so far come to, is what is found at the place
--- where the number starts. The weight of a group is 128 for each one before it, so what is carried stays below it.
+-- Proves how a number is read group by group: the groups left, added on top of those read, give the number at its start. The weight of the next group
+-- is above the value of those read.
 -- Assumes nothing.
 use Prim.Native.Nat.{ℕ, suc, _+_, _-_, _*_, _^_, _<_, _≤_}
 use mathlib.Core.Path.{_≡_, refl, sym, ap, _∙_}
@@ -18,7 +18,7 @@ use Rattle.papers.specs.declared.Number.{Number}
 use Rattle.papers.specs.declared.Number.the-variants.{Value, Ended, TooLong, NotShortest}
 use Rattle.bytes_laws.proofs.NumberReading.{read-end, read-long, read-last, read-more, Shown, shown-some, last-shown}
 
--- a number found behind, at weight w, on top of low
+-- adds a number found at weight w on top of low
 abbrev pub carry : ℕ → ℕ → Number → Number
 carry low w (Value v next) = Value (low + w * v) next
 carry low w Ended = Ended
@@ -38,7 +38,7 @@ carry-none Ended = refl
 carry-none TooLong = refl
 carry-none NotShortest = refl
 
--- of the number that starts at `at`, the groups before i come to low, the next has weight w, and k may still come
+-- the groups before i of the number at `at` make low, the next has weight w, and k may still come
 pub record Carried (s : List ℕ) (at i low w k : ℕ) : Type 0 where
   pub found : carry low w (readFrom k (eqb i at) s i) ≡ readNumber s at
   pub passed : at ≤ i
@@ -57,7 +57,7 @@ start s at =
       small = omega arith;
     }
 
--- a group and its place keep within the machine's numbers
+-- a group and its place stay within machine numbers
 pub carried-below : {s : List ℕ} {at i low w k : ℕ} (b : ℕ) → Carried s at i low w k → b < 128
     → (w ≤ 2 ^ (7 * maxGroups)) × (low + w * b < 2 ^ (7 * suc maxGroups))
 carried-below {low = low} {w = w} {k = k} b r h =
@@ -68,7 +68,7 @@ carried-below {low = low} {w = w} {k = k} b r h =
     let z = r .small in
     (omega arith, omega arith)
 
--- what is found at i decides
+-- the group at i decides
 ends : {s : List ℕ} {at i low w k : ℕ} (n : Number) → Carried s at i low w k → readFrom k (eqb i at) s i ≡ n → carry low w n ≡ readNumber s at
 ends {low = low} {w = w} n r e = ap (carry low w) (sym e) ∙ r .found
 

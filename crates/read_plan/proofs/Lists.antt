@@ -1,4 +1,4 @@
--- The loop over the columns' lists: the lists left, put onto those read, are all lists; where they start, and their rows, are kept.
+-- Proves the steps of the loop over the lists: the lists left, put onto those read, are all lists; their starts and rows are kept.
 -- Assumes nothing.
 use Prim.Native.Nat.{zero, suc, ℕ, _+_, _-_, _<_, _≤_}
 use mathlib.Core.List.{List, [], _∷_, _++_}

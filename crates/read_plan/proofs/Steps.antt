@@ -1,4 +1,4 @@
--- The loop over the steps: the steps left, put onto those read, are all steps; and those read are kept.
+-- Proves the steps of the loop over the plan's steps: the steps left, put onto those read, are all steps; those read are kept.
 -- Assumes nothing.
 use Prim.Native.Nat.{zero, suc, ℕ, _+_, _-_, _^_, _<_, _≤_}
 use mathlib.Core.List.{List, [], _∷_, _++_, map-append}

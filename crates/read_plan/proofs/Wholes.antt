@@ -1,5 +1,5 @@
--- The whole plan: its parts one behind the other. The first part at fault is the plan's fault; of a plan that is read the answer is that of its last
--- part, and its steps and lists are those read before.
+-- Proves that the plan's first part at fault is the plan's fault. A plan that reads through gets the answer of its last part, and its steps and lists
+-- are those read before.
 -- Assumes nothing.
 use Prim.Native.Nat.{ℕ, _+_, _<_, _≤_}
 use mathlib.Core.Bool.{Bool, true, false}
@@ -58,7 +58,7 @@ module _ (n : ℕ) (s : List ℕ) (at : ℕ) where
       → PartFound (λ lists. length (flat lists)) Kept (readLists n 1 n s at) total m → at ≤ length s → m ≤ length s
   lists-inside {m = m} lists h = lists-reach n s 1 n at (lists .part) m (lists .read) .1 .inside h
 
--- what is answered, and kept, of a plan at fault
+-- what is answered and kept of a plan at fault
 pub plan-faulty : {found : Read Plan} {order₀ order pops₀ pops starts₀ starts rows₀ rows : List ℕ} {number place : ℕ} → found ≡ bad number place
     → PlanTold found order₀ order pops₀ pops starts₀ starts rows₀ rows (Faulty number place)
 unfolding planReading
@@ -67,7 +67,7 @@ plan-faulty e = record { answers = rw e; keeps = λ plan next f. absurd (got-bad
 -- ---- steps and lists are read
 
 module _ (s : List ℕ) (steps : List (ℕ × ℕ)) (lists : List (List ℕ)) where
-  -- what is then left of the plan
+  -- the rest of the plan after these
   rest : Read ℕ → Read Plan
   rest found = then found λ peak at. atEnd (record { steps = steps; lists = lists; peak = peak }) s at
 
@@ -92,7 +92,7 @@ module _ (s : List ℕ) (steps : List (ℕ × ℕ)) (lists : List (List ℕ)) wh
 module _ (n : ℕ) (s : List ℕ) (at : ℕ) {order₀ order pops₀ pops starts₀ starts rows₀ rows : List ℕ} {count k total m : ℕ}
     (steps : PartFound length (StepsIn order₀ order pops₀ pops) (readSteps n n s at) count k)
     (lists : PartFound (λ lists. length (flat lists)) (ListsIn starts₀ starts rows₀ rows) (readLists n 1 n s k) total m) where
-  -- what is then left is the peak
+  -- the rest is the peak
   peak-left : readPlan n s at ≡ rest s (steps .part) (lists .part) (field 0 maxPeak s m)
   unfolding readPlan rest
   peak-left = then-got _ (steps .read) ∙ then-got _ (lists .read)

@@ -1,4 +1,5 @@
--- What the reader of a plan answers, and what it then keeps of the plan in the lent slices. Of a plan at fault nothing is said to be kept.
+-- Defines what the reader of a plan answers, and what it keeps of the plan in the lent slices. For a plan at fault it promises nothing of what is
+-- kept.
 -- Assumes nothing.
 use Prim.Native.Nat.{ℕ, _+_, _<_, _≤_}
 use mathlib.Core.Path.{_≡_}
@@ -11,9 +12,9 @@ use Rattle.papers.specs.Plan.{Plan, columnsIn, popsIn, Read, got, bad, then, fi
 use Rattle.read_plan.specs.declared.PlanReading.{PlanReading}
 use Rattle.read_plan.specs.declared.PlanReading.the-variants.{Whole, Faulty}
 
--- ---- what is asked
+-- ---- what the readers require
 
--- step i of n, to be read from a place inside the plan, and the slices have its place
+-- step i of n is read from a place within the plan, and the slices have its place
 pub record StepAsked (plan : List ℕ) (at n i : ℕ) (order pops : List ℕ) : Type 0 where
   pub inside : at ≤ length plan
   pub few : n ≤ maxColumns
@@ -21,20 +22,20 @@ pub record StepAsked (plan : List ℕ) (at n i : ℕ) (order pops : List ℕ) : 
   pub order-long : n ≤ length order
   pub pops-long : n ≤ length pops
 
--- all n steps, likewise
+-- the same for all n steps
 pub record StepsAsked (plan : List ℕ) (at n : ℕ) (order pops : List ℕ) : Type 0 where
   pub inside : at ≤ length plan
   pub few : n ≤ maxColumns
   pub order-long : n ≤ length order
   pub pops-long : n ≤ length pops
 
--- the lists of n columns, to be read from a place inside the plan, and there are places for where each starts
+-- the lists of n columns are read from a place within the plan, and starts has a place for the start of each
 pub record ListsAsked (plan : List ℕ) (at n : ℕ) (starts : List ℕ) : Type 0 where
   pub inside : at ≤ length plan
   pub few : n ≤ maxColumns
   pub starts-long : n + 1 ≤ length starts
 
--- the plan of n columns, behind a key that ends inside the bytes
+-- the plan of n columns is read behind a key that ends within the bytes
 pub record PlanAsked (n : ℕ) (plan : List ℕ) (at : ℕ) (order pops starts : List ℕ) : Type 0 where
   pub few : n ≤ maxColumns
   pub inside : at ≤ length plan
@@ -42,9 +43,9 @@ pub record PlanAsked (n : ℕ) (plan : List ℕ) (at : ℕ) (order pops starts :
   pub pops-long : n ≤ length pops
   pub starts-long : n + 1 ≤ length starts
 
--- ---- what is kept
+-- ---- what the readers keep
 
--- step i, and all steps, in two slices
+-- two slices keep step i, and all steps
 pub record StepIn (i : ℕ) (order₀ order pops₀ pops : List ℕ) (step : ℕ × ℕ) : Type 0 where
   pub column : order ≡ set order₀ i (step .0)
   pub popped : pops ≡ set pops₀ i (step .1)
@@ -53,19 +54,19 @@ pub record StepsIn (order₀ order pops₀ pops : List ℕ) (steps : List (ℕ �
   pub columns : order ≡ sets order₀ 0 (columnsIn steps)
   pub popped : pops ≡ sets pops₀ 0 (popsIn steps)
 
--- lists one after the other: where each starts, and their rows
+-- the slices keep the starts of the lists, and their rows
 pub record ListsIn (starts₀ starts rows₀ rows : List ℕ) (lists : List (List ℕ)) : Type 0 where
   pub begins : starts ≡ sets starts₀ 0 (startsFrom 0 lists)
   pub listed : rows ≡ sets rows₀ 0 (flat lists)
 
 -- ---- the whole plan
 
--- the answer: the declared peak and how many rows the lists have; or the refusal
+-- the answer: the declared peak and the number of rows; or the refusal
 unfoldable pub planReading : Read Plan → PlanReading
 planReading (got plan next) = Whole (plan .peak) (length (flat (plan .lists)))
 planReading (bad number place) = Faulty number place
 
--- its last part: the peak, with nothing after it; and the answer for it, of a plan whose lists have so many rows
+-- reads the last part: the peak, with nothing after it; then the answer for it, of a plan whose lists have so many rows
 unfoldable pub readPeak : List ℕ → ℕ → Read ℕ
 readPeak s at = then (field 0 maxPeak s at) λ peak at. atEnd peak s at
 
@@ -73,14 +74,14 @@ unfoldable pub peakReading : ℕ → Read ℕ → PlanReading
 peakReading rows (got peak next) = Whole peak rows
 peakReading rows (bad number place) = Faulty number place
 
--- what is kept of a plan that is read to its end
+-- what the slices keep of a plan that is read to its end
 pub record PlanIn (plan : Plan) (order₀ order pops₀ pops starts₀ starts rows₀ rows : List ℕ) : Type 0 where
   pub columns : order ≡ sets order₀ 0 (columnsIn (plan .steps))
   pub popped : pops ≡ sets pops₀ 0 (popsIn (plan .steps))
   pub begins : starts ≡ sets starts₀ 0 (startsFrom 0 (plan .lists))
   pub listed : rows ≡ sets rows₀ 0 (flat (plan .lists))
 
--- where the bytes hold a plan, it is kept
+-- if the bytes hold a plan, the slices keep it
 abbrev pub Keeps : Read Plan → List ℕ → List ℕ → List ℕ → List ℕ → List ℕ → List ℕ → List ℕ → List ℕ → Type 0
 Keeps found order₀ order pops₀ pops starts₀ starts rows₀ rows =
     (plan : Plan) (next : ℕ) → found ≡ got plan next → PlanIn plan order₀ order pops₀ pops starts₀ starts rows₀ rows

@@ -1,4 +1,5 @@
--- Rows read quickly: short rows and, between them, rows whose gaps have two groups, up to the list's end or to what is left to the reader of lists.
+-- Proves how rows are read quickly: short rows, and between them rows whose gaps have two groups, up to the list's end or to what the reader of lists
+-- must read.
 -- Assumes nothing.
 use Prim.Native.Nat.{ℕ, _+_, _-_, _<_}
 use mathlib.Core.List.{List, _++_}
@@ -24,7 +25,7 @@ module _ {n : ℕ} {s : List ℕ} {j count at t : ℕ} {rows₀ rows : List ℕ}
   pub quick-room : leb (length rows) total ≡ false → total < length rows₀
   quick-room e = let l = rows-long x in omega (arith, leb-false (length rows) total e)
 
-  -- one more, whose gap has two groups
+  -- reads one more row, whose gap has two groups
   module _ {gap : ℕ} (some : gap ≢ 0) (two : gap ≢ 0 → Value gap (k + 2) ≡ readNumber s k) (most : ltb (n - last) gap ≡ false) where
     read : field 1 (n - last) s k ≡ got gap (k + 2)
     read = field-is 1 (n - last) s k (two some) (omega arith) (ltb-false (n - last) gap most)
@@ -36,7 +37,7 @@ module _ {n : ℕ} {s : List ℕ} {j count at t : ℕ} {rows₀ rows : List ℕ}
         → RowsRead n s j count at t rows₀ (set rows total row) (k + 2) (last + gap) (left - 1) (total + 1)
     quick-turn h e = rows-both x (rows-one n s last left k total rows h (x .high) read (ap (set rows total) e))
 
-  -- rows behind them that are out of their range
+  -- the rows that follow are out of their range
   pub quick-over : {rows′ : List ℕ} {more row : ℕ} → ShortRead s last left k total rows rows′ more row → QuickRead n s j count at t rows₀ rows′ 0
   quick-over y =
       let a = x .counted in
@@ -50,7 +51,7 @@ module _ {n : ℕ} {s : List ℕ} {j count at t : ℕ} {rows₀ rows : List ℕ}
         many = λ h. absurd (h refl);
       }
 
-  -- all are read
+  -- all rows are read
   pub quick-stop : left ≡ 0 → QuickRead n s j count at t rows₀ rows k
   quick-stop z =
       let a = x .counted in
@@ -62,7 +63,7 @@ module _ {n : ℕ} {s : List ℕ} {j count at t : ℕ} {rows₀ rows : List ℕ}
         many = λ h. omega arith;
       }
 
-  -- the rest is left to the other reader
+  -- leaves the rest to the other reader
   pub quick-part : QuickRead n s j count at t rows₀ rows 0
   quick-part =
       let a = x .counted in

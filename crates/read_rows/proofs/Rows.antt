@@ -1,5 +1,5 @@
--- The rows of a column: what is read behind rows that are read is read behind the first (rows-both), so a loop may take them one by one or many at
--- once. Each row takes a byte, so their total stays within the place.
+-- Proves that reading some rows and then the rest reads all rows (rows-both), so a loop may take them one by one or many at once. Each row takes a
+-- byte, so their count is no greater than the place.
 -- Assumes nothing.
 use Prim.Native.Nat.{zero, suc, ℕ, _+_, _-_, _^_, _<_, _≤_}
 use mathlib.Core.List.{List, [], _∷_, _++_}
@@ -35,12 +35,12 @@ row-narrow few h g = omega arith
 
 -- ---- rows read so far
 
--- none read yet
+-- no row is read yet
 pub rows-start : (n : ℕ) (s : List ℕ) (j count at t : ℕ) (rows : List ℕ) → at ≤ length s → j ≤ n → RowsRead n s j count at t rows rows at j count t
 rows-start n s j count at t rows h g =
     record { list = []; whole = onto-nil _; counted = omega arith; placed = omega arith; paced = omega arith; inside = h; high = g; kept = refl }
 
--- one row, by its gap
+-- reads one row by its gap
 pub rows-one : (n : ℕ) (s : List ℕ) (b left k t : ℕ) (rows : List ℕ) {gap m : ℕ} {rows′ : List ℕ}
     → 0 < left → b ≤ n → field 1 (n - b) s k ≡ got gap m → rows′ ≡ set rows t (b + gap)
     → RowsRead n s b left k t rows rows′ m (b + gap) (left - 1) (t + 1)
@@ -59,7 +59,7 @@ rows-one n s b left k t rows {gap} {m} h g read e =
       kept = e;
     }
 
--- rows read, and rows read behind them
+-- rows are read, and more rows behind them
 pub rows-both : {n : ℕ} {s : List ℕ} {j count at t k b left mid k′ b′ left′ total : ℕ} {rows₀ rows rows′ : List ℕ}
     → RowsRead n s j count at t rows₀ rows k b left mid → RowsRead n s b left k mid rows rows′ k′ b′ left′ total
     → RowsRead n s j count at t rows₀ rows′ k′ b′ left′ total
@@ -90,10 +90,10 @@ module _ {n : ℕ} {s : List ℕ} {j count at t : ℕ} {rows₀ rows : List ℕ}
   pub rows-long : length rows ≡ length rows₀
   rows-long = ap length (x .kept) ∙ length-sets rows₀ t (x .list)
 
-  -- no more are left than there are
+  -- no more rows are left than the list has
   pub rows-few : left ≤ count
   rows-few = let e = x .counted in omega arith
 
-  -- kept from no further on than read, they end no further on
+  -- rows are kept at no greater a place than they are read
   pub rows-paced : t ≤ at → total ≤ k
   rows-paced h = let p = x .placed in let q = x .paced in omega arith

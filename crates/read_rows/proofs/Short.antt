@@ -1,4 +1,4 @@
--- Rows whose gaps have one byte: i of them take i bytes, and where the last is in its range all are, so they are rows read.
+-- Proves that i rows whose gaps have one byte take i bytes, and that all are in their range if the last is, since they ascend.
 -- Assumes nothing.
 use Prim.Native.Nat.{ℕ, _+_, _-_, _^_, _<_, _≤_}
 use mathlib.Core.Bool.{false}
@@ -17,7 +17,7 @@ use Rattle.read_fields.proofs.Places.{before-end}
 use Rattle.read_rows.specs.Rows.{RowsRead, ShortRead}
 use Rattle.read_rows.proofs.Rows.{rows-start, rows-one, rows-both}
 
--- a byte without the high bit
+-- a byte whose high bit is not set
 pub short-gap : {gap : ℕ} → ltb 127 gap ≡ false → gap < 128
 short-gap {gap} e = let h = ltb-false 127 gap e in omega arith
 
@@ -43,7 +43,7 @@ module _ {s : List ℕ} {b left at t : ℕ} {rows₀ rows : List ℕ} {i last : 
   pub short-narrow : {gap : ℕ} → b ≤ maxColumns → left ≤ maxColumns → gap < 256 → last + gap < 2 ^ 32
   short-narrow p q h = let g = x .grows in let f = x .few in omega arith
 
-  -- and finds its place
+  -- the next row finds its place
   pub short-place : {most : ℕ} → i < most → most ≤ length rows₀ - t → t + i < length rows
   short-place h g = rw short-long (before-end t h g)
 

@@ -1,4 +1,4 @@
--- Rooms step by step, the pops read from a list, are those of the columns, each with its own pops.
+-- Proves that the rooms of the steps, with pops read from a list, are the rooms of the columns, each with its own pops.
 -- Assumes nothing.
 use Prim.Native.Nat.{ℕ, zero, suc, _<_, _≤_}
 use mathlib.Core.Path.{_≡_, refl, ap, _∙_}
@@ -70,7 +70,7 @@ module _ (size pops : ℕ → ℕ) (order : List ℕ) where
   unfolding peakOf
   peak-by-steps = ap greatest (rooms-by-steps (length order) (omega arith) ∙ ap (rooms size pops []) (take-length order))
 
-  -- no step takes off more than is held
+  -- no step pops more than is held
   pub enough-by-steps : (k : ℕ) → k < length order → pops (getD order k 0) ≤ length (heldAfterAll size pops [] (take k order))
       → popsAt (suc k) ≤ length (heldAfterAll sizeAt popsAt [] (upTo k))
   enough-by-steps k b h = rw (pops-here k b, held-by-steps k (omega arith)) h

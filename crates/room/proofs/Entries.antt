@@ -1,4 +1,4 @@
--- No front has more entries than that of the most rows.
+-- Proves that no front has more entries than the front with the most rows.
 -- Assumes nothing.
 use Prim.Native.Nat.{ℕ, _+_, _≤_}
 use native.Mathlib.Omega.{arith}

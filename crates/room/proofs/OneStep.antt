@@ -1,5 +1,5 @@
--- One step over updates whose sums from the lowest on stand in below: the room of its front is one look-up, and what is held after it has its
--- sums there too.
+-- Proves one step: below holds the sums of the held updates from the lowest up, so one look-up gives the room of the front, and below holds the sums
+-- again after the step.
 -- Assumes nothing.
 use Prim.Native.Nat.{ℕ, zero, suc, _+_, _-_, _<_, _≤_, min}
 use mathlib.Core.Path.{_≡_, sym, ap, _∙_}
@@ -22,7 +22,7 @@ sum-drop zero l = omega arith
 sum-drop (suc n) [] = omega arith
 sum-drop (suc n) (x ∷ l) = omega (arith, sum-drop n l)
 
--- the room of a front that takes off updates
+-- the room of a front that pops updates
 over-top : (p r : ℕ) (held : List ℕ) → 0 < p → p ≤ length held → roomAt p r held ≡ sum (drop 1 held) + t (suc r)
 over-top p r [] h l = absurd (omega arith)
 over-top p r (x ∷ held) h l = room-over p r x held h
@@ -47,7 +47,7 @@ module _ (below held : List ℕ) (depth p r : ℕ) (deep : length held ≡ depth
             let s = sums depth (omega arith) ∙ ap (λ k. sum (drop k held)) q in
             rw (m, z, room-none r held) (omega arith)
 
-    -- what lies below the updates taken off stays
+    -- the sums below the popped updates stay
     lowest : (v i : ℕ) → i ≤ depth - p → getD (set below (depth - p + 1) v) i 0 ≡ sum (drop (depth - p - i) (drop p held))
     lowest v i h =
         let e : depth - i ≡ p + (depth - p - i) = omega arith in

@@ -1,5 +1,5 @@
--- The pass for the peak: below holds the sums of the held updates from the lowest on, so that taking off, pushing and the room of a front
--- are each one look-up.
+-- Proves the pass that finds the peak: below holds the sums of the held updates from the lowest up, so popping, pushing and the room of a front take
+-- one look-up each.
 -- Assumes nothing.
 use Prim.Native.Nat.{ℕ, suc, _+_, _-_, _*_, _<_, _≤_, min, max}
 use mathlib.Core.Path.{_≡_, refl, sym, ap, _∙_}
@@ -36,7 +36,7 @@ module _ (factor order pops : List ℕ) where
       ap greatest (rooms-append (rowsAt factor order) (popsAt pops) [] (upTo k) (suc k ∷ [])) ∙ rw (greatest-append, rooms-cons, rooms-nil)
       (omega arith)
 
--- the updates held after k steps have their sums in below
+-- below holds the sums of the updates held after k steps
 pub record Stacked (factor order pops below₀ below : List ℕ) (depth k : ℕ) : Type 0 where
   pub deep : length (heldAt factor order pops k) ≡ depth
   pub few : depth ≤ k
@@ -72,7 +72,7 @@ module _ (factor order pops : List ℕ) where
       rows-here : rowsAt factor order (suc k) ≡ r
       rows-here = ap (rowsIn factor) (column-at order k) ∙ sym (rows .same)
 
-      -- no sum is more than so many fronts
+      -- the next step pops no more than is held, and every sum in below is small
       pub stacked-over : Over below depth (getD pops k 0) r
       stacked-over = record {
         enough = enough;

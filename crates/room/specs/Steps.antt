@@ -1,4 +1,4 @@
--- The steps of an order with their pops in two slices: what the passes over them are given.
+-- Defines the steps of an order and their pops in two slices, which the passes over them are given.
 -- Assumes nothing.
 use Prim.Native.Nat.{ℕ, suc, _+_, _-_, _*_, _^_, _<_, _≤_, min}
 use mathlib.Core.Path.{_≡_}
@@ -11,7 +11,7 @@ use Rattle.papers.specs.Order.{columnAt}
 use Rattle.order_laws.specs.Held.{heldAfterAll}
 use Rattle.room.specs.Rows.{ListAt, rowsIn, Column, mostEntries}
 
--- the rows of the column of step s, the steps counted from 1
+-- counts the rows of step s's column, where the first step is 1
 abbrev pub rowsAt : List ℕ → List ℕ → ℕ → ℕ
 rowsAt factor order s = rowsIn factor (columnAt order s)
 
@@ -23,31 +23,31 @@ popsAt pops s = columnAt pops s
 abbrev pub heldAt : List ℕ → List ℕ → List ℕ → ℕ → List ℕ
 heldAt factor order pops s = heldAfterAll (rowsAt factor order) (popsAt pops) [] (upTo s)
 
--- a step over the updates held: below has, from the lowest on, their sums and a place for one more
+-- a step pops no more updates than are held; below holds their small sums, from the lowest up, and a place for one more
 pub record Over (below : List ℕ) (depth pops rows : ℕ) : Type 0 where
   pub enough : pops ≤ depth
   pub inside : depth + 1 < length below
   pub light : (i : ℕ) → i ≤ depth → getD below i 0 ≤ maxColumns * mostEntries
   pub few : rows ≤ maxColumns
 
--- the step done: so many updates are then held, and their sums stand in what was below
+-- the step is done: count updates are then held, and the sum up to the new one is stored in below
 pub record Held (below : List ℕ) (depth pops rows : ℕ) (after : List ℕ) (count : ℕ) : Type 0 where
   pub counted : count ≡ depth - pops + min rows 1
   pub summed : after ≡ set below (depth - pops + 1) (getD below (depth - pops) 0 + t rows)
 
--- steps of known columns, none of which takes off more updates than are held
+-- every step names a known column, and no step pops more updates than are held
 pub record Stepped (factor order pops : List ℕ) : Type 0 where
   pub column : (k : ℕ) → k < length order → Column factor (getD order k 0)
   pub enough : (k : ℕ) → k < length order → popsAt pops (suc k) ≤ length (heldAt factor order pops k)
   pub same : length pops ≡ length order
   pub few : length order ≤ maxColumns
 
--- such steps, and room for the sums of all updates and one before them
+-- such steps, and below has a place for the sum of each update and one before them
 pub record PeakGiven (factor order pops below : List ℕ) : Type 0 where
   pub stepped : Stepped factor order pops
   pub room : length order < length below
 
--- steps whose children's lists are known by their starts, and room for the pops of each
+-- starts tell how many children each step's column has, and pops has a place for each step
 pub record PopsGiven (starts order pops : List ℕ) : Type 0 where
   pub list : (k : ℕ) → k < length order → ListAt starts (getD order k 0)
   pub small : (k : ℕ) → k < length order → getD starts (getD order k 0 + 1) 0 < 2 ^ 32

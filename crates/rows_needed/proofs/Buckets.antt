@@ -1,5 +1,5 @@
--- Columns in the buckets of their next rows: a bucket carried over to other columns and another work, the row after a row that is done, and
--- the first column of a row taken out.
+-- Proves facts of the buckets that hold columns by their next rows: how a bucket carries over to another work, which row follows a row that is done,
+-- and how the first column is taken out.
 -- Assumes nothing.
 use Prim.Native.Nat.{ℕ, suc, _+_, _-_, _<_, _≤_}
 use mathlib.Core.Path.{_≡_, refl, sym}
@@ -18,7 +18,7 @@ use Rattle.column_laws.proofs.Columns.{row-at, rows-rise}
 use Rattle.rows_needed.specs.Buckets.{cursor, Points, Place, UpTo, Bucket, Buckets}
 
 module _ (n : ℕ) (starts rows w w′ : List ℕ) where
-  -- a column with the same cursor points to the same row
+  -- a column whose cursor stays points to the same row
   pub points-ext : (d r : ℕ) → cursor n w′ d ≡ cursor n w d → Points n starts rows w d r → Points n starts rows w′ d r
   points-ext d r e h = rw e h
 
@@ -36,7 +36,7 @@ pub record Stays (n : ℕ) (w w′ : List ℕ) (d : ℕ) : Type 0 where
   pub cursors : cursor n w′ d ≡ cursor n w d
   pub links : getD w′ (n + n + d) 0 ≡ getD w (n + n + d) 0
 
--- a bucket carried over from the columns of P to those of P′
+-- carries a bucket over from the columns of P to those of P′
 pub bucket-move : {n r c : ℕ} {starts rows w : List ℕ} {P : ℕ → Type 0} (w′ : List ℕ) (P′ : ℕ → Type 0) → Bucket n r starts rows w P c
     → ((d : ℕ) → P d → Points n starts rows w d r → P′ d) → ((d : ℕ) → P′ d → Points n starts rows w′ d r → P d) → ((d : ℕ) → P d → Stays n w w′ d)
     → Bucket n r starts rows w′ P′ c
@@ -49,7 +49,7 @@ bucket-move {n} {r} {c} {starts} {rows} {w} {P} w′ P′ b there back stays =
       once = b .once;
     }
 
--- another work with the same buckets
+-- another work that keeps the same buckets
 pub buckets-ext : {n i c : ℕ} {starts rows w : List ℕ} {P : ℕ → Type 0} (w′ : List ℕ) → ((x : ℕ) → n < x → getD w′ x 0 ≡ getD w x 0)
     → length w′ ≡ length w
     → Buckets n i starts rows w P c → Buckets n i starts rows w′ P c
@@ -65,7 +65,7 @@ buckets-ext {n} {i} {c} {starts} {rows} {w} {P} w′ f l b =
     stays : (d : ℕ) → P d → Stays n w w′ d
     stays d m = let q = b .range d m .0 in record { cursors = f (n + n + n + d) (omega arith); links = f (n + n + d) (omega arith) }
 
--- all columns of row i are done: row i + 1 begins
+-- all columns of row i are done, and row i + 1 begins
 module _ {n i : ℕ} {starts rows w : List ℕ} (b : Buckets n i starts rows w (UpTo n) 0) where
   pub none-left : (d : ℕ) → UpTo n d → Points n starts rows w d i → ⊥
   none-left d m h = List·Memᴰ·not-nil (rw (chain-end w (n + n) 0 (b .left .list) (b .left .chain) refl) at (b .left .into d m h))
@@ -88,7 +88,7 @@ module _ {n i : ℕ} {starts rows w : List ℕ} (b : Buckets n i starts rows w (
         long = b .long;
       }
 
-  -- a column whose pattern has row i + 1 has it next
+  -- if a column's pattern has row i + 1, that is its next row
   pub leaf-points : Tested n starts rows → (d : ℕ) → UpTo n d → suc i ∈ columnOf starts rows d → Points n starts rows w d (suc i)
   leaf-points t d m h = let s = row-at t d (m .1) (suc i) h in go s (compare (s .place) (cursor n w d))
     where
@@ -106,9 +106,9 @@ module _ {n i : ℕ} {starts rows w : List ℕ} (b : Buckets n i starts rows w (
             s .is,
           ))
 
--- ---- the first of those left is taken out
+-- ---- the first of the columns left is taken out
 
--- the columns but e
+-- the columns without e
 abbrev pub But : ℕ → ℕ → ℕ → Type 0
 But n e d = UpTo n d × (d ≢ e)
 

@@ -1,4 +1,5 @@
--- How many rows of a list are below i: one more below i + 1 just where i is a row of it. And all rows of all lists, as a sum over the columns.
+-- Proves how many rows of a list are below i: one more is below i + 1 exactly if the list has row i. And it counts all rows of all lists by a sum
+-- over the columns.
 -- Assumes nothing.
 use Prim.Native.Nat.{ℕ, zero, suc, _+_, _<_, _≤_}
 use mathlib.Core.Path.{_≡_, refl, sym, ap, _∙_}

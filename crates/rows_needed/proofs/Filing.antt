@@ -1,4 +1,4 @@
--- A column filed under its next row: it goes to the front of that row's bucket, and all other columns keep their places.
+-- Proves that filing a column puts it at the front of the bucket of its next row, and that all other columns keep their places.
 -- Assumes nothing.
 use Prim.Native.Nat.{ℕ, _+_, _-_, _<_, _≤_}
 use mathlib.Core.Path.{_≡_, refl, sym, ap, subst, _∙_}
@@ -11,7 +11,7 @@ use Rattle.list_laws.proofs.Tests.{same-or}
 use Rattle.rows_needed.specs.Buckets.{cursor, Points, Place, UpTo, Bucket, Buckets}
 use Rattle.rows_needed.proofs.Buckets.{place-ext, Stays, bucket-move}
 
--- column e is none of P, and is one of P′ with q as the place of its next row
+-- e is not in P, and is in P′ with q as the place of its next row
 pub record New (n i e q : ℕ) (starts rows : List ℕ) (P P′ : ℕ → Type 0) : Type 0 where
   pub column : UpTo n e
   pub new : P e → ⊥
@@ -23,7 +23,7 @@ pub record New (n i e q : ℕ) (starts rows : List ℕ) (P P′ : ℕ → Type 0
   pub behind : (x : ℕ) → getD starts (e - 1) 0 ≤ x → x < q → getD rows x 0 ≤ i
   pub ahead : q < getD starts e 0 → (i < getD rows q 0) × (getD rows q 0 ≤ n)
 
--- column e is placed at q, and nothing else moves
+-- places column e at q, and moves nothing else
 pub record Moved (n e q : ℕ) (w w′ : List ℕ) : Type 0 where
   pub placed : cursor n w′ e ≡ q
   pub stay : (d : ℕ) → UpTo n d → d ≢ e → Stays n w w′ d
@@ -49,14 +49,14 @@ module _ {n i c e q : ℕ} {starts rows w : List ℕ} {P P′ : ℕ
   place : (d : ℕ) → P′ d → Place n i starts rows w′ d
   place d h = ⊎-elim (λ (u : P d). place-ext n starts rows w w′ i d (stays d u .cursors) (b .place d u)) (λ (u : d ≡ e). rw u place-e) (k .out d h)
 
-  -- a bucket that e does not belong to
+  -- a bucket without e stays
   keeps : {r s : ℕ} → Bucket n r starts rows w P s → (Points n starts rows w′ e r → ⊥) → Bucket n r starts rows w′ P′ s
   keeps {r} u away =
       bucket-move w′ P′ u (λ d h z. k .inn d h)
       (λ d h z. ⊎-elim (λ (y : P d). y) (λ (y : d ≡ e). absurd (away (subst (λ x. Points n starts rows w′ x r) y z))) (k .out d h))
       stays
 
-  -- the bucket that it is put in front of
+  -- e goes to the front of this bucket
   pushes : {r s : ℕ} → Bucket n r starts rows w P s → Points n starts rows w′ e r → getD w′ (n + n + e) 0 ≡ s → Bucket n r starts rows w′ P′ e
   pushes {r} {s} u at link =
       record {
@@ -74,7 +74,7 @@ module _ {n i c e q : ℕ} {starts rows w : List ℕ} {P P′ : ℕ
       from d (inl y) = rw y (k .has, at)
       from d (inr y) = let o = v .from d y in (k .inn d (o .0), o .1)
 
-  -- it has no row left
+  -- the column has no row left
   pub file-none : getD starts e 0 ≤ q → ((r : ℕ) → r ≤ n → getD w′ (n + r) 0 ≡ getD w (n + r) 0) → Buckets n i starts rows w′ P′ c
   file-none g heads =
       record {
@@ -88,7 +88,7 @@ module _ {n i c e q : ℕ} {starts rows w : List ℕ} {P P′ : ℕ
       ended : (r : ℕ) → Points n starts rows w′ e r → ⊥
       ended r z = omega (arith, m .placed, z .0)
 
-  -- it goes to the front of the bucket of its next row
+  -- the column goes to the front of the bucket of its next row
   pub file-some : q < getD starts e 0 → getD w′ (n + getD rows q 0) 0 ≡ e → getD w′ (n + n + e) 0 ≡ getD w (n + getD rows q 0) 0
       → ((r : ℕ) → r ≤ n → r ≢ getD rows q 0 → getD w′ (n + r) 0 ≡ getD w (n + r) 0) → Buckets n i starts rows w′ P′ c
   file-some g head link heads =

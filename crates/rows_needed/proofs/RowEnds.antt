@@ -1,5 +1,5 @@
--- Between two rows. A row that is done has marked every column that has it, since each is reached by parents from a column whose pattern has it;
--- so the marks are what the count below i + 1 has more than the count below i.
+-- Proves that a row that is done has marked every column that has it, since parents lead to each from a column whose pattern has it. So the marks are
+-- what the count below i + 1 adds to the count below i.
 -- Assumes nothing.
 use Prim.Native.Nat.{ℕ, zero, suc, _+_, _-_, _<_, _≤_}
 use mathlib.Core.Path.{_≡_, refl, sym, _∙_}
@@ -23,7 +23,7 @@ use Rattle.needed_climb.proofs.Sums.{hit-yes, hit-no, sum-same, sum-bump}
 use Rattle.rows_needed.specs.Walk.{Between}
 use Rattle.rows_needed.proofs.Counts.{sum-none, sum-lengths, under-none, under-all, under-miss, under-hit}
 
--- row i is begun: its own column is marked
+-- row i begins: its own column is marked
 pub opened : {n i t : ℕ} {A : Pattern} {p w : List ℕ} → Between n i A p w t → 1 ≤ i → i ≤ n → n < length w → Row n i A p (set w i i) t i
 opened {n} {i} {t} {A} {p} {w} r a b l =
     record {
@@ -55,7 +55,7 @@ opened {n} {i} {t} {A} {p} {w} r a b l =
     low : (x : ℕ) → 1 ≤ x → x ≤ n → getD (set w i i) x 0 ≤ i
     low x h k = ⊎-elim (λ (z : x ≡ i). rw (z, here) (omega arith)) (λ (z : x ≢ i). rw (other x z) (omega (arith, r .low x h k))) (same-or x i)
 
--- row i is done: all columns whose pattern has it are marked
+-- row i is done: every column whose pattern has it is marked
 module _ {n i t : ℕ} {A : Pattern} {p w : List ℕ} (good : Below n A) (r : Row n i A p w t i) (a : 1 ≤ i) (b : i ≤ n)
     (leaves : (c : ℕ) → 1 ≤ c → c ≤ n → i ∈ A c → getD w c 0 ≡ i)
   where

@@ -1,4 +1,4 @@
--- All columns filed under their first rows, and the loop over the rows.
+-- Proves that all columns are filed under their first rows, and the steps of the loop over the rows.
 -- Assumes nothing.
 use Prim.Native.Nat.{ℕ, suc, _+_, _-_, _<_, _≤_}
 use mathlib.Core.Path.{_≡_, refl, _∙_}
@@ -32,7 +32,7 @@ pub record FiledTo (n m : ℕ) (starts rows w₀ w : List ℕ) : Type 0 where
   pub most : m ≤ n
   pub long : length w ≡ length w₀
 
--- none is filed yet
+-- no column is filed yet
 pub file-none : {n : ℕ} {starts rows w₀ w : List ℕ} → Fileable n starts rows w₀ → w ≡ zeros w₀ → FiledTo n 0 starts rows w w
 file-none {n} {starts} {rows} {w₀} f e =
     record {

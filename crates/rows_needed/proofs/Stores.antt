@@ -1,4 +1,4 @@
--- What filing a column stores: the place of its next row, and, if it has one, two links.
+-- Proves what filing a column stores: the place of its next row and, if it has such a row, two links.
 -- Assumes nothing.
 use Prim.Native.Nat.{ℕ, _+_, _<_, _≤_}
 use mathlib.Core.Path.{_≡_, refl, _∙_}
@@ -41,7 +41,7 @@ module _ (n e q : ℕ) (w : List ℕ) (column : UpTo n e) (long : n + n + n + n 
   low : (x : ℕ) → x ≤ n + n → getD (set w (n + n + n + e) q) x 0 ≡ getD w x 0
   low x h = getD-set-other w (n + n + n + e) x q 0 (λ y. omega arith)
 
-  -- put in front of the bucket of row r
+  -- puts the column in front of the bucket of row r
   module _ (r : ℕ) (first : 1 ≤ r) (most : r ≤ n) where
     abbrev w₂ : List ℕ
     w₂ = pushed n r e (set w (n + n + n + e) q)
@@ -78,7 +78,7 @@ module _ (n e q : ℕ) (w : List ℕ) (column : UpTo n e) (long : n + n + n + n 
         ∙ getD-set-same (set w (n + n + n + e) q) (n + n + e) (getD (set w (n + n + n + e) q) (n + r) 0) 0 (rw length-set (omega arith))
         ∙ low (n + r) (omega arith))
 
--- a column filed
+-- files a column
 module _ {n i c e q : ℕ} {starts rows w : List ℕ} {P P′ : ℕ → Type 0} (b : Buckets n i starts rows w P c) (k : New n i e q starts rows P P′) where
   pub record Filed : Type 0 where
     pub buckets : Buckets n i starts rows (filed n e q starts rows w) P′ c

@@ -1,5 +1,5 @@
--- The walk over the columns at row i: the first of them is climbed from and filed under its next row, and the others are still to do.
--- What is left of all columns' rows falls.
+-- Proves one turn of the walk over the columns at row i: it climbs from the first of them and files it under its next row, and the others are left to
+-- do. The rows ahead of all columns grow fewer.
 -- Assumes nothing.
 use Prim.Native.Nat.{ℕ, _+_, _-_, _<_, _≤_}
 use mathlib.Core.Path.{_≡_, refl, sym, ap, _∙_}
@@ -22,13 +22,13 @@ use Rattle.rows_needed.proofs.Buckets.{points-ext, buckets-ext, But, Ta
 use Rattle.rows_needed.proofs.Filing.{New}
 use Rattle.rows_needed.proofs.Stores.{Filed, file}
 
--- the walk's loop: the columns from c on are still to do, and the slices are as long as they were
+-- the walk's loop: the columns from c on are left to do, and the slices keep their lengths
 pub record Walking (n i : ℕ) (starts rows p₀ w₀ p w : List ℕ) (t c : ℕ) : Type 0 where
   pub walk : Walk n i starts rows p w t c
   pub long-p : length p ≡ length p₀
   pub long-w : length w ≡ length w₀
 
--- the rows of all columns that are still ahead
+-- counts the rows that are still ahead, of all columns
 abbrev pub ahead : ℕ → List ℕ → List ℕ → ℕ
 ahead n starts w = sumTo n (λ d. getD starts d 0 - cursor n w d)
 
@@ -120,7 +120,7 @@ module _ {n i t c : ℕ} {starts rows p w : List ℕ} (r : Walk n i starts rows 
     cursors d u z = done .moved .stay d u z .cursors ∙ same (n + n + n + d) (omega arith)
 
     module _ {w₂ : List ℕ} (e : w₂ ≡ after) where
-      -- the others are still to do
+      -- the others are left to do
       pub walked : Walk n i starts rows p₁ w₂ t₁ (getD w (n + n + c) 0)
       walked =
           rw e

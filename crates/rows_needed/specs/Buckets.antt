@@ -1,5 +1,5 @@
--- The columns by the next pattern row of each. The first column of row r stands at n + r in work; for column c the next column of the same
--- row stands at n + n + c, and at n + n + n + c the place of its next row.
+-- Defines the buckets that hold each column by its next pattern row. Work holds the first column of row r at n + r, the column behind c in the same
+-- bucket at n + n + c, and the place of c's next row at n + n + n + c.
 -- Assumes nothing.
 use Prim.Native.Nat.{ℕ, _+_, _-_, _<_, _≤_}
 use mathlib.Core.Path.{_≡_}
@@ -18,7 +18,7 @@ cursor n work c = getD work (n + n + n + c) 0
 abbrev pub Points : ℕ → List ℕ → List ℕ → List ℕ → ℕ → ℕ → Type 0
 Points n starts rows work c r = (cursor n work c < getD starts c 0) × (getD rows (cursor n work c) 0 ≡ r)
 
--- the rows of column c before the next are at most i, the next is at least i
+-- the rows of column c before its next row are at most i, and its next row is at least i
 pub record Place (n i : ℕ) (starts rows work : List ℕ) (c : ℕ) : Type 0 where
   pub from-start : getD starts (c - 1) 0 ≤ cursor n work c
   pub to-end : cursor n work c ≤ getD starts c 0
@@ -29,7 +29,7 @@ pub record Place (n i : ℕ) (starts rows work : List ℕ) (c : ℕ) : Type 0 wh
 abbrev pub UpTo : ℕ → ℕ → Type 0
 UpTo m d = (1 ≤ d) × (d ≤ m)
 
--- the columns of P whose next row is r, linked from c on
+-- links from c on list the columns of P whose next row is r
 pub record Bucket (n r : ℕ) (starts rows work : List ℕ) (P : ℕ → Type 0) (c : ℕ) : Type 0 where
   pub list : List ℕ
   pub chain : Chain work (n + n) c list
@@ -37,7 +37,7 @@ pub record Bucket (n r : ℕ) (starts rows work : List ℕ) (P : ℕ → Type 0)
   pub into : (d : ℕ) → P d → Points n starts rows work d r → d ∈ list
   pub once : Distinct list
 
--- of the columns in P: each row above i has its bucket, and those at row i still to do are linked from c on
+-- for the columns in P: links list each bucket above row i, and from c on the columns at row i that are left to do
 pub record Buckets (n i : ℕ) (starts rows work : List ℕ) (P : ℕ → Type 0) (c : ℕ) : Type 0 where
   pub range : (d : ℕ) → P d → UpTo n d
   pub place : (d : ℕ) → P d → Place n i starts rows work d
@@ -45,11 +45,11 @@ pub record Buckets (n i : ℕ) (starts rows work : List ℕ) (P : ℕ → Type 0
   pub left : Bucket n i starts rows work P c
   pub long : n + n + n + n < length work
 
--- column c put at the front of the bucket of row r
+-- puts column c at the front of the bucket of row r
 unfoldable pub pushed : ℕ → ℕ → ℕ → List ℕ → List ℕ
 pushed n r c work = set (set work (n + n + c) (getD work (n + r) 0)) (n + r) c
 
--- column c with q as the place of its next row, in the bucket of that row if it has one
+-- gives column c the place q of its next row, and puts it in the bucket of that row if it has one
 unfoldable pub filed : ℕ → ℕ → ℕ → List ℕ → List ℕ → List ℕ → List ℕ
 filed n c q starts rows work =
     elim (ltb q (getD starts c 0)) [ true ↦ pushed n (getD rows q 0) c (set work (n + n + n + c) q) | false ↦ set work (n + n + n + c) q ]

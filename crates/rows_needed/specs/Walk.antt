@@ -1,4 +1,4 @@
--- The walk over the columns at row i, and what begins and ends it.
+-- Defines the walk over the columns at row i, and the state before and after it.
 -- Assumes nothing.
 use Prim.Native.Nat.{ℕ, _+_, _<_, _≤_}
 use mathlib.Core.Path.{_≡_}
@@ -21,13 +21,13 @@ pub record Filing (n c q : ℕ) (starts rows work : List ℕ) : Type 0 where
   pub row : q < getD starts c 0 → getD rows q 0 ≤ n
   pub long : n + n + n + n < length work
 
--- before row i: the rows below i are counted, and no column is marked for it
+-- before row i the rows below i are counted, and no column is marked for row i
 pub record Between (n i : ℕ) (A : Pattern) (parents work : List ℕ) (t : ℕ) : Type 0 where
   pub known : Known n i A parents
   pub sum : sumTo n (λ c. under i (R A c)) ≡ t
   pub low : (c : ℕ) → 1 ≤ c → c ≤ n → getD work c 0 < i
 
--- the columns at row i, from c on, are still to do; each other column that has the row in its pattern is marked
+-- the columns at row i from c on are left to do; every other column whose pattern has row i is marked
 pub record Walk (n i : ℕ) (starts rows parents work : List ℕ) (t c : ℕ) : Type 0 where
   pub tested : Tested n starts rows
   pub low : 1 ≤ i

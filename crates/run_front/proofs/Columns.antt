@@ -1,4 +1,4 @@
--- Where a column's rows lie in a factor: between two starts, inside the rows. They ascend above the column, so they are fewer than the columns.
+-- Proves that a column's rows are between two starts, within the factor's rows. They ascend above the column, so they are fewer than the columns.
 -- Assumes nothing.
 use Prim.Native.Nat.{ℕ, suc, _+_, _-_, _<_, _≤_}
 use mathlib.Core.Path.{_≡_}
@@ -32,7 +32,7 @@ module _ {n : ℕ} {starts rows : List ℕ} (tested : Tested n starts rows) wher
         omega arith
 
 module _ {n : ℕ} {starts rows : List ℕ} {c : ℕ} (in-factor : ColumnIn n starts rows c) where
-  -- both starts of a column stand in the starts, in order, and inside the rows
+  -- starts holds both starts of a column, they ascend, and they are within the rows
   pub record Lies (from end : ℕ) : Type 0 where
     pub listed : c < length starts
     pub rising : from ≤ end
@@ -51,6 +51,6 @@ module _ {n : ℕ} {starts rows : List ℕ} {c : ℕ} (in-factor : ColumnIn n st
         within = rw (← start-at starts c) (start-within s (suc c) (omega arith) (omega arith));
       }
 
-  -- the part between them is the column's rows
+  -- the part between them holds the column's rows
   pub part-is-column : part (getD starts (c - 1) 0) (getD starts c 0) rows ≡ columnOf starts rows c
   part-is-column = part-column starts rows c

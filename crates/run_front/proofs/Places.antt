@@ -1,5 +1,5 @@
--- The search of a row among ascending rows. What a look at one place says of that row it says of all rows on one side, so a bracket may be
--- narrowed there; where it is one place, the row stands there or nowhere.
+-- Proves the search for a row among ascending rows: a look at one place rules out all places on one side, so the range narrows. Once the range is one
+-- place, the row is there or nowhere.
 -- Assumes nothing.
 use Prim.Native.Nat.{ℕ, zero, suc, _+_, _<_, _≤_}
 use mathlib.Core.Path.{_≡_}
@@ -13,7 +13,7 @@ use Rattle.list_laws.proofs.Tests.{Compare, below, level, above, compare}
 use Rattle.list_laws.proofs.Members.{at-place}
 use Rattle.run_front.specs.Search.{Bracket}
 
--- a later place has a greater number
+-- a later place holds a greater number
 pub places-ascend : (b : ℕ) (l : List ℕ) → Asc b l → (i k : ℕ) → i < k → k < length l → getD l i 0 < getD l k 0
 places-ascend b [] s i k h u = absurd (omega arith)
 places-ascend b (x ∷ l) s zero zero h u = absurd (omega arith)
@@ -30,7 +30,7 @@ places-rise l s i k h u = go (compare i k)
     go (above b) = absurd (omega arith)
 
 module _ {rows : List ℕ} {row lo hi : ℕ} (ascending : Asc 0 rows) (b : Bracket rows row lo hi) where
-  -- the row at a place of the bracket is below: the place lies behind it
+  -- the row at a place of the range is below: the place sought is behind it
   pub narrow-above : {m : ℕ} → m < hi → getD rows m 0 < row → Bracket rows row (m + 1) hi
   narrow-above {m} h l =
       let w = b .within in
@@ -41,21 +41,21 @@ module _ {rows : List ℕ} {row lo hi : ℕ} (ascending : Asc 0 rows) (b : Brack
         behind = b .behind;
       }
 
-  -- it is not below: the place lies there or before it
+  -- the row there is not below: the place sought is there or before it
   pub narrow-below : {m : ℕ} → lo ≤ m → m < hi → row ≤ getD rows m 0 → Bracket rows row lo m
   narrow-below {m} u h l =
       let w = b .within in
       record { rising = u; within = omega arith; before = b .before; behind = λ i q p. omega (arith, places-rise rows ascending m i q p) }
 
--- nothing left between: the place is known
+-- the range is one place: the place is known
 pub one-place : {rows : List ℕ} {row lo hi : ℕ} → Bracket rows row lo hi → hi ≤ lo → Bracket rows row lo lo
 one-place {rows} {row} {lo} {hi} b h = let r = b .rising in let e : hi ≡ lo = omega arith in rw e at b
 
--- the row that stands at its place
+-- the row is at its place
 pub found-there : (rows : List ℕ) (row place : ℕ) → place < length rows → getD rows place 0 ≡ row → row ∈ rows
 found-there rows row place h e = rw (← e) (at-place rows place h)
 
--- a row that does not stand at its place stands nowhere
+-- a row that is not at its place is nowhere
 absent : (b : ℕ) (rows : List ℕ) → Asc b rows → (row place : ℕ) → ((i : ℕ) → i < place → getD rows i 0 < row)
     → (place < length rows → row < getD rows place 0) → ¬ (row ∈ rows)
 absent b [] s row place before there m = List·Memᴰ·not-nil m

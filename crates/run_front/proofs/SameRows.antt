@@ -1,5 +1,5 @@
--- How far two lists are alike. A row that is the same counts on; and what is counted from two places on says of the whole lists what stands at
--- these places.
+-- Proves how the first rows that two lists share are counted: an equal row counts one more, and a count from two places on tells what the whole lists
+-- hold there.
 -- Assumes nothing.
 use Prim.Native.Nat.{ℕ, _+_, _-_, _<_, _≤_, min}
 use mathlib.Core.Path.{_≡_}

@@ -1,5 +1,5 @@
--- The sweep of an update's rows through a front. The update's rows ascend, so the rows of the front before the last one found are below the
--- next; a row is in the front if it is the column or stands at its place, and so are the rows that follow it and are the same there.
+-- Proves how an update's rows are found in a front. The update ascends, so the front's rows before the last one found are below the next. A row is in
+-- the front if it is the column or is found at its place, and so are the equal rows that follow it.
 -- Assumes nothing.
 use Prim.Native.Nat.{ℕ, zero, suc, _+_, _<_, _≤_}
 use mathlib.Core.Path.{_≡_, refl, sym, _∙_}
@@ -18,11 +18,11 @@ use Rattle.run_front.specs.Search.{Bracket, Alike}
 use Rattle.run_front.proofs.SameRows.{from, in-first-from, in-second-from, same-from, differ-from}
 use Rattle.run_front.proofs.Places.{places-ascend, found-there, found-nowhere}
 
--- whether a row stands in the front
+-- tests whether a row is in the front
 abbrev pub inFront : ℕ → List ℕ → ℕ → Bool
 inFront column rows i = member i (column ∷ rows)
 
--- the first i rows of the update stand in the front; the front's rows before `found` are below the next
+-- the first i rows of the update are in the front, and the front's rows before `found` are below the next
 pub record Swept (column : ℕ) (rows update : List ℕ) (found i : ℕ) : Type 0 where
   pub within : found ≤ length rows
   pub before : i < length update → (k : ℕ) → k < found → getD rows k 0 < getD update i 0
@@ -40,7 +40,7 @@ module _ {column : ℕ} {rows update : List ℕ} {found i : ℕ} (s : Swept colu
     next : drop i update ≡ getD update i 0 ∷ drop (i + 1) update
     next = rw add-one (drop-cons update i 0 h)
 
-    -- the next row is searched from `found` on
+    -- the search for the next row begins at `found`
     pub to-seek : Bracket rows (getD update i 0) found (length rows)
     to-seek = record { rising = s .within; within = omega arith; before = s .before h; behind = λ k l u. absurd (omega arith) }
 
@@ -48,7 +48,7 @@ module _ {column : ℕ} {rows update : List ℕ} {found i : ℕ} (s : Swept colu
     goes-on e = sym (every-yes (inFront column rows) (getD update i 0) (drop (i + 1) update) e) ∙ (rw (← next) (s .same))
 
     module _ (ascending : Asc 0 update) where
-      -- it is the column
+      -- the row is the column
       pub swept-column : getD update i 0 ≡ column → Swept column rows update found (i + 1)
       swept-column e = record {
         within = s .within;
@@ -56,7 +56,7 @@ module _ {column : ℕ} {rows update : List ℕ} {found i : ℕ} (s : Swept colu
         same = goes-on (member-into (getD update i 0) (column ∷ rows) (List·Memᴰ·head e));
       }
 
-      -- it stands at the next place of the front
+      -- the row is at the next place of the front
       swept-row : found < length rows → getD rows found 0 ≡ getD update i 0 → Swept column rows update (found + 1) (i + 1)
       swept-row l e = record {
         within = omega arith;
@@ -76,7 +76,7 @@ module _ {column : ℕ} {rows update : List ℕ} {found i : ℕ} (s : Swept colu
     swept-to : {place : ℕ} → Bracket rows (getD update i 0) place place → Swept column rows update place i
     swept-to b = record { within = b .within; before = λ l. b .before; same = s .same }
 
-    -- it is neither
+    -- the row is neither
     pub swept-missing : {place : ℕ} → Asc 0 rows → getD update i 0 ≢ column → Bracket rows (getD update i 0) place place
         → Alike (from rows place) (from update i) 0 → false ≡ every (inFront column rows) update
     swept-missing {place} ascending other b none =
@@ -89,7 +89,7 @@ module _ {column : ℕ} {rows update : List ℕ} {found i : ℕ} (s : Swept colu
         go (inr m) = found-nowhere ascending b (λ l. differ-from rows update place i none l h) m
 
 module _ {column : ℕ} {rows update : List ℕ} (ascending : Asc 0 update) where
-  -- so many rows stand at the next places
+  -- this many rows are equal at the next places
   swept-rows : {found i : ℕ} (count : ℕ) → Swept column rows update found i → found + count ≤ length rows → i + count ≤ length update
       → ((k : ℕ) → k < count → getD rows (found + k) 0 ≡ getD update (i + k) 0) → Swept column rows update (found + count) (i + count)
   swept-rows {found} {i} zero s l u e = let p : found + 0 ≡ found = omega arith in let q : i + 0 ≡ i = omega arith in rw (p, q) s
@@ -99,7 +99,7 @@ module _ {column : ℕ} {rows update : List ℕ} (ascending : Asc 0 update) wher
       rw (p, q) (swept-row (swept-rows count s (omega arith) (omega arith) (λ k h. e k (omega arith))) (omega arith) ascending (omega arith)
       (e count (omega arith)))
 
-  -- its place is found, and the rows that follow are the same there
+  -- its place is found, and the rows that follow are equal there
   pub swept-alike : {found i place count : ℕ} → Swept column rows update found i → i < length update → Bracket rows (getD update i 0) place place
       → Alike (from rows place) (from update i) count → Swept column rows update (place + count) (i + count)
   swept-alike {found} {i} {place} {count} s h b a =

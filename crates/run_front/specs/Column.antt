@@ -1,4 +1,4 @@
--- The columns of a factor.
+-- Defines the columns of a factor.
 -- Assumes nothing.
 use Prim.Native.Nat.{ℕ, _≤_}
 use mathlib.Core.List.{List}

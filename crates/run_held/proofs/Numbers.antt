@@ -1,4 +1,5 @@
--- What the walks of `step` and `advance` carry: the four numbers that a step takes (pops, popped, update, room), and the record's machine value.
+-- Proves facts that the walks of `step` and `advance` carry along: the four numbers of a step (pops, popped, update, room) and the record's machine
+-- value.
 -- Assumes nothing.
 use Prim.Native.Nat.{ℕ, _<_, _^_}
 use mathlib.Core.List.{List, [], _∷_}
@@ -10,7 +11,7 @@ use Rattle.run_held.specs.Record.{steppedOf, Takes}
 abbrev pub Numbers : Type 0
 Numbers = ℕ × (ℕ × (ℕ × (ℕ × Unit {0})))
 
--- each is a number of 64 bits
+-- each of the four is a number of 64 bits
 pub record Fit (m : Numbers) : Type 0 where
   pub pops : m .0 < 2 ^ 64
   pub popped : m .1 .0 < 2 ^ 64

@@ -1,5 +1,5 @@
--- What a run answers from its steps on, for each way out of the loop over them: the first step at fault, updates left, or done. Whichever it is,
--- the stack slice is zero after it.
+-- Proves the answer for each way out of the loop over the steps: the first step at fault, updates left, or done. Each way leaves the stack slice
+-- zero.
 -- Assumes nothing.
 use Prim.Native.Nat.{ℕ, suc, _+_, _-_, _<_}
 use mathlib.Core.Path.{_≡_, refl, sym, ap, _∙_}
@@ -20,7 +20,7 @@ use Rattle.job_laws.proofs.Faults.{faulty, faultTest, faults-pass, faults-refus
 use Rattle.job_laws.proofs.Outcomes.{outcome-zeroed, outcome-done}
 use Rattle.run_steps.specs.Steps.{stepsAnswer}
 
--- an outcome is its answer and what it leaves
+-- an outcome is made of its answer and of what it leaves
 with-lent : {o p : Outcome (List ℕ)} → o ≡ p → o ≡ record { answer = o .answer; lent = p .lent }
 with-lent {o} e = ap (λ (l : List ℕ). record { answer = o .answer; lent = l }) (ap (λ (o : Outcome (List ℕ)). o .lent) e)
 
@@ -75,7 +75,7 @@ module _ (call : RunCall) where
 
   -- ---- the stack slice
 
-  -- a verdict that leaves zeros, if it refuses
+  -- a verdict leaves zeros, if it refuses
   abbrev Zeroing : Verdict → Type 0
   Zeroing passed = Unit {0}
   Zeroing (refused a l) = l ≡ zeroed
@@ -93,7 +93,7 @@ module _ (call : RunCall) where
         (zeroing-if (ltb 0 (length (stateAfter call (call .n) .held))) (answer 24 (call .n) (stateAfter call (call .n) .greatest)), tt),
       )
 
-  -- from the steps on it is zero
+  -- from the steps on the slice is zero
   pub from-steps : fromSteps ≡ record { answer = stepsAnswer call; lent = zeros (call .stack) }
   unfolding runDone
   from-steps = go (first tests call) refl zeroing

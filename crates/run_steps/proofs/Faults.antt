@@ -1,4 +1,4 @@
--- The ways out of a step's four tests, by its column and its pops as the lists have them.
+-- Proves the ways out of a step's four tests, by the column and the pops that the lists hold for it.
 -- Assumes nothing.
 use Prim.Native.Nat.{ℕ, suc, _<_, _≤_}
 use mathlib.Core.Path.{_≡_, _∙_, sym}
@@ -36,7 +36,7 @@ module _ (n : ℕ) (starts rows columns pops : List ℕ) (room : ℕ) (stack : L
   abbrev off : ℕ
   off = getD pops done 0
 
-  -- whether the popped rows stand in the front
+  -- tests whether the popped rows are in the front
   abbrev inside : Bool
   inside = fits (factorOf n starts rows) c (take off (heldIn (held .count) stack))
 
@@ -44,7 +44,7 @@ module _ (n : ℕ) (starts rows columns pops : List ℕ) (room : ℕ) (stack : L
   unfolding fits rowsIn
   fits-is = rw (pops-at call done, column-at columns done)
 
-  -- the column is not one
+  -- there is no such column
   pub fault-low : c < 1 → 14 ≡ fault
   unfolding stepFault
   fault-low h = rw (column-at columns done, lt-leb 1 c h, stepFault)
@@ -57,7 +57,7 @@ module _ (n : ℕ) (starts rows columns pops : List ℕ) (room : ℕ) (stack : L
     known : (leb 1 (columnAt columns (suc done)) && leb (columnAt columns (suc done)) n) ≡ true
     known = rw (column-at columns done, le-leb 1 c (column .low), le-leb c n (column .high))
 
-    -- it pops more than is held
+    -- the step pops more than is held
     pub fault-few : held .count < off → 21 ≡ fault
     unfolding stepFault
     fault-few h = rw (known, pops-at call done, held-length stack (held .count), lt-ltb (held .count) off h, stepFault)
@@ -72,7 +72,7 @@ module _ (n : ℕ) (starts rows columns pops : List ℕ) (room : ℕ) (stack : L
       fault-outside e f = rw (known, plenty, fits-is, sym e ∙ f, stepFault)
 
       module _ {r : Bool} (e : r ≡ inside) (f : r ≡ true) {u : ℕ} (g : u ≡ used n starts rows columns pops stack held done) where
-        -- too much room
+        -- the step needs too much room
         pub fault-over : room < u → 23 ≡ fault
         unfolding stepFault
         fault-over h =

@@ -1,4 +1,4 @@
--- What a step puts on: nothing where its update has no entries, and its own column else.
+-- Proves what a step pushes: nothing if its update has no entries, else its own column.
 -- Assumes nothing.
 use Prim.Native.Nat.{ℕ}
 use mathlib.Core.Path.{_≡_, refl, ap, _∙_}

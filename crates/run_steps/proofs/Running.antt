@@ -1,5 +1,5 @@
--- The loop over the steps: after `done` steps without fault the stack list and the record hold the state after them. What a step makes of a state
--- does not depend on the room or on what the stack slice held at first.
+-- Proves the steps of the loop: after `done` steps without a fault the stack list and the record hold the state. A step's effect depends neither on
+-- the room nor on what the stack slice held at first.
 -- Assumes nothing.
 use Prim.Native.Nat.{ℕ, suc, _+_, _<_, _≤_}
 use mathlib.Core.Path.{_≡_, refl, ap, _∙_, sym}
@@ -47,7 +47,7 @@ module _ (n : ℕ) (starts rows columns pops : List ℕ) (room : ℕ) (stack : L
   unfolding stepped pushed rowsIn popsAt roomIn entries
   step-apart s state = refl
 
-  -- `now` is what the stack slice holds after `done` steps without fault
+  -- `now` is what the stack slice holds after `done` steps without a fault
   pub record Running (now : List ℕ) (held : Held) (done : ℕ) : Type 0 where
     pub kept : Kept n starts rows now held
     pub few : held .count ≤ done
@@ -75,11 +75,11 @@ module _ (n : ℕ) (starts rows columns pops : List ℕ) (room : ℕ) (stack : L
 
   module _ {now : List ℕ} {held : Held} {done : ℕ} (run : Running now held done) (more : done < n) {fault : ℕ}
       (f : fault ≡ stepFault (callOf n starts rows columns pops room []) (suc done) (stateOf held now)) where
-    -- the fault found is that of the step
+    -- the fault found is the step's
     pub fault-is : faultAt call (suc done) ≡ fault
     fault-is = fault-next call done ∙ (rw (← run .state) (sym (f ∙ fault-apart (suc done) (stateOf held now))))
 
-    -- without fault the step can be taken
+    -- a step without a fault can be taken
     pub ready : StepsAsked n starts rows columns pops stack → fault ≡ 0 → Ready n starts rows columns pops now held done
     ready asked z =
         let fine = fault-zero n starts rows columns pops room now held done (sym f ∙ z) in
@@ -94,7 +94,7 @@ module _ (n : ℕ) (starts rows columns pops : List ℕ) (room : ℕ) (stack : L
           free = omega arith;
         }
 
-    -- and then one step more is done
+    -- then one more step is done
     pub running-next : {now′ : List ℕ} {held′ : Held} → fault ≡ 0 → length now′ ≡ length now
         → StepTaken n starts rows columns pops now held done now′ held′ → Running now′ held′ (done + 1)
     running-next z same taken =
@@ -109,7 +109,7 @@ module _ (n : ℕ) (starts rows columns pops : List ℕ) (room : ℕ) (stack : L
           fine = faults-next (faultAt call) done (run .fine) (fault-is ∙ z);
         })
 
-    -- with a fault it is answered
+    -- a fault is answered
     pub answers-fault : fault ≢ 0 → answer fault (done + 1) (held .greatest) ≡ stepsAnswer call
     answers-fault h = answer-fault call (run .fine) more fault-is h (ap (λ (s : State). s .greatest) (run .state))
 

@@ -1,5 +1,5 @@
--- A step taken. The popped columns come off the top, and their entries off the sum; a column with rows is stored behind those that stay, a root
--- leaves nothing. So list and record hold the next state, and the record has its entries again.
+-- Proves that taking a step keeps the state: the popped columns leave the stack and their entries leave the sum; a column with rows is stored behind
+-- those that stay, and a root pushes nothing. So the list and the record hold the next state.
 -- Assumes nothing.
 use Prim.Native.Nat.{ℕ, suc, _+_, _-_, _<_, _≤_, min}
 use mathlib.Core.Path.{_≡_, ap, _∙_, sym}
@@ -23,7 +23,7 @@ use Rattle.run_updates.proofs.Step.{pops-at, used, used-is}
 use Rattle.run_steps.specs.Ready.{Ready, StepTaken}
 use Rattle.run_steps.proofs.Pushed.{push-root, push-update}
 
--- the last of `count` updates, at most n, has its place in the stack list
+-- the last of `count` updates, at most n, is at a place of the stack list
 pub record Place (n : ℕ) (stack : List ℕ) (count : ℕ) : Type 0 where
   pub some : 1 ≤ count
   pub few : count ≤ n
@@ -87,7 +87,7 @@ module _ {n : ℕ} {starts rows columns pops stack : List ℕ} {held : Held} {do
     abbrev after : State
     after = stepped call (suc done) (stateOf held stack)
 
-    -- by what is on the stack then
+    -- the columns then on the stack and the greatest room make that state
     after-is : (held′ : List ℕ) → held′ ≡ pushed call c staying → record { held = held′; greatest = next .greatest } ≡ after
     unfolding stepped
     after-is held′ q =

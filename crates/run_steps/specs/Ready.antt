@@ -1,4 +1,4 @@
--- What a run's steps stand on, and what a step that is taken leaves.
+-- Defines what a run's steps require, and what a step leaves.
 -- Assumes nothing.
 use Prim.Native.Nat.{ℕ, suc, _+_, _<_, _≤_}
 use mathlib.Core.Path.{_≡_}
@@ -10,21 +10,21 @@ use Rattle.run_held.specs.declared.Held.{Held}
 use Rattle.run_front.specs.Column.{Column}
 use Rattle.run_updates.specs.Kept.{callOf, stateOf, Kept}
 
--- lists for n steps on a factor that passes 1, 4, 5 and 6
+-- the lists have places for n steps, on a factor that passes 1, 4, 5 and 6
 pub record StepsAsked (n : ℕ) (starts rows columns pops stack : List ℕ) : Type 0 where
   pub tested : Tested n starts rows
   pub columns-long : n ≤ length columns
   pub pops-long : n ≤ length pops
   pub stack-long : n ≤ length stack
 
--- the step behind `done` steps is listed, and the updates of these are kept
+-- the lists hold the step after `done` steps, and the stack list and the record keep the updates
 pub record StepAsked (n : ℕ) (starts rows columns pops stack : List ℕ) (held : Held) (done : ℕ) : Type 0 where
   pub tested : Tested n starts rows
   pub kept : Kept n starts rows stack held
   pub column-listed : done < length columns
   pub pops-listed : done < length pops
 
--- the step behind `done` steps can be taken: it is listed, its column is one, it pops no more than is held, and there is a place for its update
+-- the step after `done` steps can be taken: the lists hold it, its column exists, it pops no more than is held, and its update has a place
 pub record Ready (n : ℕ) (starts rows columns pops stack : List ℕ) (held : Held) (done : ℕ) : Type 0 where
   pub tested : Tested n starts rows
   pub kept : Kept n starts rows stack held
@@ -34,7 +34,7 @@ pub record Ready (n : ℕ) (starts rows columns pops stack : List ℕ) (held : H
   pub enough : getD pops done 0 ≤ held .count
   pub free : held .count < n
 
--- that step is taken: list and record hold one update more at most, and the next state
+-- the step is taken: the list and the record hold the next state, with at most one update more
 pub record StepTaken (n : ℕ) (starts rows columns pops stack : List ℕ) (held : Held) (done : ℕ) (stack′ : List ℕ) (held′ : Held) : Type 0 where
   pub kept : Kept n starts rows stack′ held′
   pub grows : held′ .count ≤ held .count + 1

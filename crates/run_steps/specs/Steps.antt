@@ -1,4 +1,4 @@
--- What a run answers from its steps on.
+-- Defines what a run answers from its steps on.
 -- Assumes nothing.
 use mathlib.Core.List.{[], _∷_}
 use Rattle.papers.specs.declared.Answer.{Answer}
@@ -6,6 +6,6 @@ use Rattle.papers.specs.Lists.{zeros}
 use Rattle.papers.specs.Refusals.{outcome}
 use Rattle.papers.specs.Run.{RunCall, stepsTest, leftTest, runDone}
 
--- of the first step at fault, of updates left, or done
+-- answers the first step at fault, or updates left, or done
 abbrev pub stepsAnswer : RunCall → Answer
 stepsAnswer call = outcome (stepsTest ∷ leftTest ∷ []) runDone zeros call (call .stack) .answer

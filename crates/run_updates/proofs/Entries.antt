@@ -1,5 +1,5 @@
--- The entries of the updates held: no update has more than a triangle of all columns, so their sum is small; and the sum is that of the
--- popped ones and of those that stay.
+-- Proves that the sum of the held updates' entries is small, since no update has more than a triangle of all columns; and that it is the sum of the
+-- popped updates and of those that stay.
 -- Assumes nothing.
 use Prim.Native.Nat.{ℕ, zero, suc, _+_, _*_, _^_, _<_, _≤_}
 use mathlib.Core.Path.{_≡_, refl}
@@ -20,7 +20,7 @@ use Rattle.run_updates.specs.Kept.{heldIn, factorOf, Kept}
 use Rattle.run_updates.proofs.Stack.{held-length, held-each}
 
 module _ (n : ℕ) (starts rows : List ℕ) where
-  -- the sum of the entries of a list of columns
+  -- sums the entries of a list of columns
   abbrev pub total : List ℕ → ℕ
   total held = sum (entries (factorOf n starts rows) held)
 
@@ -32,20 +32,20 @@ module _ (n : ℕ) (starts rows : List ℕ) where
   unfolding sum entries rowsIn
   total-cons c held = refl
 
-  -- the popped and those that stay
+  -- the sum is that of the popped updates and of those that stay
   pub total-parts : (p : ℕ) (held : List ℕ) → total (take p held) + total (drop p held) ≡ total held
   total-parts zero held = omega (arith, total-none)
   total-parts (suc p) [] = omega (arith, total-none)
   total-parts (suc p) (c ∷ held) = omega (arith, total-cons c (take p held), total-cons c held, total-parts p held)
 
   module _ (tested : Tested n starts rows) where
-    -- no update has more entries than so many columns
+    -- no update has more entries than a triangle of so many columns
     pub update-small : {c : ℕ} → Column n c → t (length (columnOf starts rows c)) ≤ t maxColumns
     update-small {c} column =
         let few = tested .few in
         t-grows (length (columnOf starts rows c)) maxColumns (omega (arith, column-fits tested column))
 
-    -- the front, one row more, has no more either
+    -- nor has the front, which has one row more
     pub front-small : {c : ℕ} → Column n c → t (suc (length (columnOf starts rows c))) ≤ t maxColumns
     front-small {c} column =
         let few = tested .few in
@@ -69,6 +69,6 @@ module _ (n : ℕ) (starts rows : List ℕ) where
           total-each (heldIn (held .count) stack) (λ c m. held-each stack (Column n) (held .count) (kept .columns) c m),
         )
 
-    -- so have any popped of them
+    -- so the popped updates have few entries too
     pub popped-small : {stack : List ℕ} {held : Held} → Kept n starts rows stack held → (p : ℕ) → total (take p (heldIn (held .count) stack)) < 2 ^ 40
     popped-small {stack} {held} kept p = omega (arith, total-small kept, total-parts p (heldIn (held .count) stack))

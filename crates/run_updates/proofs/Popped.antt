@@ -1,5 +1,5 @@
--- The two loops over the popped updates, from the top down: what is left of the list of popped columns, with what was found of those before it,
--- is what is found of all of them.
+-- Proves the two loops over the popped updates, from the top down: what was found of the updates passed, with what those left give, is what all of
+-- them give.
 -- Assumes nothing.
 use Prim.Native.Nat.{ℕ, _+_, _-_, _<_, _≤_}
 use mathlib.Core.Path.{_≡_, ap, _∙_, sym}
@@ -21,14 +21,14 @@ module _ (n : ℕ) (starts rows stack : List ℕ) where
   abbrev left : ℕ → ℕ → List ℕ
   left end top = take (top - end) (heldIn top stack)
 
-  -- at first, all p of them
+  -- at first all p columns are left
   left-all : (p k : ℕ) → p ≤ k → left (k - p) k ≡ take p (heldIn k stack)
   left-all p k h = let e : k - (k - p) ≡ p = omega arith in rw e
 
-  -- ---- 22: all that is left stands in the front just where all popped do
+  -- ---- 22: the updates left are in the front exactly if all popped updates are
 
   module _ (column : ℕ) where
-    -- whether the update of column u stands in the front
+    -- tests whether the update of column u is in the front
     abbrev standsIn : ℕ → Bool
     standsIn u = every (λ i. member i (column ∷ columnOf starts rows column)) (columnOf starts rows u)
 
@@ -108,6 +108,6 @@ module _ (n : ℕ) (starts rows stack : List ℕ) where
           );
         }
 
-    -- the sum so far is no more than the whole
+    -- the sum so far does not exceed the whole sum
     pub added-within : sum + more ≤ total n starts rows popped
     added-within = let q = added-next .same in omega arith

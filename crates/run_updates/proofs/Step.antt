@@ -1,4 +1,4 @@
--- The pops of the step behind `done` steps and its room in use, by its column and pops as the lists have them: neither depends on the room given.
+-- Proves that the column and pops in the lists give the pops and the room in use of the step after `done` steps; neither depends on the room given.
 -- Assumes nothing.
 use Prim.Native.Nat.{ℕ, suc}
 use mathlib.Core.Path.{_≡_, ap}

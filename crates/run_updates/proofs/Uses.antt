@@ -1,4 +1,4 @@
--- Room in use at a step, from the record: it has the sum of the entries held, and the top update is the first of them.
+-- Proves the room in use at a step from the record, which keeps the sum of the entries held; the top update is the first of them.
 -- Assumes nothing.
 use Prim.Native.Nat.{ℕ, suc, _+_, _-_, _^_, _<_, _≤_}
 use mathlib.Core.Path.{_≡_, refl, _∙_}
@@ -41,12 +41,12 @@ module _ {n : ℕ} {starts rows stack : List ℕ} {held : Held} {pops c : ℕ} (
   total-top : 0 < held .count → held .entries ≡ t (length (columnOf starts rows top)) + total n starts rows rest
   total-top h = over .kept .entries-are ∙ (rw (held-top stack (held .count) h) (total-cons n starts rows top rest))
 
-  -- no more is taken off than is held
+  -- a step pops no more than is held
   pub top-within : {u update : ℕ} → 0 < held .count → u ≡ top → update ≡ t (length (columnOf starts rows u)) → update ≤ held .entries
   top-within h i e = omega (arith, rw i at e, total-top h)
 
   module _ {rs : List ℕ} (e : rs ≡ columnOf starts rows c) where
-    -- the rows of a front are few enough for their entries
+    -- a front has few rows, so its entries fit
     pub front-fits : length rs + 1 ≤ maxColumns + 1
     front-fits = rw e (omega (arith, over .tested .few, column-fits (over .tested) (over .column)))
 
@@ -69,7 +69,7 @@ module _ {n : ℕ} {starts rows stack : List ℕ} {held : Held} {pops c : ℕ} (
       pub room-above : pops ≡ 0 → held .entries + front ≡ roomAt pops (length (columnOf starts rows c)) these
       room-above z = rw z (omega (arith, front-is, over .kept .entries-are, room-none (length (columnOf starts rows c)) these))
 
-      -- with pops, over the top update
+      -- with pops: the front is over the top update
       pub room-on-top : {u update : ℕ} → 0 < pops → u ≡ top → update ≡ t (length (columnOf starts rows u))
           → held .entries - update + front ≡ roomAt pops (length (columnOf starts rows c)) these
       room-on-top h i g =

@@ -1,4 +1,4 @@
--- How the lent stack list and the record hold the updates of a run.
+-- Defines how the lent stack list and the record hold the updates of a run.
 -- Assumes nothing.
 use Prim.Native.Nat.{ℕ, zero, suc, _-_, _<_, _≤_}
 use mathlib.Core.Path.{_≡_}
@@ -10,7 +10,7 @@ use Rattle.column_laws.specs.Tested.{Tested}
 use Rattle.run_held.specs.declared.Held.{Held}
 use Rattle.run_front.specs.Column.{Column}
 
--- the columns held, the top one first: the stack list has them bottom first
+-- the columns held, top first; the stack list holds them bottom first
 unfoldable pub heldIn : ℕ → List ℕ → List ℕ
 heldIn zero stack = []
 heldIn (suc k) stack = getD stack k 0 ∷ heldIn k stack
@@ -19,46 +19,46 @@ heldIn (suc k) stack = getD stack k 0 ∷ heldIn k stack
 abbrev pub stateOf : Held → List ℕ → State
 stateOf held stack = record { held = heldIn (held .count) stack; greatest = held .greatest }
 
--- a run's call
+-- the call of a run
 abbrev pub callOf : ℕ → List ℕ → List ℕ → List ℕ → List ℕ → ℕ → List ℕ → RunCall
 callOf n starts rows columns pops room stack =
     record { n = n; starts = starts; rows = rows; columns = columns; pops = pops; room = room; stack = stack }
 
--- what speaks of a factor alone takes a call without steps
+-- the call without steps, for what depends on the factor alone
 abbrev pub factorOf : ℕ → List ℕ → List ℕ → RunCall
 factorOf n starts rows = callOf n starts rows [] [] 0 []
 
--- the first k of the stack list are columns of 1 to n
+-- the first k numbers of the stack list are columns of 1 to n
 abbrev pub Columns : ℕ → ℕ → List ℕ → Type 0
 Columns n k stack = (i : ℕ) → i < k → Column n (getD stack i 0)
 
--- the stack list holds columns of 1 to n, at most n of them, and the record has the entries of their updates
+-- the stack list holds columns of 1 to n, at most n of them, and the record counts the entries of their updates
 pub record Kept (n : ℕ) (starts rows stack : List ℕ) (held : Held) : Type 0 where
   pub few : held .count ≤ n
   pub listed : n ≤ length stack
   pub columns : Columns n (held .count) stack
   pub entries-are : held .entries ≡ sum (entries (factorOf n starts rows) (heldIn (held .count) stack))
 
--- ---- what is asked and promised
+-- ---- what the functions require and promise
 
--- a place of the stack list, counted from 1, up to which it holds columns
+-- the stack list holds columns up to this place, counted from 1
 pub record PlaceHeld (n : ℕ) (stack : List ℕ) (place : ℕ) : Type 0 where
   pub columns : Columns n place stack
   pub low : 1 ≤ place
   pub listed : place ≤ length stack
 
--- the column that stands there
+-- r is the column at that place
 pub record HeldColumn (n : ℕ) (stack : List ℕ) (place r : ℕ) : Type 0 where
   pub is : r ≡ getD stack (place - 1) 0
   pub column : Column n r
 
--- no more pops than updates held
+-- the step pops no more updates than are held
 pub record PopsHeld (n : ℕ) (starts rows stack : List ℕ) (held : Held) (pops : ℕ) : Type 0 where
   pub tested : Tested n starts rows
   pub kept : Kept n starts rows stack held
   pub enough : pops ≤ held .count
 
--- the front of a column over the updates held, of which it pops so many
+-- a column's front over the updates held, of which the step pops so many
 pub record FrontOver (n : ℕ) (starts rows stack : List ℕ) (held : Held) (pops c : ℕ) : Type 0 where
   pub tested : Tested n starts rows
   pub kept : Kept n starts rows stack held

@@ -1,4 +1,4 @@
--- The sibling keys of the three marks, and the pass that stores those of a column's children.
+-- Proves the sibling key of each of the three marks, and the pass that stores the keys of a column's children.
 -- Assumes nothing.
 use Prim.Native.Nat.{ℕ, zero, suc, _+_, _-_, _<_, _≤_}
 use mathlib.Core.Path.{_≡_, refl, sym, ap, _∙_}
@@ -36,7 +36,7 @@ key-two (suc (suc m)) above rows w a b = refl
 pub same-key : (mark : ℕ) {v a b r s x y : ℕ} → v ≡ siblingKey mark a r x → a ≡ b → r ≡ s → x ≡ y → v ≡ siblingKey mark b s y
 same-key mark e p q h = cc
 
--- the W of a kid and its key have their places in work
+-- work has the places of a child's W and key
 pub record Places (w k kid : ℕ) (work : List ℕ) : Type 0 where
   pub own : w + kid < k
   pub key : k + kid < length work
@@ -55,7 +55,7 @@ module _ {k : ℕ} {key : ℕ → ℕ} {kids before after : List ℕ} {i : ℕ} 
   pub keying-stop : length kids ≤ i → Keyed k key kids before after
   keying-stop h = let e : take i kids ≡ kids = take-all i kids h in record { same = inv .same; keys = rw e at (inv .keys) }
 
-  -- what lies before the keys is read as it was
+  -- the places before the keys are read as they were
   pub keying-reads : (w c : ℕ) → w ≤ k → w + c < k → getD after (w + c) 0 ≡ getD (part w k before) c 0
   keying-reads w c h b =
       sym (getD-take k after (w + c) 0 b)

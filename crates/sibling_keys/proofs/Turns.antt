@@ -1,4 +1,4 @@
--- The W of a column from those of its children: the pass goes on from the first i children to one more.
+-- Proves the steps of the pass that finds a column's W: it goes from the first i children to one child more.
 -- Assumes nothing.
 use Prim.Native.Nat.{ℕ, suc, _+_, _*_, _<_, _≤_, max}
 use mathlib.Core.Path.{_≡_, refl, ap}
@@ -34,7 +34,7 @@ module _ (factor rooms kids : List ℕ) (j : ℕ) where
   turned-start = record { so-far = refl; but-last = refl; updates = refl; light = omega arith; lighter = omega arith; seen = omega arith }
 
   module _ {most before held i : ℕ} (inv : Turned factor rooms kids most before held i) where
-    -- all done: then the front over the last update
+    -- all children are done: then the front is over the last update
     pub turned-stop : length kids ≤ i → {u r : ℕ} → u ≡ t (rowsIn factor j + 1) → r ≡ max most (before + u) → r ≡ needAt factor rooms kids j
     turned-stop h {u} {r} eu er =
         let all : take i kids ≡ kids = take-all i kids h in
@@ -53,7 +53,7 @@ module _ (factor rooms kids : List ℕ) (j : ℕ) where
       pub turned-known : getD kids i 0 < length rooms
       turned-known = pre .known (getD kids i 0) child
 
-      -- the room of a child above the updates before it is no greater than so many fronts
+      -- the room of a child above the earlier updates does not exceed so many largest fronts
       pub turned-light : held + getD rooms (getD kids i 0) 0 ≤ 2 * (maxColumns * mostEntries)
       turned-light = omega (arith, inv .light, pre .few, pre .light (getD kids i 0) child)
 

@@ -1,4 +1,4 @@
--- A column and its children: the children's keys, and the column's W from theirs.
+-- Defines a column and its children as slices hold them: the keys of the children, and the column's W that the children's W give.
 -- Assumes nothing.
 use Prim.Native.Nat.{ℕ, suc, _+_, _-_, _*_, _<_, _≤_, max}
 use mathlib.Core.Path.{_≡_}
@@ -12,16 +12,16 @@ use Rattle.order_laws.specs.Subtrees.{inTurn, butLast}
 use Rattle.list_laws.specs.Parts.{part}
 use Rattle.room.specs.Rows.{rowsIn, Column, mostEntries}
 
--- the key of child c of column j, where rooms has the W of each column
+-- the key of child c of column j, where rooms holds the W of each column
 abbrev pub keyAt : ℕ → List ℕ → List ℕ → ℕ → ℕ → ℕ
 keyAt mark factor rooms j c = siblingKey mark (rowsIn factor j) (rowsIn factor c) (getD rooms c 0)
 
--- the W of column j from those of its children, done in this order: each above the updates of the earlier ones; then the front over the last
--- one's update
+-- computes the W of column j from its children's, done in this order: each is above the updates of the earlier ones, and the front is over
+-- the update of the last
 abbrev pub needAt : List ℕ → List ℕ → List ℕ → ℕ → ℕ
 needAt factor rooms kids j = max (inTurn (rowsIn factor) (λ c. getD rooms c 0) 0 kids) (butLast (rowsIn factor) kids + t (suc (rowsIn factor j)))
 
--- column j and its children, whose W are known and no greater than so many fronts
+-- column j and its children, whose W rooms holds; no W exceeds so many largest fronts
 pub record Kids (factor rooms kids : List ℕ) (j : ℕ) : Type 0 where
   pub top : Column factor j
   pub column : (c : ℕ) → c ∈ kids → Column factor c
@@ -29,13 +29,13 @@ pub record Kids (factor rooms kids : List ℕ) (j : ℕ) : Type 0 where
   pub light : (c : ℕ) → c ∈ kids → getD rooms c 0 ≤ maxColumns * mostEntries
   pub few : length kids ≤ maxColumns
 
--- the same where the W stand in work from w to k, and room for the keys behind them
+-- the same if work holds the W from w to k, and has room for the keys behind them
 pub record Keyable (factor kids : List ℕ) (j : ℕ) (work : List ℕ) (w k : ℕ) : Type 0 where
   pub children : Kids factor (part w k work) kids j
   pub rise : w ≤ k
   pub room : k + (k - w) ≤ length work
 
--- keys of the kids are stored from k on, and what lies before is as it was
+-- the keys of the children are stored from k on, and the places before k keep their numbers
 pub record Keyed (k : ℕ) (key : ℕ → ℕ) (kids before after : List ℕ) : Type 0 where
   pub same : take k after ≡ take k before
   pub keys : (c : ℕ) → c ∈ kids → getD after (k + c) 0 ≡ key c

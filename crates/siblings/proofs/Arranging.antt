@@ -1,5 +1,5 @@
--- The pass over the columns: the lists of the columns before j stand by the mark and their W are known, the other lists are as they were. So
--- the children of j can be arranged.
+-- Proves the steps of the pass over the columns: the lists of the columns before j are sorted by the mark and their W are stored, and the other lists
+-- are as they were. So the children of j can be arranged.
 -- Assumes nothing.
 use Prim.Native.Nat.{ℕ, zero, suc, _+_, _<_, _≤_}
 use mathlib.Core.Path.{_≡_, refl, sym, ap, _∙_}
@@ -39,7 +39,7 @@ module _ {mark : ℕ} {factor list₀ work₀ : List ℕ} {scratch₀ w k : ℕ}
   abbrev kids : ℕ → List ℕ
   kids = kidsAt starts list₀
 
-  -- mark 0: nothing is to be done
+  -- mark 0 leaves all lists as they are
   pub none-arranged : mark ≡ 0 → AllArranged mark factor list₀ work₀ list₀ work₀ w
   none-arranged e = record { lists = λ j l u. rw e (sym (arranged-zero (rowsIn factor) kids _ j)); roots = refl; same = refl }
 
@@ -101,7 +101,7 @@ module _ {mark : ℕ} {factor list₀ work₀ : List ℕ} {scratch₀ w k : ℕ}
       pub known : (c : ℕ) → c ∈ kids j → getD (part w k work) c 0 ≡ aloneIn mark factor kids n c
       known c m = let (l, u) = lower c m in inv .rooms c l u
 
-      -- what is asked for column j
+      -- what arranging column j requires
       pub arranging-placed : Placed factor list work scratch j w k
       arranging-placed = record {
         kids = rw here (record {

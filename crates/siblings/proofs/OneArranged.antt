@@ -1,4 +1,5 @@
--- One column more is arranged. Its list lies apart from all others, so they are as they were; its W is found from its children's, which are known.
+-- Proves that arranging one column more changes no other list, since its list is apart from all others; its W comes from those of its children, which
+-- are stored.
 -- Assumes nothing.
 use Prim.Native.Nat.{ℕ, _+_, _-_, _<_, _≤_}
 use mathlib.Core.Path.{_≡_, _∙_}
@@ -38,7 +39,7 @@ module _ {mark : ℕ} {factor list₀ work₀ list work : List ℕ} {scratch₀ 
     abbrev e : ℕ
     e = getD work₀ (j + 1) 0
 
-    -- its own list
+    -- the list of the column itself
     sorted : sortedIn mark factor list work j w k ≡ arrangedIn mark factor kids n j
     sorted = rw (here pre inv more) (sorted-arranged (pre .family) (part w k work) j (inv .low) more (known pre inv more))
 

@@ -1,4 +1,5 @@
--- One column: the keys are stored behind the W, the children are sorted by them in their place, and the W of the column goes to its own.
+-- Proves what arranging one column stores: the keys go behind the W, the children are sorted by them in their place, and the column's W goes to its
+-- own place.
 -- Assumes nothing.
 use Prim.Native.Nat.{ℕ, _+_, _-_}
 use mathlib.Core.Path.{_≡_, sym, ap, _∙_}
@@ -16,7 +17,7 @@ use Rattle.sibling_keys.specs.Kids.{keyAt, needAt, Kids, Keyed}
 use Rattle.siblings.specs.Arranged.{Sortable, sortedBy, Sorted, siblingsAt, Placed, Arranged}
 use Rattle.tree.proofs.Parts.{back-sets}
 
--- children in another order are the same children
+-- another order has the same children
 kids-sorted : (key : ℕ → ℕ) {factor rooms kids : List ℕ} {j : ℕ} → Kids factor rooms kids j → Kids factor rooms (sort key kids) j
 kids-sorted key {factor} {rooms} {kids} pre = record {
   top = pre .top;
@@ -34,7 +35,7 @@ module _ (mark : ℕ) {factor kids work work₁ ys : List ℕ} {scratch j w k : 
     rooms-same : part w k work₁ ≡ part w k work
     rooms-same = part-same w k work₁ work (keyed .same)
 
-    -- the keys as the sort reads them
+    -- the keys that the sort reads
     read : (c : ℕ) → c ∈ kids → keyIn (part k (length work₁) work₁) c ≡ keyAt mark factor (part w k work) j c
     read c m =
         part-at k (length work₁) work₁ c (omega (arith, pre .children .known c m, length-take (k - w) (drop w work), pre .room, pre .own))

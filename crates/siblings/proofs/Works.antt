@@ -1,4 +1,4 @@
--- The W of a column and its children by the mark, where the W of the children are known: by them they are sorted, and from theirs is its own.
+-- Proves that the stored W of the children decide both their order by the mark and the column's own W.
 -- Assumes nothing.
 use Prim.Native.Nat.{ℕ, suc, _+_, _*_, _<_, _≤_}
 use mathlib.Core.Path.{_≡_, refl, sym, ap, _∙_}
@@ -30,7 +30,7 @@ in-turn-same size need other h (c ∷ cs) e =
     rw (e c (List·Memᴰ·head refl), in-turn-same size need other (h + t (size c)) cs (λ d m. e d (List·Memᴰ·tail m)))
 
 module _ {mark : ℕ} {factor : List ℕ} {kids : ℕ → List ℕ} {n : ℕ} (family : Family mark factor kids n) where
-  -- W is no greater than n fronts
+  -- W does not exceed n largest fronts
   pub alone-light : (j : ℕ) → 0 < j → j ≤ n → aloneIn mark factor kids n j ≤ maxColumns * mostEntries
   unfolding alone peakOf
   alone-light j l u =
@@ -45,12 +45,12 @@ module _ {mark : ℕ} {factor : List ℕ} {kids : ℕ → List ℕ} {n : ℕ} (f
       )
 
   module _ (rooms : List ℕ) (j : ℕ) (low : 0 < j) (high : j ≤ n) (known : (c : ℕ) → c ∈ kids j → getD rooms c 0 ≡ aloneIn mark factor kids n c) where
-    -- the children sorted by the keys are the children by the mark
+    -- sorting the children by the keys gives their order by the mark
     pub sorted-arranged : sort (keyAt mark factor rooms j) (kids j) ≡ arrangedIn mark factor kids n j
     unfolding arranged
     sorted-arranged = sort-same _ _ (kids j) (λ c m. ap (siblingKey mark (rowsIn factor j) (rowsIn factor c)) (known c m))
 
-    -- the W found from the children's is that of the column
+    -- the W computed from the children's is that of the column
     pub need-alone : needAt factor rooms (arrangedIn mark factor kids n j) j ≡ aloneIn mark factor kids n j
     unfolding alone arranged
     need-alone =

@@ -1,4 +1,4 @@
--- Lists of children arranged by the mark, each in its place: what the passes over them are given and leave.
+-- Defines lists of children that are arranged by the mark, each in its place: what the passes over them are given, and what they leave.
 -- Assumes nothing.
 use Prim.Native.Nat.{ℕ, _+_, _-_, _<_, _≤_}
 use mathlib.Core.Path.{_≡_}
@@ -14,7 +14,7 @@ use Rattle.tree.specs.Blocks.{kidsAt}
 use Rattle.room.specs.Rows.{rowsIn, Column}
 use Rattle.sibling_keys.specs.Kids.{keyAt, needAt, Kids}
 
--- ---- the children of one column: the W of the columns stand in work from w to k, and the keys have room behind
+-- ---- the children of one column: work holds the W of the columns from w to k, and has room for the keys behind them
 
 pub record Sortable (factor kids work : List ℕ) (scratch j w k : ℕ) : Type 0 where
   pub children : Kids factor (part w k work) kids j
@@ -26,15 +26,15 @@ pub record Sortable (factor kids work : List ℕ) (scratch j w k : ℕ) : Type 0
 abbrev pub sortedBy : ℕ → List ℕ → List ℕ → List ℕ → ℕ → ℕ → ℕ → List ℕ
 sortedBy mark factor kids work j w k = sort (keyAt mark factor (part w k work) j) kids
 
--- they are sorted, and the W of j stands in its place; what lies before the W is as it was
+-- the children are sorted, and the W of j is stored in its place; the places before the W keep their numbers
 pub record Sorted (mark : ℕ) (factor kids work kids′ work′ : List ℕ) (j w k : ℕ) : Type 0 where
   pub sorted : kids′ ≡ sortedBy mark factor kids work j w k
   pub rooms : part w k work′ ≡ set (part w k work) j (needAt factor (part w k work) (sortedBy mark factor kids work j w k) j)
   pub same : take w work′ ≡ take w work
 
--- ---- one column: its list of children lies where the first numbers of work say
+-- ---- one column: the first numbers of work say where its list of children begins and ends
 
--- the children of j as they lie
+-- the children of j in the order in which the list holds them
 abbrev pub siblingsAt : List ℕ → List ℕ → ℕ → List ℕ
 siblingsAt work list j = part (getD work j 0) (getD work (j + 1) 0) list
 
@@ -47,11 +47,11 @@ pub record Placed (factor list work : List ℕ) (scratch j w k : ℕ) : Type 0 w
   pub room : k + (k - w) ≤ length work
   pub enough : length list ≤ scratch
 
--- the children of j as they lie, by descending key
+-- these children, sorted by descending key
 abbrev pub sortedIn : ℕ → List ℕ → List ℕ → List ℕ → ℕ → ℕ → ℕ → List ℕ
 sortedIn mark factor list work j w k = sortedBy mark factor (siblingsAt work list j) work j w k
 
--- they stand in their place, and the W of j in its own; what lies before the W is as it was
+-- they are stored in their place, and the W of j in its own; the places before the W keep their numbers
 pub record Arranged (mark : ℕ) (factor list work list′ work′ : List ℕ) (j w k : ℕ) : Type 0 where
   pub lists : list′ ≡ sets list (getD work j 0) (sortedIn mark factor list work j w k)
   pub rooms : part w k work′ ≡ set (part w k work) j (needAt factor (part w k work) (sortedIn mark factor list work j w k) j)
@@ -59,7 +59,7 @@ pub record Arranged (mark : ℕ) (factor list work list′ work′ : List ℕ) (
 
 -- ---- all columns 1 to n
 
--- lists of children: lower columns, which have rows; no subtree has more than n steps
+-- lists of children: children are lower columns and have rows; no subtree has more than n steps
 pub record Family (mark : ℕ) (factor : List ℕ) (kids : ℕ → List ℕ) (n : ℕ) : Type 0 where
   pub kin : Kin (rowsIn factor) kids
   pub column : (j : ℕ) → 0 < j → j ≤ n → Column factor j
@@ -88,7 +88,7 @@ pub record Arrangeable (mark : ℕ) (factor list work : List ℕ) (scratch w k :
   pub room : k + (length list + 1) ≤ length work
   pub enough : length list ≤ scratch
 
--- every list but that of the roots stands by the mark; what lies before the W is as it was
+-- every list but that of the roots is sorted by the mark; the places before the W keep their numbers
 pub record AllArranged (mark : ℕ) (factor list work list′ work′ : List ℕ) (w : ℕ) : Type 0 where
   pub lists : (j : ℕ) → 0 < j → j ≤ length list
       → kidsAt (startsIn list work) list′ j ≡ arrangedIn mark factor (kidsAt (startsIn list work) list) (length list) j

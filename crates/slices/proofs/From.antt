@@ -1,4 +1,4 @@
--- Clearing the part from a place on leaves what stands before it; so a result stored at the front of a slice is then followed by zeros.
+-- Proves that clearing the places from one on keeps those before it; so a result at the front of a slice is then followed by zeros.
 -- Assumes nothing.
 use Prim.Native.Nat.{ℕ, _+_, _-_, _≤_}
 use mathlib.Core.Path.{_≡_}
@@ -9,7 +9,7 @@ use lib.Seq.{sets, sets-eq, take-at, drop-at}
 use Rattle.papers.specs.Lists.{zeros, thenZeros}
 use Rattle.slices.specs.From.{zerosFrom}
 
--- the part of so many places from k on, cleared, with nothing behind it
+-- clears the part of so many places from k on, which ends the slice
 pub cleared-from : (k : ℕ) (l : List ℕ) {rest : List ℕ} → k ≤ length l → rest ≡ zeros (take (length l - k) (drop k l))
     → take k l ++ (rest ++ drop (length l - k) (drop k l)) ≡ zerosFrom k l
 unfolding zerosFrom
@@ -18,7 +18,7 @@ cleared-from k l {rest} h z =
     let many : length (take (length l - k) (drop k l)) ≡ length (drop k l) = omega (arith, length-take (length l - k) (drop k l), length-drop k l) in
     rw (last, append-nil rest, z, many)
 
--- a result of k numbers at the front
+-- once the places behind it are cleared, a result of k numbers at the front is followed by zeros
 pub stored-from : {k : ℕ} (xs l : List ℕ) → length xs ≡ k → k ≤ length l → zerosFrom k (sets l 0 xs) ≡ thenZeros xs l
 unfolding zerosFrom thenZeros
 stored-from {k} xs l e h =

@@ -1,4 +1,4 @@
--- A list that is zeroed from the front: the invariant of each clearing loop, at every width. Where all places are passed, all is zero.
+-- Proves the steps of each clearing loop, at every width: the places passed are zero, so after the last place the whole list is zero.
 -- Assumes nothing.
 use Prim.Native.Nat.{ℕ, _+_, _<_, _≤_}
 use mathlib.Core.Path.{_≡_, refl, ap, _∙_}
@@ -8,7 +8,7 @@ use lib.ListN.{length, set, drop, replicate, length-set, drop-of-length-le}
 use borrow.Author.Fill.{fill-more}
 use Rattle.papers.specs.Lists.{zeros}
 
--- of s₀, the first i places are zero in s
+-- the first i places are zero in s, and the others are as in s₀
 pub record Zeroed (s₀ s : List ℕ) (i : ℕ) : Type 0 where
   pub front : s ≡ replicate i 0 ++ drop i s₀
   pub passed : i ≤ length s₀

@@ -1,5 +1,5 @@
--- The number that is answered for each way out: 27 for a key that does not read through, 26 for one over the sizes, else that of the check's answer,
--- whose number and place together fit 64 bits.
+-- Proves the number answered for each way out: 27 for a key that does not read through, 26 for one over the sizes, else the check's answer, whose
+-- number and place together fit 64 bits.
 -- Assumes nothing.
 use Prim.Native.Nat.{ℕ, _+_, _*_, _^_, _<_}
 use mathlib.Core.Path.{_≡_, sym, ap}
@@ -15,7 +15,7 @@ use Rattle.refusal_laws.proofs.Called.{call-unreadable, call-over, call-bounded
 use Rattle.read_key.specs.Keys.{KeyParts}
 
 module _ (key plan : List ℕ) where
-  -- the number that is answered, by the answer
+  -- the number that the call answers
   called-by : {a : Answer} → solverAnswer (record { key = key; plan = plan }) ≡ a → a .number * 2 ^ 32 + a .place ≡ called key plan
   unfolding called
   called-by e = ap (λ (a : Answer). a .number * 2 ^ 32 + a .place) (sym e)

@@ -1,5 +1,5 @@
--- The lists of a key are read twice: once through, which tells that they are there and how many rows they have, and once into the buffers, whose
--- first parts then are the job's two lists. So the check is that of the job whose key it is.
+-- Proves that the check is made for the job of the key. The key's lists are read twice: the first reading counts their rows, and the second fills the
+-- buffers, whose fronts are then the job's two lists.
 -- Assumes nothing.
 use Prim.Native.Nat.{ℕ, _+_, _≤_}
 use mathlib.Core.Path.{_≡_, sym, subst, _∙_}
@@ -24,7 +24,7 @@ use Rattle.read_fields.specs.declared.Reading.{Reading}
 use Rattle.read_plan.specs.Plans.{ListsIn}
 use Rattle.read_key.specs.Keys.{KeyParts}
 
--- a part that is there is kept
+-- a part that fits is kept
 kept-there : {A : Type 0} {f : A → ℕ} {Kept : A → Type 0} {found : Read A} {r : Reading} {a : A} {next : ℕ} → Told f Kept found r → found ≡ got a next
     → Kept a
 kept-there {Kept = Kept} (finds b m e g k) h = subst Kept (got-inj (sym e ∙ h) .0) k
@@ -48,7 +48,7 @@ module _ {key : List ℕ} {head : JobHead} {count at : ℕ} (parts : KeyParts ke
       rw (kept-there told (parts .stand) .listed, c) (front-stored (replicate programRows 0) (flat (parts .lists))
       (rw length-replicate (omega arith)))
 
-  -- the answer of the check is that of the call
+  -- the check's answer is the call's
   pub key-answer : (plan : List ℕ) {a : Answer} → a ≡ checked (jobOf head (take (head .n + 1) starts) (take count rows)) plan buffers .answer
       → a ≡ solverAnswer (record { key = key; plan = plan })
   key-answer plan e =

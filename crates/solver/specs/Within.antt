@@ -1,4 +1,4 @@
--- What the check for a key's job stands on.
+-- Defines what the check for a key's job requires.
 -- Assumes nothing.
 use Prim.Native.Nat.{ℕ, _≤_}
 use mathlib.Core.List.{List}

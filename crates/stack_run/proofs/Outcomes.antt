@@ -1,4 +1,5 @@
--- The outcome of a run for each way out: a test before the steps refuses and leaves the stack slice as it was, or they all pass and the steps decide.
+-- Proves the outcome of a run for each way out: a test before the steps refuses and leaves the stack slice as it was, or all pass and the steps
+-- decide.
 -- Assumes nothing.
 use Prim.Native.Nat.{ℕ, _<_, _≤_}
 use mathlib.Core.Path.{_≡_, refl, sym, ap, _∙_}
@@ -22,19 +23,19 @@ use Rattle.run_steps.specs.Ready.{StepsAsked}
 use Rattle.run_steps.specs.Steps.{stepsAnswer}
 use Rattle.run_steps.proofs.Answers.{from-steps}
 
--- a test that leaves what stood there refuses with its answer, unless the number is 0
+-- a test that leaves the slice as it was refuses with its answer, unless the number is 0
 early-refuses : (v : Verdict) → Early v → {r : Answer} → r ≡ answerOf v → r .number ≢ 0 → v ≡ refused r untouched
 unfolding answerOf
 early-refuses passed h e n = absurd (n (ap (λ (a : Answer). a .number) e))
 early-refuses (refused a l) h e n = let leaves = h .0 in rw (leaves, e)
 
--- the outcome is by the first test that refuses
+-- the first test that refuses gives the outcome
 by-first : (ts us : List (RunCall → Verdict)) (call : RunCall) (lent : List ℕ) → first ts call ≡ first us call
     → outcome ts runDone zeros call lent ≡ outcome us runDone zeros call lent
 unfolding outcome
 by-first ts us call lent e = rw (e, outcome)
 
--- ---- 7: columns, pops or stack slice shorter than n
+-- ---- 7: one of the columns, the pops and the stack slice has fewer than n places
 
 abbrev pub anyShort : ℕ → List ℕ → List ℕ → List ℕ → Bool
 anyShort n columns pops stack = ltb (length columns) n || ltb (length pops) n || ltb (length stack) n
@@ -50,7 +51,7 @@ module _ (n : ℕ) (columns pops stack : List ℕ) where
     pub stack-short : n ≤ length pops → ltb (length stack) n ≡ anyShort n columns pops stack
     stack-short h = rw (le-ltb (length columns) n a, le-ltb (length pops) n h)
 
-  -- none is
+  -- none of them has fewer
   record AllLong : Type 0 where
     columns-long : n ≤ length columns
     pops-long : n ≤ length pops
@@ -139,7 +140,7 @@ module _ (call : RunCall) where
                   let long = all-long n (call .columns) (call .pops) (call .stack) d h in
                   record { tested = tested; columns-long = long .columns-long; pops-long = long .pops-long; stack-long = long .stack-long }
 
-              -- and decide
+              -- the steps decide
               pub run-steps : b ≡ false → {a : Answer} {after : List ℕ} → a ≡ stepsAnswer call → after ≡ zeros (call .stack)
                   → _≡_ {A = Outcome (List ℕ)} (record { answer = a; lent = after }) (ran call)
               unfolding ran runLengthsTest

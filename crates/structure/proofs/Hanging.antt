@@ -1,4 +1,4 @@
--- What hanging a column under its parent does to the chains of children: it becomes the first of that parent's, and the others stay.
+-- Proves what hanging a column under its parent changes: the column becomes the first child of that parent, and all other chains stay.
 -- Assumes nothing.
 use Prim.Native.Nat.{ℕ, zero, suc, _+_, _<_, _≤_}
 use mathlib.Core.Path.{_≡_, refl, sym, _∙_}
@@ -32,7 +32,7 @@ unfolding hanging
 length-hanging n zero c w = refl
 length-hanging n (suc p) c w = length-set (set w (n + c) (getD w (suc p) 0)) (suc p) c ∙ length-set w (n + c) (getD w (suc p) 0)
 
--- a place that is neither the parent's nor the column's link keeps its number
+-- every place but the parent's and the column's links keeps its number
 pub hanging-else : (n p c : ℕ) (w : List ℕ) (x : ℕ) → x ≢ p → x ≢ n + c → getD (hanging n p c w) x 0 ≡ getD w x 0
 unfolding hanging
 hanging-else n zero c w x h g = refl
@@ -52,11 +52,11 @@ module _ (n p c : ℕ) (w : List ℕ) (first : 1 ≤ p) (parent : p ≤ n) (colu
 -- ---- the children of each column
 
 module _ (A : Pattern) where
-  -- the children of each column up to n, of the columns up to m, are linked
+  -- links list the children of each column up to n, among the columns up to m
   abbrev pub Chains : ℕ → ℕ → List ℕ → Type 0
   Chains n m w = (j : ℕ) → 1 ≤ j → j ≤ n → Chain w n (getD w j 0) (hung A m j)
 
-  -- one column more is hung
+  -- hangs one column more
   pub hanging-chains : (n m : ℕ) (w : List ℕ) → m < n → n + n < length w → parent A (suc m) ≤ n → Chains n m w
       → Chains n (suc m) (hanging n (parent A (suc m)) (suc m) w)
   hanging-chains n m w mn long pn ch j l u = go (compare j p)

@@ -1,4 +1,5 @@
--- The loop over the columns: after m of them the slices hold their parents, starts and lists, and the next can be gathered and stored.
+-- Proves the steps of the loop over the columns: after m columns the slices hold their parents, starts and lists, so the next list can be gathered
+-- and stored.
 -- Assumes nothing.
 use Prim.Native.Nat.{ℕ, suc, _+_, _-_, _<_, _≤_}
 use mathlib.Core.Path.{_≡_, refl, sym, ap, _∙_}
@@ -26,7 +27,7 @@ use Rattle.column_list.specs.Stored.{rowsTo, Stored, Gatherable, Gathers, Buffe
 use Rattle.structure.specs.Listed.{Storable, Stores, Listable, Listed}
 use Rattle.structure.proofs.Storing.{parent-is, stored-none, lacks, storable, stored-on}
 
--- m columns are done; s₀ has 0 as its first start
+-- m columns are done, and the first start in s₀ is 0
 pub record Running (n : ℕ) (starts rows p₀ s₀ f₀ w₀ x₀ y₀ p s f w x y : List ℕ) (m : ℕ) : Type 0 where
   pub tested : Tested n starts rows
   pub most : m ≤ n
@@ -102,7 +103,7 @@ module _ {n m : ℕ} {starts rows p₀ s₀ f₀ w₀ x₀ y₀ p s f w x y : Li
         rows-are = r .rows-are;
       }
 
-  -- there is no room for the next list
+  -- the next list does not fit
   pub run-short : {s₁ w₁ x₁ y₁ : List ℕ} {turn len : ℕ} → s₀ ≡ set s₁ 0 0 → m < n → Gathers n m A w w₁ x₁ y₁ turn len
       → length f - getD s m 0 < len → Listed n m A p₀ s₁ f₀ p s f
   run-short e l g h = listed e (λ k. lacks good (r .stored) l (R A (m + 1)) refl (rw (← g .holds .count) h))

@@ -1,4 +1,4 @@
--- One column more is stored, from none on: its list behind the others, its end, and its place among its parent's children.
+-- Proves that storing one column more keeps the state: its list goes behind the others, its end is written, and it joins the children of its parent.
 -- Assumes nothing.
 use Prim.Native.Nat.{ℕ, suc, _+_, _-_, _<_, _≤_}
 use mathlib.Core.Path.{_≡_, refl, ap, _∙_}
@@ -68,11 +68,11 @@ module _ {n m : ℕ} {A : Pattern} {fs fr w : List ℕ} (good : Below n A) (st :
   ends : getD fs m 0 + length list ≡ length (rowsTo A (suc m))
   ends = omega (arith, st .starts-are m (omega arith), length-more (R A) m, ap length (rw add-one at is))
 
-  -- there is no room for the list
+  -- the list does not fit
   pub lacks : length fr - getD fs m 0 < length list → length fr < length (rowsTo A (suc m))
   lacks h = omega (arith, ends)
 
-  -- there is
+  -- the list fits
   module _ (h : length list ≤ length fr - getD fs m 0) where
     fits : getD fs m 0 + length list ≤ length fr
     fits = omega (arith, st .starts-are m (omega arith), st .rows-fit)
@@ -80,7 +80,7 @@ module _ {n m : ℕ} {A : Pattern} {fs fr w : List ℕ} (good : Below n A) (st :
     head-is : head0 list ≡ parent A (suc m)
     head-is = rw (is, add-one) (parent-is A (suc m))
 
-    -- the work after gathering
+    -- work after the list was gathered
     module _ (w₁ : List ℕ) (c : Changed n (m + 1) w w₁) (lw : length w₁ ≡ length w) where
       pub storable : (p : List ℕ) → n ≤ length p → Storable n m list p fs fr w₁
       storable p lp =
@@ -93,7 +93,7 @@ module _ {n m : ℕ} {A : Pattern} {fs fr w : List ℕ} (good : Below n A) (st :
             work-long = omega (arith, st .work-long);
           }
 
-      -- marks leave the chains
+      -- marks change no chain
       chains : Chains A n m w₁
       chains j a b =
           rw (c .links j (omega arith))
@@ -102,7 +102,7 @@ module _ {n m : ℕ} {A : Pattern} {fs fr w : List ℕ} (good : Below n A) (st :
       fresh : Fresh n (suc m) w₁
       fresh p l = ⊎-elim (λ (e : getD w₁ p 0 ≡ getD w p 0). omega (arith, st .fresh p l)) (λ (e : getD w₁ p 0 ≡ m + 1). omega arith) (c .marks p l)
 
-      -- one column more is stored
+      -- stores one column more
       pub stored-on : {p p′ fs′ fr′ w₂ : List ℕ} → Stores n m list p fs fr w₁ p′ fs′ fr′ w₂ → Stored n (suc m) A fs′ fr′ w₂
       stored-on {p} {p′} {fs′} {fr′} {w₂} s =
           record {

@@ -1,5 +1,5 @@
--- Line 1 number by number: behind those read, one more in front of a space leaves the rest of the line to say what it is; in front of a newline two
--- or three numbers are a head, any other count is none.
+-- Proves how line 1 is read number by number: after a space the rest of the line decides; at a newline two or three numbers are a head, and any other
+-- count is none.
 -- Assumes nothing.
 use Prim.Native.Nat.{ℕ}
 use mathlib.Core.Path.{_≡_, refl, ap, _∙_}
@@ -22,7 +22,7 @@ unfolding behind headOf
 head-bad e = bad-head refl (rw e)
 
 module _ {text : List ℕ} {at x next : ℕ} (n : Number text at newline x next) where
-  -- n alone is too little
+  -- n alone is too few
   pub head-one : HeadTold text [] at Bad
   unfolding behind headOf
   head-one = bad-head refl (rw (last-numbers n))
@@ -38,7 +38,7 @@ module _ {text : List ℕ} {at x next : ℕ} (n : Number text at newline x next)
   head-three columns limit = head-line columns limit x next refl (rw (last-numbers n)) (line-ends n)
 
 module _ {text : List ℕ} {at x next : ℕ} (n : Number text at space x next) where
-  -- more than three are too many
+  -- more than three numbers are too many
   pub head-four : (columns limit : ℕ) → HeadTold text (columns ∷ limit ∷ []) at Bad
   unfolding behind headOf
   head-four columns limit = bad-head refl (rw (more-numbers n) (none (numbersAt (drop next text) 1)))
@@ -47,7 +47,7 @@ module _ {text : List ℕ} {at x next : ℕ} (n : Number text at space x next) w
       none [] = refl
       none (y ∷ ys) = refl
 
-  -- the rest of the line says what it is
+  -- the rest of the line decides
   further : (read : List ℕ) → behind read (numbersAt (drop at text) 1) ≡ behind (read ++ (x ∷ [])) (numbersAt (drop next text) 1)
   further read = ap (behind read) (more-numbers n) ∙ behind-more read (x ∷ []) (numbersAt (drop next text) 1)
 

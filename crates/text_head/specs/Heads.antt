@@ -1,4 +1,4 @@
--- What is read of line 1.
+-- Defines what is read of line 1.
 -- Assumes nothing.
 use Prim.Native.Nat.{ℕ}
 use mathlib.Core.Path.{_≡_}
@@ -11,7 +11,7 @@ use Rattle.text_words.specs.Words.{LineTo}
 use Rattle.text_head.specs.declared.Head.{Head}
 use Rattle.text_head.specs.declared.Head.the-variants.{Numbers, Bad}
 
--- the rest of line 1 at `at`, behind the numbers read before it
+-- what the rest of line 1 at `at` tells, after the numbers read before it
 pub data HeadTold (text : List ℕ) (read : List ℕ) (at : ℕ) (r : Head) : Type 0 where
   head-line : (n limit mark next : ℕ) → r ≡ Numbers (record { n = n; mark = mark; limit = limit }) next
       → headOf (behind read (numbersAt (drop at text) 1)) ≡ record { fine = true; n = n; limit = limit; mark = mark } → LineTo text at next

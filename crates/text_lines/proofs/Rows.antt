@@ -1,5 +1,5 @@
--- Rows read one by one to the end of the line: those read, and behind them the rest of the line, are the line's numbers. Each takes a byte at least,
--- so their count stays within the place.
+-- Proves how rows are read one by one to the end of the line: those read, then the rest of the line, are the line's numbers. Each takes at least a
+-- byte, so their count is no greater than the place.
 -- Assumes nothing.
 use Prim.Native.Nat.{ℕ, _+_, _<_, _≤_}
 use mathlib.Core.Path.{_≡_, refl, sym, ap, _∙_}
@@ -20,7 +20,7 @@ use Rattle.text_lines.specs.declared.Line.{Line}
 use Rattle.text_lines.specs.declared.Line.the-variants.{Rows, Bad}
 use Rattle.text_lines.specs.Lines.{RowsTold, all-rows, no-rows, LineTold, row-line, bad-line}
 
--- the numbers read so far, `count` of them up to k, kept from place t on
+-- `count` numbers are read so far, up to k, and kept from place t on
 pub record RowsRead (text : List ℕ) (at t : ℕ) (rows₀ rows : List ℕ) (k count : ℕ) : Type 0 where
   pub list : List ℕ
   pub whole : behind list (numbersAt (drop k text) 1) ≡ numbersAt (drop at text) 1
@@ -30,7 +30,7 @@ pub record RowsRead (text : List ℕ) (at t : ℕ) (rows₀ rows : List ℕ) (k 
   pub inside : k ≤ length text
   pub kept : rows ≡ sets rows₀ t (map narrowed list)
 
--- none yet
+-- no number is read yet
 pub rows-start : (text : List ℕ) (at t : ℕ) (rows : List ℕ) → at ≤ length text → RowsRead text at t rows rows at 0
 rows-start text at t rows h =
     record { list = []; whole = behind-none _; after = refl; counted = refl; paced = omega arith; inside = h; kept = refl }
@@ -58,7 +58,7 @@ module _ {text : List ℕ} {at t : ℕ} {rows₀ rows : List ℕ} {k count : ℕ
   one-counted : (v : ℕ) → length (x .list ++ (v ∷ [])) ≡ count + 1
   one-counted v = let c = x .counted in omega (arith, length-append (x .list) (v ∷ []))
 
-  -- one more, in front of a space
+  -- reads one more, before a space
   pub rows-turn : {v next : ℕ} {rows′ : List ℕ} → Number text k space v next → rows′ ≡ set rows (t + count) (narrowed v)
       → RowsRead text at t rows₀ rows′ next (count + 1)
   rows-turn {v} {next} n e =
@@ -74,7 +74,7 @@ module _ {text : List ℕ} {at t : ℕ} {rows₀ rows : List ℕ} {k count : ℕ
         kept = one-kept v e;
       }
 
-  -- the last one, in front of a newline
+  -- reads the last one, before a newline
   pub rows-last : {v next : ℕ} {rows′ : List ℕ} → Number text k newline v next → rows′ ≡ set rows (t + count) (narrowed v)
       → RowsTold text at t rows₀ rows′ (Rows (count + 1) next)
   unfolding behind
@@ -114,7 +114,7 @@ module _ {text : List ℕ} {at t : ℕ} {rows₀ : List ℕ} where
   unfolding isRowLine
   line-bad e = bad-line refl (rw e)
 
-  -- a count alone
+  -- the count is alone on the line
   module _ {said next : ℕ} (n : Number text at newline said next) where
     pub line-alone : said ≡ 0 → LineTold text at t rows₀ rows₀ (Rows 0 next)
     line-alone z = let o = n .on in row-line [] next refl (last-numbers n ∙ rw z) (line-ends n) (omega arith) refl
@@ -123,7 +123,7 @@ module _ {text : List ℕ} {at t : ℕ} {rows₀ : List ℕ} where
     unfolding isRowLine
     line-lacks h = bad-line refl (rw (last-numbers n) (ne-eqb said 0 h))
 
-  -- a count, and rows
+  -- rows follow the count
   module _ {said next : ℕ} (n : Number text at space said next) {rows : List ℕ} where
     pub line-no-rows : {r : Line} → RowsTold text next t rows₀ rows r → r ≡ Bad → LineTold text at t rows₀ rows Bad
     unfolding behind

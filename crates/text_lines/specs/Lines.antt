@@ -1,5 +1,5 @@
--- What is read of a line of rows, and what is kept of it. A store past the end of a slice stores nothing, so what is kept of rows is the same whether
--- or not all find room. Of a bad line nothing is said to be kept.
+-- Defines what is read of a line of rows, and what is kept of it, which does not depend on whether all rows fit: a store past the end of a slice
+-- stores nothing. For a bad line it promises nothing of what is kept.
 -- Assumes nothing.
 use Prim.Native.Nat.{ℕ, _+_, _<_, _≤_}
 use mathlib.Core.Path.{_≡_}
@@ -13,18 +13,18 @@ use Rattle.text_lines.specs.Narrowed.{narrowed}
 use Rattle.text_lines.specs.declared.Line.{Line}
 use Rattle.text_lines.specs.declared.Line.the-variants.{Rows, Bad}
 
--- rows to be read from a place inside the text, and kept from place t on, no further on than they are read
+-- rows are read from a place within the text, and kept from place t on, which is not behind that place
 pub record RowsAsked (text : List ℕ) (at t : ℕ) : Type 0 where
   pub inside : at ≤ length text
   pub behind : t ≤ at
 
--- the numbers from `at` to the end of the line, and each kept from place t on
+-- the numbers from `at` to the end of the line, kept from place t on; or no rows
 pub data RowsTold (text : List ℕ) (at t : ℕ) (rows₀ rows : List ℕ) (r : Line) : Type 0 where
   all-rows : (list : List ℕ) (next : ℕ) → r ≡ Rows (length list) next → numbersAt (drop at text) 1 ≡ list → 0 < length list → LineTo text at next
       → at + length list ≤ next → rows ≡ sets rows₀ t (map narrowed list) → RowsTold text at t rows₀ rows r
   no-rows : r ≡ Bad → numbersAt (drop at text) 1 ≡ [] → RowsTold text at t rows₀ rows r
 
--- the line of rows at `at`, and each kept from place t on
+-- the line of rows at `at`, its rows kept from place t on; or a bad line
 pub data LineTold (text : List ℕ) (at t : ℕ) (rows₀ rows : List ℕ) (r : Line) : Type 0 where
   row-line : (list : List ℕ) (next : ℕ) → r ≡ Rows (length list) next → numbersAt (drop at text) 1 ≡ length list ∷ list → LineTo text at next
       → at + length list ≤ next → rows ≡ sets rows₀ t (map narrowed list) → LineTold text at t rows₀ rows r

@@ -1,7 +1,7 @@
--- A row of a job text as it is kept.
+-- Defines the row that is kept for a row of a job text.
 -- Assumes nothing.
 use Prim.Native.Nat.{ℕ, _-_, _^_, min}
 
--- no greater than 32 bits hold
+-- the row, or the greatest number of 32 bits if the row exceeds it
 abbrev pub narrowed : ℕ → ℕ
 narrowed row = min row (2 ^ 32 - 1)

@@ -1,5 +1,5 @@
--- A whole text: its length, line 1, the lines of rows and the end, each tested once those before it pass. The job of a text that passes is what was
--- read.
+-- Proves the tests of a whole text: its length, line 1, the lines of rows and the end, each tested after those before it pass. The job of a text that
+-- passes is what was read.
 -- Assumes nothing.
 use Prim.Native.Nat.{ℕ, _<_, _≤_}
 use mathlib.Core.Path.{_≡_, refl, sym, ap, _∙_}

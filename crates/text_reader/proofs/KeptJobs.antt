@@ -1,5 +1,5 @@
--- A job that is not refused has no row that is narrowed, so what is kept of it is the job; and neither its analysis nor what is printed of it sees
--- the difference.
+-- Proves that a job that is not refused has no row that narrowing changes, so the kept job is the job; and that narrowing changes neither the
+-- analysis of a job nor what is printed of it.
 -- Assumes nothing.
 use Prim.Native.Nat.{ℕ, zero, suc, _≤_}
 use mathlib.Core.Path.{_≡_, refl, sym, ap, _∙_}
@@ -24,7 +24,7 @@ use Rattle.text_reader.proofs.Narrow.{kept-tests}
 
 -- ---- a job that passes
 
--- rows up to a bound that 32 bits hold are kept as they are
+-- rows that 32 bits hold are kept as they are
 small-kept : (bound : ℕ) (rs : List ℕ) → bound ≤ maxColumns → ((i : ℕ) → i ∈ rs → i ≤ bound) → map narrowed rs ≡ rs
 small-kept bound [] l h = refl
 small-kept bound (r ∷ rs) l h =
@@ -66,7 +66,7 @@ refused-analysed job lent e =
     let some = job-untouched job e .1 in
     outcome-untouched _ _ _ _ lent (job-refuses (λ (call : AnalysisCall). call .job) _ (record { job = job; lent = lent }) (rw e) (λ z. omega arith))
 
--- neither sees the difference
+-- narrowing changes neither
 pub kept-analysed : (job : Job) (lent : Lent) → analysed (keptJob job) lent ≡ analysed job lent
 kept-analysed job lent = go (first jobTests job) refl
   where

@@ -1,5 +1,5 @@
--- The lines of rows read one by one: each line is the next one's beginning, its rows stand behind those before it, and the starts with them. No line
--- so far has a fault, so the first that has one is the first of all.
+-- Proves the loop over the lines of rows: each line begins at the end of the one before, and its rows and start are stored behind theirs. No line so
+-- far has a fault, so the first fault found is the first of all.
 -- Assumes nothing.
 use Prim.Native.Nat.{ℕ, suc, _+_, _-_, _<_, _≤_}
 use mathlib.Core.Path.{_≡_, refl, sym, ap, _∙_}
@@ -40,7 +40,7 @@ pub record LinesRead (text : List ℕ) (n : ℕ) (starts₀ rows₀ starts rows 
   pub started : starts ≡ sets starts₀ 0 (startsFrom 0 (textLists text j))
   pub kept : rows ≡ sets rows₀ 0 (map narrowed (flat (textLists text j)))
 
--- none yet: the first start is stored
+-- no line is read yet: the first start is stored
 pub lines-start : (text : List ℕ) (n : ℕ) (starts rows : List ℕ) {at : ℕ} → LineTo text 0 at
     → LinesRead text n (set starts 0 0) rows (set starts 0 0) rows 0 0 at
 unfolding least flat startsFrom
@@ -73,13 +73,13 @@ module _ {text : List ℕ} {n : ℕ} {starts₀ rows₀ starts rows : List ℕ} 
   numbers-here : numbersAt text (suc (suc j)) ≡ numbersAt (drop k text) 1
   numbers-here = numbers-later text (suc j) ∙ ap (λ (t : List ℕ). numbersAt t 1) (sym (x .rest))
 
-  -- bad text in it
+  -- the line has bad text
   pub lines-bad : {starts′ rows′ : List ℕ} → n ≡ textHead text .n → j < n → isRowLine (numbersAt (drop k text) 1) ≡ false
       → LinesTold text starts₀ rows₀ starts′ rows′ (lines.Refused 25 (j + 2))
   lines-bad e l f =
       bad-lines 25 (j + 2) refl (lines-refuse text j 25 (x .fine) (omega arith) (line-bad text (suc j) (ap isRowLine numbers-here ∙ f)) (omega arith))
 
-  -- a line of rows
+  -- the line is a line of rows
   module _ {count next : ℕ} {rows′ : List ℕ} (y : RowLine text k total rows rows′ count next) where
     is-row-line : isRowLine (numbersAt text (suc (suc j))) ≡ true
     unfolding isRowLine
@@ -107,14 +107,14 @@ module _ {text : List ℕ} {n : ℕ} {starts₀ rows₀ starts rows : List ℕ} 
         rw (more-rows, map-append narrowed (flat (textLists text j)) (y .list), sets-append front rows₀ 0 (map narrowed (y .list)), v, ← x .kept)
         (y .kept)
 
-    -- with too many
+    -- it has too many rows
     pub lines-over : {starts′ : List ℕ} → n ≡ textHead text .n → j < n → programRows < total + count
         → LinesTold text starts₀ rows₀ starts′ rows′ (lines.Refused 26 (j + 2))
     lines-over e l h =
         bad-lines 26 (j + 2) refl (lines-refuse text j 26 (x .fine) (omega arith) (line-over text (suc j) is-row-line (omega (arith, more-counted)))
         (omega arith))
 
-    -- with few enough
+    -- it has few enough rows
     pub lines-turn : {starts′ : List ℕ} → j < n → total + count ≤ programRows → starts′ ≡ set starts (j + 1) (total + count)
         → LinesRead text n starts₀ rows₀ starts′ rows′ (j + 1) (total + count) next
     lines-turn l h e =
@@ -135,7 +135,7 @@ module _ {text : List ℕ} {n : ℕ} {starts₀ rows₀ starts rows : List ℕ} 
           kept = more-kept;
         })
 
-  -- all lines
+  -- all lines are read
   module _ (e : n ≡ textHead text .n) (l : n ≤ j) where
     all-read : j ≡ textHead text .n
     all-read = let d = x .done in omega arith
@@ -146,11 +146,11 @@ module _ {text : List ℕ} {n : ℕ} {starts₀ rows₀ starts rows : List ℕ} 
     left-long : length (afterLines (suc (textHead text .n)) text) ≡ length text - k
     left-long = rw (← all-read, ← x .rest) (length-drop k text)
 
-    -- text behind them
+    -- text follows them
     pub lines-left : {starts′ rows′ : List ℕ} → k < length text → LinesTold text starts₀ rows₀ starts′ rows′ (lines.Refused 25 (n + 2))
     lines-left h = bad-lines 25 (n + 2) refl (rw e (end-refuses text all-fine (omega (arith, left-long))))
 
-    -- none
+    -- no text follows them
     pub lines-done : length text ≤ k → LinesTold text starts₀ rows₀ starts rows (lines.Rows total)
     lines-done h =
         all-lines (ap lines.Rows (rw all-read at (x .counted))) (end-passes text all-fine (omega (arith, left-long))) (rw all-read at (x .started))

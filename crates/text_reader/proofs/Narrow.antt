@@ -1,5 +1,5 @@
--- A job with its rows narrowed is refused as the job is: a row that is narrowed is over n, and so is what stands for it, so both are 5 at the same
--- column.
+-- Proves that a job with narrowed rows is refused as the job itself is: a row that narrowing changes is over n, and so is the row kept for it, so
+-- both are 5 at the same column.
 -- Assumes nothing.
 use Prim.Native.Nat.{ℕ, zero, suc, _+_, _<_, _≤_}
 use mathlib.Core.Path.{_≡_, refl, sym, ap, _∙_}
@@ -72,7 +72,7 @@ module _ (n : ℕ) (starts rows : List ℕ) (few : n ≤ maxColumns) where
       go zero e = refl
       go (suc j) e = ap (λ (f : ℕ). refusedAt f (suc j) 0 untouched) (fault-same (suc j) (least-found-iff _ n j .0 e .0))
 
--- the starts are tested against the count of the rows alone
+-- only the number of rows matters to the test of the starts
 starts-same : (n : ℕ) (starts rows : List ℕ) → startsTest n starts (map narrowed rows) ≡ startsTest n starts rows
 unfolding startsTest
 starts-same n starts rows = go (test (eqb (length starts) (n + 1))) (test (eqb (start starts 1) 0)) (least (falls starts) n) refl
@@ -84,7 +84,7 @@ starts-same n starts rows = go (test (eqb (length starts) (n + 1))) (test (eqb (
     go (passes e) (passes f) (suc j) z = rw (e, f, z, startsTest)
     go (passes e) (passes f) zero z = rw (e, f, z, startsTest, length-map rows narrowed)
 
--- a call is refused alike where each test finds the same
+-- two calls get the same refusal if each test finds the same in both
 abbrev SameEach : {C : Type 0} → List (C → Verdict) → C → C → Type 0
 SameEach [] c d = Unit {0}
 SameEach (t ∷ ts) c d = (t c ≡ t d) × SameEach ts c d
@@ -98,7 +98,7 @@ first-same (t ∷ ts) c d h = go (t d) refl (first-same ts c d (h .1))
     go passed e ih = first-passes t ts c (h .0 ∙ e) ∙ ih ∙ sym (first-passes t ts d e)
     go (refused a l) e ih = first-refuses t ts c (h .0 ∙ e) ∙ sym (first-refuses t ts d e)
 
--- a job and what is kept of it are refused alike
+-- a job and the kept job get the same refusal
 pub kept-tests : (job : Job) → first jobTests (keptJob job) ≡ first jobTests job
 unfolding jobTests columnsTest markTest limitTest
 kept-tests job = go (below-or maxColumns (job .n))

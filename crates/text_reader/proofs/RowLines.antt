@@ -1,4 +1,4 @@
--- A line of rows, from the answer of its reading: its rows are kept, or it is bad text.
+-- Proves what the answer of reading a line of rows tells: its rows are kept, or it is bad text.
 -- Assumes nothing.
 use Prim.Native.Nat.{ℕ, _+_, _≤_}
 use mathlib.Core.Path.{_≡_, sym}

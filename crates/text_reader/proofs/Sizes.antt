@@ -1,4 +1,4 @@
--- The job of a text that passes keeps to the program's sizes: line 1 is tested for the columns, and the last line of rows for all rows.
+-- Proves that the job of a text that passes is within the program's sizes: line 1 is tested for the columns, and the last line of rows for all rows.
 -- Assumes nothing.
 use Prim.Native.Nat.{ℕ, zero, suc, _+_, _<_, _≤_}
 use mathlib.Core.Path.{_≡_, refl, ap, _∙_}

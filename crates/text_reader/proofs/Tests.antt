@@ -1,5 +1,5 @@
--- The lists that a text's lines name, one column more by one line more; and the tests of its lines by the first at fault, and of its end by what is
--- left.
+-- Proves that one more line gives the lists of one more column, that the first line at fault decides the tests of the lines, and that the bytes left
+-- decide the test of the end.
 -- Assumes nothing.
 use Prim.Native.Nat.{ℕ, suc, _+_, _<_, _≤_}
 use mathlib.Core.Path.{_≡_, refl, _∙_}
@@ -24,7 +24,7 @@ module _ (text : List ℕ) where
   unfolding textLists upTo
   lists-none = refl
 
-  -- one column more
+  -- one line more gives one column more
   pub lists-more : (j : ℕ) → textLists text (suc j) ≡ textLists text j ++ (rowsOfLine (numbersAt text (suc (suc j))) ∷ [])
   unfolding textLists
   lists-more j = map-upTo (λ i. rowsOfLine (numbersAt text (suc i))) j

@@ -1,5 +1,5 @@
--- What is read of a job text, and what is kept of it. Rows are kept narrowed, as text_lines keeps them; a theorem says that the job's tests do not
--- see the difference. After a refusal nothing is said of the slices.
+-- Defines what is read of a job text, and what is kept of it. Rows are kept narrowed, and a theorem says that this changes no test of the job. After
+-- a refusal it promises nothing of the slices.
 -- Assumes nothing.
 use Prim.Native.Nat.{ℕ, _<_, _≤_}
 use mathlib.Core.Path.{_≡_}
@@ -23,18 +23,18 @@ use Rattle.text_reader.specs.declared.JobRead.the-variants as job
 abbrev pub columnLists : List ℕ → List (List ℕ)
 columnLists text = textLists text (textHead text .n)
 
--- a text that is whole
+-- a text that does not continue
 abbrev pub whole : List ℕ → Input
 whole text = record { text = text; more = false }
 
--- the lines of rows, to be read behind line 1, which gives n; and there are places for where each column starts
+-- the lines of rows are read behind line 1, which gives n, and starts has a place for the start of each column
 pub record LinesAsked (text : List ℕ) (at n : ℕ) (starts : List ℕ) : Type 0 where
   pub begins : LineTo text 0 at
   pub size : n ≡ textHead text .n
   pub few : n ≤ programColumns
   pub long : programColumns < length starts
 
--- the lines of rows and what follows them
+-- what is told of the lines of rows and of the end
 pub data LinesTold (text starts₀ rows₀ starts rows : List ℕ) (r : Lines) : Type 0 where
   all-lines : r ≡ lines.Rows (length (flat (columnLists text))) → first (rowLinesTest ∷ endTest ∷ []) (whole text) ≡ passed
       → starts ≡ sets starts₀ 0 (startsFrom 0 (columnLists text)) → rows ≡ sets rows₀ 0 (map narrowed (flat (columnLists text)))
@@ -43,7 +43,7 @@ pub data LinesTold (text starts₀ rows₀ starts rows : List ℕ) (r : Lines) :
       → first (rowLinesTest ∷ endTest ∷ []) (whole text) ≡ refused (answer number place 0) untouched
       → LinesTold text starts₀ rows₀ starts rows r
 
--- the whole text: its job, kept at the front of the slices; or its refusal
+-- what is told of the whole text: its job, which the fronts of the slices keep; or its refusal
 pub data JobTold (input : Input) (starts₀ rows₀ starts rows : List ℕ) (r : JobRead) : Type 0 where
   job-read : first textTests input ≡ passed
       → r ≡ job.Job (record { n = textJob (input .text) .n; mark = textJob (input .text) .mark; limit = textJob (input .text) .limit })
@@ -53,6 +53,6 @@ pub data JobTold (input : Input) (starts₀ rows₀ starts rows : List ℕ) (r :
   text-refused : (number place : ℕ) → first textTests input ≡ refused (answer number place 0) untouched → r ≡ job.Refused number place
       → JobTold input starts₀ rows₀ starts rows r
 
--- a job with its rows as they are kept
+-- a job with its rows narrowed, as they are kept
 abbrev pub keptJob : Job → Job
 keptJob job = record { n = job .n; starts = job .starts; rows = map narrowed (job .rows); mark = job .mark; limit = job .limit }

@@ -1,5 +1,5 @@
--- The number that digits make with the byte behind them. If a line that begins there has numbers, then its first is those digits, since no more of
--- them follow, and a byte that ends it stands behind. So where one of the two fails the line has none.
+-- Proves which number digits and the byte behind them make. If a line that begins there has numbers, the first is these digits, since no more follow,
+-- and the byte behind them ends it. So if either fails, the line has no numbers.
 -- Assumes nothing.
 use Prim.Native.Nat.{ℕ, _+_, _<_, _≤_}
 use mathlib.Core.Path.{_≡_, refl, sym, ap, _∙_}
@@ -29,7 +29,7 @@ module _ (text : List ℕ) (at : ℕ) {count value : ℕ} (found : DigitsFound t
   abbrev digits : List ℕ
   digits = take count (drop at text)
 
-  -- the digits, then what follows
+  -- the digits come first, then the rest
   parts : drop at text ≡ digits ++ drop (at + count) text
   parts = sym (rw (drop-drop count at text) at (take-append-drop count (drop at text)))
 
@@ -43,7 +43,7 @@ module _ (text : List ℕ) (at : ℕ) {count value : ℕ} (found : DigitsFound t
       let (w, s) = decimal-iff digits value .0 (e, sym (found .reads .valued)) in
       record { short = s; stands = parts ∙ rw (behind-digits h, g, ← w); on = omega arith; inside = omega arith }
 
-  -- a first number is these digits
+  -- the first number of the line is these digits
   all-digits : {x b : ℕ} {rest : List ℕ} → Ends b → Short x → drop at text ≡ decimalOf x ++ (b ∷ rest)
       → (digits ≡ decimalOf x) × (drop (at + count) text ≡ b ∷ rest)
   all-digits {x} {b} {rest} n s e =
@@ -73,7 +73,7 @@ module _ (text : List ℕ) (at : ℕ) {count value : ℕ} (found : DigitsFound t
       let (w, h) = all-digits n s g in
       absurd (f x b rest n w (rw w (decimal-word-iff (decimalOf x) .1 (decimal-is x s))) h)
 
-  -- the text ends there; the digits are no decimal; the byte behind them does not end a number
+  -- the text ends there, the digits are no decimal, or the byte behind them does not end a number
   pub none-ended : length text ≤ at + count → numbersAt (drop at text) 1 ≡ []
   none-ended h = first-digits _ refl (λ x b rest n w i e. let z = ap length e in omega (arith, length-drop (at + count) text))
 

@@ -1,5 +1,5 @@
--- Digits read one by one: one byte more is ten times the value and that digit, and so few digits stay below 2^64. Digits are a decimal by their count
--- and the first of them.
+-- Proves how digits are read one by one: one more makes the value ten times as great, plus that digit, and so few digits stay below 2^64. Their count
+-- and the first of them decide whether they are a decimal.
 -- Assumes nothing.
 use Prim.Native.Nat.{ℕ, suc, _+_, _-_, _*_, _^_, _<_, _≤_, min}
 use mathlib.Core.Path.{_≡_, refl, sym, ap, _∙_}
@@ -56,7 +56,7 @@ module _ (text : List ℕ) (at : ℕ) where
     first-digit : 0 < i → getD (take i (drop at text)) 0 0 ≡ getD text at 0
     first-digit h = let z : at + 0 ≡ at = omega arith in getD-take i (drop at text) 0 0 h ∙ (rw z at (getD-drop at text 0 0))
 
-    -- digits are a decimal
+    -- the digits are a decimal
     pub digits-decimal : 0 < i → (1 < i → getD text at 0 ≢ 48) → isDecimal (take i (drop at text)) ≡ true
     digits-decimal h g =
         let e = digits-long in
@@ -68,7 +68,7 @@ module _ (text : List ℕ) (at : ℕ) where
           lead = λ l z. g (omega arith) (sym (first-digit h) ∙ z);
         })
 
-    -- or none
+    -- the digits are no decimal
     pub no-decimal : ¬ Decimal (take i (drop at text)) → isDecimal (take i (drop at text)) ≡ false
     no-decimal h = go (test (isDecimal (take i (drop at text))))
       where
@@ -79,7 +79,7 @@ module _ (text : List ℕ) (at : ℕ) where
     pub none-decimal : i ≡ 0 → isDecimal (take i (drop at text)) ≡ false
     none-decimal z = no-decimal (λ w. let s = w .some in omega (arith, digits-long))
 
-    -- several are one by the first
+    -- the first of several digits decides whether they are a decimal
     pub lead-decimal : 1 < i → not (eqb (getD text at 0) 48) ≡ isDecimal (take i (drop at text))
     lead-decimal h = go (test (eqb (getD text at 0) 48))
       where
@@ -90,7 +90,7 @@ module _ (text : List ℕ) (at : ℕ) where
         go (fails e) = rw e (sym (digits-decimal (omega arith) (λ l. eqb-false (getD text at 0) 48 e)))
 
   module _ {i value : ℕ} (d : DigitsRead text at i value) where
-    -- at most 12 digits leave room for one more
+    -- after at most 12 digits one more may come
     pub digits-fit : i < maxDigits → value < 10 ^ (maxDigits - 1)
     digits-fit h =
         let grow = pow-le-pow-right {n = 10} (omega arith) {i = i} {j = maxDigits - 1} (omega arith) in
@@ -99,7 +99,7 @@ module _ (text : List ℕ) (at : ℕ) where
         let g = ap (λ (n : ℕ). 10 ^ n) (digits-long (d .there)) in
         omega arith
 
-    -- one digit more
+    -- reads one more digit
     pub digits-turn : {b : ℕ} → i < maxDigits → at + i < length text → b ≡ getD text (at + i) 0 → Digit b
         → DigitsRead text at (i + 1) (10 * value + (b - 48))
     unfolding valueOf
@@ -116,7 +116,7 @@ module _ (text : List ℕ) (at : ℕ) where
           valued = rw (add-one, parts, value-append 0 (take i (drop at text)) (b ∷ []), ← d .valued);
         }
 
-    -- the end of the text, or 13 digits, stop them
+    -- the digits stop at the end of the text, or after 13
     pub digits-stop : i ≡ min (length text - at) maxDigits → Stop text at i
     digits-stop e = go (below-or (length text - at) maxDigits)
       where

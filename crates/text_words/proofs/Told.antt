@@ -1,4 +1,4 @@
--- From an answer to what was read: the number at a place, or that a line that begins there has none.
+-- Proves what an answer tells of the text: the number at a place, or that a line that begins there has none.
 -- Assumes nothing.
 use Prim.Native.Nat.{ℕ}
 use mathlib.Core.Path.{_≡_, sym, ap, _∙_}
@@ -28,7 +28,7 @@ module _ {text : List ℕ} {at : ℕ} {r : Word} where
   word-bad (last y m e n) g = absurd (let z : _≡_ {A = ℕ} 0 1 = cc in omega arith)
   word-bad (bad e n) g = n
 
--- a number in front of a space: the rest of the line follows
+-- a space follows the number, and then the rest of the line
 module _ {text : List ℕ} {at x next : ℕ} (n : Number text at space x next) where
   pub more-numbers : numbersAt (drop at text) 1 ≡ behind (x ∷ []) (numbersAt (drop next text) 1)
   more-numbers = ap (λ (t : List ℕ). numbersAt t 1) (n .stands) ∙ numbers-next x (n .short) (drop next text)
@@ -39,7 +39,7 @@ module _ {text : List ℕ} {at x next : ℕ} (n : Number text at space x next) w
   pub line-behind : {end : ℕ} → LineTo text next end → LineTo text at end
   line-behind l = let a = n .on in let b = l .on in record { rest = l .rest ∙ more-after; on = omega arith; inside = l .inside }
 
--- a number in front of a newline: the line ends
+-- a newline follows the number and ends the line
 module _ {text : List ℕ} {at x next : ℕ} (n : Number text at newline x next) where
   pub last-numbers : numbersAt (drop at text) 1 ≡ x ∷ []
   last-numbers = ap (λ (t : List ℕ). numbersAt t 1) (n .stands) ∙ numbers-last x (n .short) (drop next text)

@@ -1,4 +1,4 @@
--- Blocks of steps: a column after its children's blocks, and those of siblings one behind the other.
+-- Proves facts of blocks of steps: a column comes after the blocks of its children, and the blocks of siblings follow one another.
 -- Assumes nothing.
 use Prim.Native.Nat.{ℕ, zero, suc, _+_, _<_, _≤_}
 use mathlib.Core.Path.{_≡_, refl, sym, ap, _∙_}
@@ -15,7 +15,7 @@ use Rattle.list_laws.proofs.Slices.{slice-none}
 use Rattle.order_laws.proofs.Arranged.{steps-suc, steps-enough}
 use Rattle.tree.specs.Blocks.{block, blocks, kidsAt}
 
--- mark 0 leaves children as they stand
+-- mark 0 keeps the order of children
 pub arranged-zero : (size : ℕ → ℕ) (kids : ℕ → List ℕ) (steps : ℕ → List ℕ) (j : ℕ) → arranged 0 size kids steps j ≡ kids j
 unfolding arranged siblingKey
 arranged-zero size kids steps j = sort-level _ (λ c. refl) (kids j)
@@ -52,7 +52,7 @@ module _ (kids : ℕ → List ℕ) where
     pub block-count : (j : ℕ) → 0 < j → length (block kids j) ≡ length (blocks kids (kids j)) + 1
     block-count j l = ap length (block-is j l) ∙ length-append (blocks kids (kids j)) (j ∷ [])
 
-  -- ---- siblings that lie from place i to place e
+  -- ---- siblings from place i to place e of the list
   pub blocks-next : (list : List ℕ) (i e : ℕ) → i < e → e ≤ length list
       → blocks kids (slice i e list) ≡ block kids (getD list i 0) ++ blocks kids (slice (i + 1) e list)
   blocks-next list i e h g = rw (add-one, slice-cons i e list 0 h g) (blocks-cons (getD list i 0) (slice (suc i) e list))

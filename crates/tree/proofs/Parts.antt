@@ -1,4 +1,4 @@
--- Parts of slices: what a part that came back, or a run of stores elsewhere, leaves of them.
+-- Proves what a slice keeps after a part of it comes back changed, or after a run of stores elsewhere.
 -- Assumes nothing.
 use Prim.Native.Nat.{ℕ, suc, _+_, _-_, _≤_}
 use mathlib.Core.Path.{_≡_, refl, sym, ap, _∙_}

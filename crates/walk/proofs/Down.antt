@@ -1,5 +1,5 @@
--- The column's task: a column's steps are those of its children and itself last; the block that is handed back is all that is left to write,
--- and a leaf's is one step.
+-- Proves how the column's task goes down: a column's steps are those of its children, then itself. The block that is handed back is all that is left
+-- to write, and a leaf's block is one step.
 -- Assumes nothing.
 use Prim.Native.Nat.{ℕ, zero, suc, _+_, _-_, _<_, _≤_}
 use mathlib.Core.Path.{_≡_, refl, _∙_}
@@ -14,17 +14,17 @@ use Rattle.walk.specs.Tasks.{Asked, Task, ownSteps, kidsSteps}
 use Rattle.walk.specs.Children.{Handed}
 use Rattle.walk.proofs.Runs.{set-sets}
 
--- more room than is asked
+-- more room than is needed
 pub wider : {starts list counts steps : List ℕ} {j left at room more : ℕ} → room ≤ more → Task starts list counts j left at room steps
     → Task starts list counts j left at more steps
 wider h k = record { asks = let a = k .asks in record { laid = a .laid; known = a .known; count = a .count; fits = omega arith }; some = k .some }
 
--- no count, no steps
+-- a count of 0 has no steps
 pub no-steps : (l : List ℕ) → length l ≡ 0 → l ≡ []
 no-steps [] e = refl
 no-steps (x ∷ l) e = absurd (omega arith)
 
--- no columns, nothing to write
+-- without columns nothing is written
 pub no-columns : {starts list counts steps : List ℕ} {j left at room : ℕ} → Asked starts list counts j left at room steps → left ≡ 0
     → (d : List ℕ) → d ≡ sets d at steps
 no-columns {steps = steps} a z d = let none = no-steps steps (omega (arith, a .count)) in rw none refl
@@ -50,7 +50,7 @@ down-start k =
     }
 
 module _ {starts list counts d₀ d : List ℕ} {j left at c size a : ℕ} (inv : Down starts list counts j left d₀ at d c size a) where
-  -- 0 has no steps, so c is a column
+  -- c is a column, since 0 has no steps
   down-some : 0 < c
   down-some = positive c (inv .task .asks .count) (inv .task .some)
     where
@@ -65,7 +65,7 @@ module _ {starts list counts d₀ d : List ℕ} {j left at c size a : ℕ} (inv 
   pub down-last : a + size ≤ length d
   down-last = omega (arith, inv .task .asks .fits, inv .long, inv .room)
 
-  -- the column's own step, and the steps of its children before it
+  -- the column's own step comes last, after the steps of its children
   last-stored : sets (set d (a + size - 1) c) a (kidsSteps starts list c) ≡ sets d a (ownSteps starts list c)
   last-stored =
       let s = down-size in
@@ -74,7 +74,7 @@ module _ {starts list counts d₀ d : List ℕ} {j left at c size a : ℕ} (inv 
       rw (e, block-is (kidsAt starts list) (inv .task .asks .laid .lower) c down-some, sets-append before d a (c ∷ []))
       (set-sets before d a (a + length before) c (omega arith))
 
-  -- a block of one is a leaf: its children take no steps, so with its own step stored all is written
+  -- a block of one is a leaf: its children take no steps, so storing its own step writes all
   pub down-leaf : size ≤ 1 → set d a c ≡ sets d₀ at (ownSteps starts list j)
   down-leaf one =
       let none = no-steps (kidsSteps starts list c) (omega (arith, down-size)) in

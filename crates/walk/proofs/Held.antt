@@ -1,5 +1,5 @@
--- The siblings' task: one block is held, those of the siblings from place i on are still to be written, and with both all is written. Of two
--- blocks the one that is done is smaller than all of the siblings' steps.
+-- Proves how the siblings' task goes on: one block is held, the siblings from place i on are left, and with both all is written. Of two blocks the
+-- task does the smaller, which has fewer steps than all siblings together.
 -- Assumes nothing.
 use Prim.Native.Nat.{ℕ, _+_, _^_, _<_, _≤_}
 use mathlib.Core.Path.{_≡_, refl, _∙_}
@@ -22,7 +22,7 @@ pub record Held (starts list counts : List ℕ) (j left : ℕ) (d₀ : List ℕ)
   pub long : length d ≡ length d₀
   pub room : at + left ≤ length d₀
 
--- what a held block and that of the child at place i take of the siblings' steps, of which `end` is behind the last
+-- how many of the siblings' steps a held block and the child at place i take; `end` is behind the last step
 pub record Two (list : List ℕ) (i left end size count a : ℕ) : Type 0 where
   pub inside : i < length list
   pub held : 0 < size
@@ -61,7 +61,7 @@ module _
     {j left at i a held size first : ℕ}
     (inv : Held starts list counts j left d₀ at d i a held size first)
   where
-    -- all siblings done: what is left is the held block
+    -- all siblings are done: only the held block is left
     pub held-stop : at + left ≤ a → Handed starts list counts j left d₀ at d held size first
     held-stop h =
         let none = no-steps (laterSteps starts list j i) (omega (arith, inv .later .place)) in
@@ -80,7 +80,7 @@ module _
         behind : Later starts list counts j (at + left) (i + 1) (a + count)
         behind = others (inv .later) more r
 
-        -- both blocks lie in the siblings' steps
+        -- the siblings' steps contain both blocks
         pub two-fit : Two list i left (at + left) size count a
         two-fit =
             let f = inv .task .asks .fits in
@@ -92,7 +92,7 @@ module _
               last = omega (arith, behind .place);
             }
 
-        -- so either can be done
+        -- so either block can be done
         pub next-task : Task starts list counts c count place (length d) (ownSteps starts list c)
         next-task = child-task (inv .later) more r (omega (arith, two-fit, inv .long, inv .room))
 

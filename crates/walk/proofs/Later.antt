@@ -1,4 +1,5 @@
--- The siblings from place i of the lists on: as long as steps are left there is one, its block is read there, and those behind it come after.
+-- Proves facts of the siblings from place i of the lists on: while steps are left there is such a sibling, its block is read there, and the others
+-- follow it.
 -- Assumes nothing.
 use Prim.Native.Nat.{ℕ, _+_, _^_, _<_, _≤_}
 use mathlib.Core.Path.{_≡_, sym, ap, _∙_}
@@ -20,7 +21,7 @@ use Rattle.walk.specs.Children.{Listed, ChildBlock}
 abbrev pub laterSteps : List ℕ → List ℕ → ℕ → ℕ → List ℕ
 laterSteps starts list j i = blocks (kidsAt starts list) (slice i (getD starts (j + 1) 0) list)
 
--- they lie from step a on, to step e
+-- these steps are from step a to step e
 pub record Later (starts list counts : List ℕ) (j e i a : ℕ) : Type 0 where
   pub laid : Laid starts list counts
   pub known : j < length counts
@@ -37,7 +38,7 @@ all-later {starts} {list} {j = j} q =
     record { laid = q .laid; known = q .known; low = omega arith; place = rw (all-steps starts list j) (omega (arith, q .count)) }
 
 module _ {starts list counts : List ℕ} {j e i a : ℕ} (later : Later starts list counts j e i a) (more : a < e) where
-  -- there is a sibling at place i
+  -- the lists have a sibling at place i
   in-list : i < getD starts (j + 1) 0
   in-list =
       let end = getD starts (j + 1) 0 in
@@ -64,11 +65,11 @@ module _ {starts list counts : List ℕ} {j e i a : ℕ} (later : Later starts l
   in-range : (0 < getD list i 0) × (getD list i 0 < length counts)
   in-range = later .laid .known j (getD list i 0) (later .known) child
 
-  -- its descendants and itself are its steps
+  -- the sibling's descendants and itself are its steps
   own : getD counts (getD list i 0) 0 + 1 ≡ length (ownSteps starts list (getD list i 0))
   own = later .laid .counted (getD list i 0) (in-range .0) (in-range .1)
 
-  -- what reading it asks
+  -- what reading it requires
   pub child-listed : e < 2 ^ 64 → Listed list counts i
   child-listed h =
       record { inside = child-inside; known = in-range .1; small = omega (arith, own, next-place, later .place) }
@@ -78,7 +79,7 @@ module _ {starts list counts : List ℕ} {j e i a : ℕ} (later : Later starts l
     counted : size ≡ length (ownSteps starts list c)
     counted = rw (r .child) (r .counted ∙ own)
 
-    -- the others come behind it
+    -- the others follow it
     pub others : Later starts list counts j e (i + 1) (a + size)
     others = record {
       laid = later .laid;
@@ -87,7 +88,7 @@ module _ {starts list counts : List ℕ} {j e i a : ℕ} (later : Later starts l
       place = omega (arith, r .counted, own, next-place, later .place);
     }
 
-    -- it can be done
+    -- the sibling's block can be done
     pub child-task : {room : ℕ} → a + size ≤ room → Task starts list counts c size first room (ownSteps starts list c)
     child-task h = record {
       asks = record { laid = later .laid; known = rw (r .child) (in-range .1); count = counted; fits = omega (arith, r .begins) };
@@ -97,7 +98,7 @@ module _ {starts list counts : List ℕ} {j e i a : ℕ} (later : Later starts l
     pub child-lower : 0 < j → c < j
     child-lower l = rw (r .child) (later .laid .lower j (getD list i 0) l child .1)
 
-    -- its steps are written, and those behind it then
+    -- writes its steps, and then those behind it
     pub both : (m : List ℕ)
         → sets (sets m first (ownSteps starts list c)) (a + size) (laterSteps starts list j (i + 1)) ≡ sets m a (laterSteps starts list j i)
     both m =

@@ -1,4 +1,4 @@
--- Halving a number takes a level off, and below 2 ^ k there are at most k levels: what bounds how deep calls nest (Nesting).
+-- Proves that halving a number takes off one level, and that a number below 2 ^ k has at most k levels. This bounds how deep calls nest (Nesting).
 -- Assumes nothing.
 use Prim.Native.Nat.{ℕ, zero, suc, _+_, _*_, _/_, _^_, _<_, _≤_}
 use mathlib.Core.Path.{_≡_, refl}
@@ -30,7 +30,7 @@ pub levels-mono : (x y : ℕ) → x ≤ y → levels x ≤ levels y
 unfolding levels
 levels-mono x y h = digits-mono x y x y h h
 
--- half of y or less has a level less
+-- a number of at most half of y has a level less
 pub levels-half : (x y : ℕ) → 0 < y → x + x ≤ y → levels x < levels y
 unfolding levels
 levels-half x zero l h = absurd (omega arith)

@@ -1,5 +1,5 @@
--- What falls at each call of the two tasks is the count of columns left: a call for a column's children has that column less, a call for one of
--- two siblings the columns of the other less.
+-- Proves that each call of the two tasks has fewer columns left: a call for a column's children leaves out that column, and a call for one of two
+-- siblings leaves out the other's columns.
 -- Assumes nothing.
 use Prim.Native.Nat.{ℕ, _<_}
 use borrow.Fn.Kinds.{In}

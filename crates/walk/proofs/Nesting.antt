@@ -1,5 +1,5 @@
--- The calls of the two tasks nest no deeper than columns can be halved: of two siblings' blocks the smaller, for which there is a call, is at most
--- half of both, and going on with the one that is handed back takes no call.
+-- Proves that calls nest no deeper than the number of columns can be halved: a call is made for the smaller of two siblings' blocks, at most half of
+-- both, and the block that is handed back takes no call.
 -- Assumes nothing.
 use Prim.Native.Nat.{ℕ, zero, suc, _+_, _*_, _^_, _<_, _≤_, max}
 use mathlib.Core.Path.{_≡_, refl, ap, _∙_}
@@ -17,12 +17,12 @@ use Rattle.walk.specs.Tasks.{Asked, kidsSteps}
 use Rattle.walk.specs.Nesting.{handed, nestKids, nestColumn, nestSteps}
 use Rattle.walk.proofs.Levels.{levels-mono, levels-half, levels-few}
 
--- calls deep nested below the siblings' task, and back below the column's task of the child that is handed back, in a list of all columns
+-- how deep calls nest below the siblings' task, and then below the column's task of the child handed back, for a list of columns
 record Few (deep back all : ℕ) : Type 0 where
   below : deep + 3 ≤ max 3 (2 * levels all)
   on : back + 2 ≤ 2 * levels all
 
--- one more sibling: of at most half of all columns s are done by a call, below which calls nest n deep
+-- one more sibling: a call does s columns, at most half of all, and below it calls nest n deep
 few-more : {deep back rest : ℕ} (all n s : ℕ) → Few deep back rest → rest ≤ all → n + 2 ≤ 2 * levels s → 0 < all → s + s ≤ all
     → Few (max (1 + n) deep) back all
 few-more {rest = rest} all n s f h g l half =
@@ -38,7 +38,7 @@ module _ (kids : ℕ → List ℕ) (lower : (j c : ℕ) → 0 < j → c ∈ kids
   some : (c : ℕ) → 0 < c → 0 < size c
   some c l = omega (arith, block-count kids lower c l)
 
-  -- a held one and those to come, together
+  -- the columns of the held child and of those to come, together
   abbrev together : ℕ → List ℕ → ℕ
   together held cs = size held + length (blocks kids cs)
 
@@ -71,7 +71,7 @@ module _ (kids : ℕ → List ℕ) (lower : (j c : ℕ) → 0 < j → c ∈ kids
             rw (e, nestKids, handed)
             (few-more (together held (c ∷ cs)) (nests held) (size held) q (omega arith) (few held l) (omega (arith, some c k)) (omega arith))
 
-  -- below a column's task: its children are a column less, and there is a call for them if there are any
+  -- below a column's task: its children have a column less, and a call does them if there are any
   column-few : (f j : ℕ) → 0 < j → nestColumn kids f j + 2 ≤ 2 * levels (size j)
   unfolding nestColumn
   column-few zero j l = omega (arith, levels-half 0 (size j) (some j l) (omega arith))
@@ -106,7 +106,7 @@ module _ (kids : ℕ → List ℕ) (lower : (j c : ℕ) → 0 < j → c ∈ kids
           let one = levels-half 0 (together c cs) (omega (arith, some c first)) (omega arith) in
           rw (e, more c cs, nestSteps) (omega (arith, few .below, few .on))
 
--- whatever lists the walk is given: over fewer than 2 ^ k columns its calls nest at most 2 k deep
+-- for any lists: over fewer than 2 ^ k columns the calls of the walk nest at most 2 k deep
 pub nests-few : {starts list counts : List ℕ} {left at room : ℕ} → Asked starts list counts 0 left at room (kidsSteps starts list 0)
     → (k : ℕ) → left < 2 ^ k → nestSteps (kidsAt starts list) (length counts) ≤ 2 * k
 nests-few {starts} {list} {counts} {left} a k h =

@@ -1,4 +1,4 @@
--- Two runs of stores that do not meet may be done in either order.
+-- Proves that two runs of stores at different places may be done in either order.
 -- Assumes nothing.
 use Prim.Native.Nat.{ℕ, suc, _+_, _≤_}
 use mathlib.Core.Path.{_≡_, refl, ap, _∙_}

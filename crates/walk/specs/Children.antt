@@ -1,4 +1,5 @@
--- What is read of a child, and what the siblings' task hands back. A block is a column, the count of its subtree's columns, and its first step.
+-- Defines what is read of a child, and what the siblings' task hands back. A block is a column, the count of its subtree's columns, and its first
+-- step.
 -- Assumes nothing.
 use Prim.Native.Nat.{ℕ, _+_, _^_, _<_, _≤_}
 use mathlib.Core.Path.{_≡_}
@@ -7,19 +8,19 @@ use lib.ListN.{length, getD}
 use lib.Seq.{sets}
 use Rattle.walk.specs.Tasks.{Task, ownSteps, kidsSteps}
 
--- there is a child at place i of the lists, and its descendants are counted
+-- the lists have a child at place i, and its descendants are counted
 pub record Listed (list counts : List ℕ) (i : ℕ) : Type 0 where
   pub inside : i < length list
   pub known : getD list i 0 < length counts
   pub small : getD counts (getD list i 0) 0 + 1 < 2 ^ 64
 
--- the block of that child, if it begins at step `at`
+-- the block of that child, which begins at step `at`
 pub record ChildBlock (list counts : List ℕ) (i at column size first : ℕ) : Type 0 where
   pub child : column ≡ getD list i 0
   pub counted : size ≡ getD counts (getD list i 0) 0 + 1
   pub begins : first ≡ at
 
--- the block of a child of j is handed back: it lies in j's steps, and with its own steps all of the children's are written
+-- a child's block is handed back: it is within j's steps, and once its steps are written, those of all children are
 pub record Handed (starts list counts : List ℕ) (j left : ℕ) (order₀ : List ℕ) (at : ℕ) (order : List ℕ) (column size first : ℕ) : Type 0 where
   pub asks : Task starts list counts column size first (at + left) (ownSteps starts list column)
   pub within : (at ≤ first) × (0 < j → column < j)

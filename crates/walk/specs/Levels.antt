@@ -1,14 +1,14 @@
--- How often a number can be halved.
+-- Defines how often a number can be halved.
 -- Assumes nothing.
 use Prim.Native.Nat.{ℕ, zero, suc, _/_}
 use mathlib.Core.Bool.{true, false}
 use lib.Dec.{eqb}
 
--- the binary digits of x, at most f of them
+-- counts the binary digits of x, up to f of them
 unfoldable pub digits : ℕ → ℕ → ℕ
 digits zero x = 0
 digits (suc f) x = elim (eqb x 0) [ true ↦ 0 | false ↦ suc (digits f (x / 2)) ]
 
--- the halvings of x until it is 0; in a block of x steps calls nest at most twice as deep
+-- counts the halvings of x until it is 0; in a block of x steps calls nest at most twice as deep
 unfoldable pub levels : ℕ → ℕ
 levels x = digits x x

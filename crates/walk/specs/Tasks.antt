@@ -1,4 +1,4 @@
--- What the two tasks of the walk are given.
+-- Defines what the two tasks of the walk are given.
 -- Assumes nothing.
 use Prim.Native.Nat.{ℕ, _+_, _^_, _<_, _≤_}
 use mathlib.Core.Path.{_≡_}
@@ -20,18 +20,18 @@ pub record Laid (starts list counts : List ℕ) : Type 0 where
 abbrev pub ownSteps : List ℕ → List ℕ → ℕ → List ℕ
 ownSteps starts list j = block (kidsAt starts list) j
 
--- those of the children's subtrees; of 0, the roots'
+-- the steps of the children's subtrees; those of 0 are the roots'
 abbrev pub kidsSteps : List ℕ → List ℕ → ℕ → List ℕ
 kidsSteps starts list j = blocks (kidsAt starts list) (kidsAt starts list j)
 
--- what a task asks: j is a column or 0, and the steps, `left` of them, lie in the order from `at` on
+-- what a task requires: j is a column or 0, and its steps, `left` of them, fit into the order from `at` on
 pub record Asked (starts list counts : List ℕ) (j left at room : ℕ) (steps : List ℕ) : Type 0 where
   pub laid : Laid starts list counts
   pub known : j < length counts
   pub count : left ≡ length steps
   pub fits : at + left ≤ room
 
--- what each of the two tasks asks besides: a column is left
+-- what both tasks require besides: a column is left
 pub record Task (starts list counts : List ℕ) (j left at room : ℕ) (steps : List ℕ) : Type 0 where
   pub asks : Asked starts list counts j left at room steps
   pub some : 0 < left

@@ -1,5 +1,5 @@
--- The low bytes of gaps, stored row by row beside the greatest gap: where that is below 128, each gap is its own low byte and its only one, so they
--- are the bytes of the gaps. Where it is not, the bytes of the gaps are no fewer, and stored over the low bytes they leave nothing of them.
+-- Proves that the low bytes of gaps are the bytes of the gaps if the greatest gap is below 128, since each gap is then its own low byte. If it is
+-- not, the bytes of the gaps are no fewer, so storing them overwrites every low byte.
 -- Assumes nothing.
 use Prim.Native.Nat.{ℕ, suc, _+_, _-_, _%_, _<_, _≤_, max}
 use mathlib.Core.Path.{_≡_, refl, ap, _∙_}
@@ -25,7 +25,7 @@ unfolding lowBytes
 length-lows [] = refl
 length-lows (x ∷ xs) = ap suc (length-lows xs)
 
--- numbers have a byte each at least
+-- each number has at least one byte
 encode-long : (xs : List ℕ) → length xs ≤ length (encode xs)
 unfolding encode
 encode-long [] = omega arith
@@ -41,7 +41,7 @@ lows-small (x ∷ xs) h =
 
 -- ---- row by row
 
--- the low bytes of the gaps of the rows before i are stored, and the greatest of these gaps is widest
+-- the low bytes of the gaps before i are stored, and widest is the greatest of these gaps
 pub record Lows (b : ℕ) (rows : List ℕ) (from to : ℕ) (d₀ : List ℕ) (at : ℕ) (d : List ℕ) (widest before next i : ℕ) : Type 0 where
   pub rows-left : RowsLeft rows to before i
   pub written : Writes (lowBytes (gapsOf b (slice from to rows))) d₀ at (lowBytes (gapsOf before (slice i to rows))) d next
@@ -91,7 +91,7 @@ module _ {b : ℕ} {rows : List ℕ} {from to : ℕ} (l : ListAt b rows from to)
           writes = rw same at (low .stores);
         }
 
-    -- the gaps are written over their low bytes
+    -- writes the gaps over their low bytes
     pub run-over : {d′ : List ℕ} {r : ℕ} → Wrote (encode (gapsOf b (slice from to rows))) d d′ at r
         → Wrote (encode (gapsOf b (slice from to rows))) d₀ d′ at r
     run-over p =

@@ -1,4 +1,4 @@
--- The gaps of one list, row by row: the rows from i on ascend above the one before them, so the next gap is the next row less that one.
+-- Proves the gaps of a list row by row: the rows from i on ascend above the row before them, so the next gap is the next row less that one.
 -- Assumes nothing.
 use Prim.Native.Nat.{ℕ, _+_, _-_, _*_, _<_, _≤_}
 use mathlib.Core.Path.{_≡_, refl}
@@ -17,7 +17,7 @@ use Rattle.bytes_laws.proofs.Gaps.{length-gaps}
 use Rattle.bytes_laws.proofs.Writing.{encode-none, writes-number, writes-near}
 use Rattle.write_gaps.specs.ListAt.{ListAt}
 
--- the rows from i up to `to` are left, behind the row `before`
+-- the rows from i up to `to` are left, and `before` is the row before them
 pub record RowsLeft (rows : List ℕ) (to before i : ℕ) : Type 0 where
   pub inside : to ≤ length rows
   pub high : i ≤ to
@@ -74,7 +74,7 @@ gaps-start l = record { rows-left = rows-all l; written = writes-all }
 
 module _ {j : ℕ} {rows : List ℕ} {from to : ℕ} {d₀ : List ℕ} {first : ℕ} {d : List ℕ} {next before i : ℕ} (w : WritesRows j rows from to d₀ first d
     next before i) where
-  -- the next place is not far behind the first
+  -- the next place is close to the first
   pub place-near : ListAt j rows from to → next ≤ first + maxGroups * maxColumns
   place-near l =
       let gaps = gapsOf j (slice from to rows) in

@@ -1,4 +1,4 @@
--- The low byte of each of some numbers.
+-- Defines the low bytes of some numbers.
 -- Assumes nothing.
 use Prim.Native.Nat.{ℕ, _%_}
 use mathlib.Core.Path.{_≡_}
@@ -10,7 +10,7 @@ unfoldable pub lowBytes : List ℕ → List ℕ
 lowBytes [] = []
 lowBytes (x ∷ xs) = (x % 256) ∷ lowBytes xs
 
--- the low bytes of gaps were stored from `at` on over what stood there before, and r is the greatest gap
+-- the low bytes of the gaps are stored from `at` on, and r is the greatest gap
 pub record LowsStored (gaps before after : List ℕ) (at r : ℕ) : Type 0 where
   pub widest : r ≡ greatest gaps
   pub stores : after ≡ sets before at (lowBytes gaps)

@@ -1,5 +1,5 @@
--- The numbers of the lists, column by column: the rows between two starts that pass are a list that can be written, its numbers come next, and behind
--- them those of the columns after it.
+-- Proves how the lists are written column by column: the rows between two starts of a sound job can be written, their numbers come next, and those of
+-- the later columns follow.
 -- Assumes nothing.
 use Prim.Native.Nat.{ℕ, suc, _+_, _*_, _^_, _<_, _≤_}
 use mathlib.Core.Path.{_≡_}
@@ -48,7 +48,7 @@ module _ {n : ℕ} {starts rows : List ℕ} (few : n ≤ maxColumns) (p : Passed
           within = λ row m. let q = p .within (suc k) (omega arith) h row (rw (column-at starts rows k) m) in omega arith;
         })
 
-    -- its numbers come next
+    -- the column's numbers come next
     pub numbers-next : numbersFrom n starts rows k ≡ listNumbers (k + 1) (slice (getD starts k 0) (getD starts (k + 1) 0) rows) ++ numbersFrom n
         starts rows (k + 1)
     unfolding listsNumbers
@@ -93,7 +93,7 @@ pub record WritesColumns (n : ℕ) (starts rows d₀ : List ℕ) (first : ℕ) (
   pub near : first < 2 ^ 60
 
 module _ {n : ℕ} {starts rows d₀ : List ℕ} {first : ℕ} {d : List ℕ} {next done : ℕ} (w : WritesColumns n starts rows d₀ first d next done) where
-  -- the place of the next list is near too
+  -- the place of the next list is small too
   pub list-near : next < 2 ^ 61
   list-near =
       let all = listsNumbers 1 (listsOf n (columnOf starts rows)) in

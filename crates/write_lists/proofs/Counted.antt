@@ -1,4 +1,4 @@
--- The numbers of one list: its count, and behind it its gaps.
+-- Proves that the numbers of a list are its count, then its gaps.
 -- Assumes nothing.
 use Prim.Native.Nat.{ℕ, _-_, _≤_}
 use mathlib.Core.Path.{_≡_, ap}
@@ -17,7 +17,7 @@ pub list-is : {j : ℕ} {rows : List ℕ} {from to : ℕ} → ListAt j rows from
 unfolding listNumbers
 list-is {j} {rows} {from} {to} l = ap (λ (n : ℕ). n ∷ gapsOf j (slice from to rows)) (length-slice from to rows (l .inside))
 
--- the count is written, then the gaps
+-- writes the count, then the gaps
 pub list-stop : {entry : List ℕ} {at j : ℕ} {rows : List ℕ} {from to first : ℕ} {d₀ d : List ℕ} {next before i : ℕ} → ListAt j rows from to
     → Wrote (bytesOf (to - from)) entry d₀ at first → WritesRows j rows from to d₀ first d next before i → to ≤ i
     → Wrote (encode (listNumbers j (slice from to rows))) entry d at next

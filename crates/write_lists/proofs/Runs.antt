@@ -1,5 +1,5 @@
--- A list cut in two behind some of its rows: the gaps of the first rows come first, those of the rest follow behind the last of the first. So a list
--- is written run by run.
+-- Proves that a list may be written run by run: the gaps of its first rows come first, and those of the rest follow, counted from the last of the
+-- first rows.
 -- Assumes nothing.
 use Prim.Native.Nat.{ℕ, suc, _+_, _-_, _≤_}
 use mathlib.Core.Path.{_≡_, refl, sym, ap, _∙_}
@@ -16,17 +16,17 @@ use Rattle.write_gaps.specs.ListAt.{ListAt}
 use Rattle.write_gaps.proofs.Rows.{RowsLeft, WritesRows}
 use Rattle.write_lists.specs.Lists.{RunEnd}
 
--- the last row of a list, or the one before it
+-- the last row of a list, or for an empty list the row before it
 abbrev lastOf : ℕ → List ℕ → ℕ
 lastOf b [] = b
 lastOf b (x ∷ xs) = lastOf x xs
 
--- where the last row stands
+-- the place of the last row
 last-at : (b x : ℕ) (xs : List ℕ) → lastOf b (x ∷ xs) ≡ getD (x ∷ xs) (length xs) 0
 last-at b x [] = refl
 last-at b x (y ∷ ys) = last-at x y ys
 
--- the gaps, the order and the rows of two lists, one behind the other
+-- the gaps, the order and the rows of two lists put together
 gaps-append : (b : ℕ) (xs ys : List ℕ) → gapsOf b (xs ++ ys) ≡ gapsOf b xs ++ gapsOf (lastOf b xs) ys
 unfolding gapsOf
 gaps-append b [] ys = refl
@@ -44,7 +44,7 @@ slice-cut rows i e to a b h =
     let r : slice e to rows ≡ take (to - e) (drop e rows) = ap (drop e) t ∙ drop-at (take e rows) (take (to - e) (drop e rows)) e l in
     ap (drop i) t ∙ drop-append-le i (take e rows) (take (to - e) (drop e rows)) (omega arith) ∙ ap (λ (s : List ℕ). slice i e rows ++ s) (sym r)
 
--- the rows up to e are cut off, of those from i on
+-- cuts the rows up to e off those from i on
 module _ {rows : List ℕ} {to before i : ℕ} {e : ℕ} (l : RowsLeft rows to before i) (end : RunEnd i to e) where
   there : e ≤ length rows
   there = let n = l .inside in omega arith
@@ -87,7 +87,7 @@ module _ {rows : List ℕ} {to before i : ℕ} {e : ℕ} (l : RowsLeft rows to b
         within = λ k m. l .within k (rw cut (Memᴰ·append-right (slice i e rows) m));
       }
 
--- a run of a list that is being written
+-- takes a run off a list that is being written
 module _ {j : ℕ} {rows : List ℕ} {from to : ℕ} {d₀ : List ℕ} {first : ℕ} {d : List ℕ} {next before i : ℕ} (w : WritesRows j rows from to d₀ first d
     next before i)
     {e : ℕ} (end : RunEnd i to e) where

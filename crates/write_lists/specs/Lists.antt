@@ -1,4 +1,4 @@
--- What the writer of a job's lists asks, and where a run of rows ends.
+-- Defines what the writer of a job's lists requires, and the end of a run of rows.
 -- Assumes nothing.
 use Prim.Native.Nat.{ℕ, _^_, _<_, _≤_}
 use mathlib.Core.Path.{_≡_}
@@ -6,7 +6,7 @@ use mathlib.Core.List.{List}
 use Rattle.papers.specs.Bounds.{maxColumns}
 use Rattle.papers.specs.Refusals.{passed, startsTest, rowsTest}
 
--- r is the end of a run of rows from i on, of a list that ends at `to`
+-- r ends a run of rows from i on, in a list that ends at `to`
 pub record RunEnd (i to r : ℕ) : Type 0 where
   pub past : i < r
   pub within : r ≤ to

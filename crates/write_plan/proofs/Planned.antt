@@ -1,5 +1,5 @@
--- The parts of a plan, one behind the other: its key, steps, lists and peak. Their numbers put together are the whole, so behind each part what is
--- left of the whole is the parts that follow; and they are so few that every place among them is near.
+-- Proves that the key, steps, lists and peak, one after the other, are the whole plan: behind each part the later parts are left. They are few enough
+-- that every place among them stays small.
 -- Assumes nothing.
 use Prim.Native.Nat.{ℕ, _+_, _*_, _^_, _<_, _≤_}
 use mathlib.Core.Path.{refl, sym}
@@ -56,14 +56,14 @@ module _ {job : Job} {order pops starts rows : List ℕ} {peak : ℕ} (w : Writa
         steps-few order pops,
       )
 
-  -- every place among the bytes of the plan
+  -- bounds every place among the bytes of the plan
   pub place-near : {d₀ left d : List ℕ} {k : ℕ} → Writes (encode (wholeNumbers job order pops starts rows peak)) d₀ 0 left d k → k < 2 ^ 59
   place-near s = omega (arith, writes-near (wholeNumbers job order pops starts rows peak) s, whole-few)
 
--- ---- put one behind the other
+-- ---- writing the parts one behind the other
 
 module _ (job : Job) (order pops starts rows : List ℕ) (peak : ℕ) (d₀ : List ℕ) where
-  -- of the plan these numbers are left, from place k of d on
+  -- these numbers of the plan are left, and go to the places of d from k on
   abbrev pub Left : List ℕ → List ℕ → ℕ → Type 0
   Left xs d k = Writes (encode (wholeNumbers job order pops starts rows peak)) d₀ 0 (encode xs) d k
 

@@ -1,4 +1,4 @@
--- The numbers of the steps, step by step: the column and the pops at place i come next, and behind them those of the steps after it.
+-- Proves how the steps are written one by one: the column and the pops at place i come next, and the numbers of the later steps follow.
 -- Assumes nothing.
 use Prim.Native.Nat.{ℕ, _+_, _*_, _<_, _≤_}
 use mathlib.Core.Path.{_≡_, refl, ap}
@@ -15,7 +15,7 @@ use Rattle.list_laws.proofs.Writing.{Writes, writes-none}
 use Rattle.bytes_laws.proofs.Writing.{encode-none, writes-number, writes-near}
 use Rattle.write_plan.specs.Lists.{stepsIn}
 
--- steps taken apart and put together again
+-- takes steps apart and puts them together again
 pub steps-again : (steps : List (ℕ × ℕ)) → stepsIn (columnsIn steps) (popsIn steps) ≡ steps
 unfolding stepsIn
 steps-again [] = refl
@@ -53,7 +53,7 @@ pub record WritesSteps (order pops d₀ : List ℕ) (first : ℕ) (d : List ℕ)
   pub few : length order ≤ maxColumns
 
 module _ {order pops d₀ : List ℕ} {first : ℕ} {d : List ℕ} {next i : ℕ} (w : WritesSteps order pops d₀ first d next i) where
-  -- no place is far behind the first
+  -- every place is close to the first
   near : {left d′ : List ℕ} {k : ℕ} → Writes (encode (numbersOf order pops)) d₀ first left d′ k → k ≤ first + 2 * maxGroups * maxColumns
   near s = omega (arith, w .few, writes-near (numbersOf order pops) s, steps-few order pops)
 
@@ -62,7 +62,7 @@ module _ {order pops d₀ : List ℕ} {first : ℕ} {d : List ℕ} {next i : ℕ
 
   module _ (h : i < length order) where
     module _ {m : ℕ} {d′ : List ℕ} (column : Wrote (bytesOf (getD order i 0)) d d′ next m) where
-      -- the column is written, its pops are left
+      -- the column is written, and its pops are left
       behind-column : Writes (encode (numbersOf order pops)) d₀ first (encode (getD pops i 0 ∷ numbersFrom order pops (i + 1))) d′ m
       behind-column = writes-number (w .written) (step-next order pops i (w .paired) h) column
 

@@ -1,4 +1,4 @@
--- The plan that lies in lists: what its writer is handed, and what it asks of it.
+-- Defines the plan that lists hold: what its writer is given, and what it requires of that.
 -- Assumes nothing.
 use Prim.Native.Nat.{ℕ, _^_, _<_, _≤_}
 use mathlib.Core.Path.{_≡_}
@@ -10,7 +10,7 @@ use Rattle.papers.specs.Key.{listsOf}
 use Rattle.papers.specs.Plan.{Plan}
 use Rattle.papers.specs.Refusals.{passed, first, startsTest, rowsTest, jobTests}
 
--- the steps whose columns and pops stand in two lists
+-- pairs the columns and the pops of two lists to steps
 unfoldable pub stepsIn : List ℕ → List ℕ → List (ℕ × ℕ)
 stepsIn [] pops = []
 stepsIn (j ∷ order) [] = []
@@ -20,13 +20,13 @@ stepsIn (j ∷ order) (p ∷ pops) = (j, p) ∷ stepsIn order pops
 abbrev pub planIn : ℕ → List ℕ → List ℕ → List ℕ → List ℕ → ℕ → Plan
 planIn n order pops starts rows peak = record { steps = stepsIn order pops; lists = listsOf n (columnOf starts rows); peak = peak }
 
--- the steps can be written from `at` on: each has its pops, and they are no more than there may be columns
+-- the steps can be written from `at` on: each has its pops, and they do not exceed the greatest number of columns
 pub record StepsNear (order pops : List ℕ) (at : ℕ) : Type 0 where
   pub paired : length order ≤ length pops
   pub few : length order ≤ maxColumns
   pub near : at < 2 ^ 59
 
--- what can be written as a plan of a job: a step for each column, lists that pass 4 to 6, and a peak that a plan may declare
+-- what a plan of a job is written from: a step for each column, lists that pass 4 to 6, and a peak that a plan may declare
 pub record Writable (job : Job) (order pops starts rows : List ℕ) (peak : ℕ) : Type 0 where
   pub passes : first jobTests job ≡ passed
   pub all-steps : length order ≡ job .n

@@ -1,4 +1,4 @@
--- Bytes that do not fit a lent slice are refused with their number; bytes that fit stand in it, then zeros.
+-- Proves that bytes too many for a lent slice are refused with their number, and that bytes that fit are at its front, then zeros.
 -- Assumes nothing.
 use Prim.Native.Nat.{ℕ, _-_, _<_, _≤_}
 use mathlib.Core.Path.{_≡_, sym, ap, _∙_}
@@ -30,7 +30,7 @@ module _ (written bytes : List ℕ) where
       outcome-done _ _ zeros bytes bytes (first-last (bytesTest written) bytes ∙ over-passes-iff (length bytes) (length written)
       (answer 10 0 (length written)) zeroed .1 h)
 
--- ---- bytes written from the front on: the slice has their first places, and `needed` is how many they are
+-- ---- bytes written from the front on: the slice holds as many as fit, and `needed` counts them all
 
 module _ (written before : List ℕ) {entry : List ℕ} {needed : ℕ} (w : Wrote written before entry 0 needed) where
   counted : needed ≡ length written
@@ -39,13 +39,13 @@ module _ (written before : List ℕ) {entry : List ℕ} {needed : ℕ} (w : Wrot
   same-places : length entry ≡ length before
   same-places = wrote-long w
 
-  -- they do not all have a place
+  -- the bytes do not all fit
   pub finished-short : length entry < needed → {r : Answer} {after : List ℕ} → r ≡ answer 10 0 needed → after ≡ zeros entry
       → _≡_ {A = Outcome (List ℕ)} (record { answer = r; lent = after }) (stored written before)
   finished-short h a z = rw (a, z, same-places, counted) (sym (short-is written before (omega (arith, same-places, counted))))
 
   module _ (h : needed ≤ length entry) where
-    -- the places behind them are cleared
+    -- clears the places behind them
     pub finished-whole : {r : Answer} {rest : List ℕ} → r ≡ answer 0 0 needed → rest ≡ zeros (take (length entry - needed) (drop needed entry))
         → _≡_ {A = Outcome (List ℕ)} (record { answer = r; lent = take needed entry ++ (rest ++ drop (length entry - needed) (drop needed entry)) })
         (stored written before)

@@ -1,5 +1,5 @@
--- `analysis::analyse` meets its contract: the tests come in the order of their numbers. A job that fails one of 1 to 6 is answered by its fault, and
--- slices that are too short by 7; else the answer is that of the plan that is made, and what a refusal left in the slices is cleared.
+-- Proves that `analyse` makes its tests in the order of their numbers. A job that fails one of 1 to 6 is answered by its fault, and short slices by
+-- 7; else the answer is that of making the plan, and a refusal clears the slices.
 -- Assumes nothing.
 use mathlib.Core.Path.{_≡_, sym, _∙_}
 use native.Mathlib.Omega.{arith}
@@ -33,11 +33,11 @@ long c = c
 abbrev made : tie.After-planned → tie.After-planned
 made c = c
 
--- it is refused
+-- the plan is refused
 abbrev refused : tie.Then3 → tie.Then3
 refused c = c
 
--- what the refusal left is cleared
+-- the slices are cleared after the refusal
 abbrev cleared : tie.After-clear-all → tie.After-clear-all
 cleared c = c
 
@@ -98,7 +98,7 @@ analyse-spec =
     (λ c. omega (arith, cleared (search) .clear-all .kept, made₁ (search) .planned .kept))
     (λ c. omega (arith, cleared (search) .clear-all .kept, made₁ (search) .planned .kept))
     returns-3
-    -- done, and again
+    -- done: the slices are as long as they were
     (λ c. omega (arith, made (search) .planned .kept))
     (λ c. omega (arith, made (search) .planned .kept))
     (λ c. omega (arith, made (search) .planned .kept))

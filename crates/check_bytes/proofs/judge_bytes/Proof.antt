@@ -1,5 +1,5 @@
--- Where the plan's bytes do not begin with the key, the answer is 11. Else what stands behind the key is read into the cleared slices and judged
--- there; each way it may go is one way that the tests of the papers may go (`Rules`).
+-- Proves that `judge_bytes` answers right: 11 if the plan's bytes do not begin with the key; else the bytes behind the key are read into the cleared
+-- slices and judged. Each way out is one way through the papers' tests (`Rules`).
 -- Assumes nothing.
 use Prim.Native.Nat.{ℕ}
 use mathlib.Core.Path.{refl, sym, _∙_}
@@ -70,7 +70,7 @@ returns c = ruled-key (entry (search) .pre) (matched (search) .match-key .ensure
 read-plan-requires : tie.Need-read-plan-requires
 read-plan-requires c κs = plan-asked (begun (search)) (cleared (search) .clear-all .ensures)
 
--- What was read can be judged where it stands.
+-- What was read can be judged in its slices.
 judge-reading-requires : tie.Need-judge-reading-requires
 judge-reading-requires c κs =
     let kept = read (search) .read-plan .kept in
@@ -83,7 +83,7 @@ judge-reading-requires c κs =
       work = refl;
     })
 
--- What followed is known of the check.
+-- The answer that followed decides the check.
 returns-2 : tie.Need-returns-2
 returns-2 c =
     ruled (begun (begins-before (search))) (cleared-before (search) .clear-all .ensures) (read (search) .read-plan .ensures)

@@ -1,5 +1,5 @@
--- A fault that the reading found is the answer. Of a plan that was read, rows without room are 8; else the slices hold it, and its judgement is the
--- answer.
+-- Proves that `judge_reading` answers the fault that the reading found. If the plan was read but its rows do not fit, it answers 8; else the slices
+-- hold the plan, and its judgement is the answer.
 -- Assumes nothing.
 use borrow.Author.Needs.{needs}
 use native.Mathlib.Omega.{arith}

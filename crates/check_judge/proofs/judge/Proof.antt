@@ -1,4 +1,5 @@
--- 16 and 17 decide, or leave a plan whose order has each column once and whose lists are R, with the job's parents, to the tests of the tree.
+-- Proves that `judge` answers right: 16 or 17 decides; else the order names each column once and the lists are R with the job's parents, so the tests
+-- of the tree decide.
 -- Assumes nothing.
 use mathlib.Core.Path.{_≡_, refl}
 use native.Mathlib.Omega.{arith}
@@ -36,7 +37,7 @@ judged c = c
 abbrev entry₁ : tie.After-first-repeat → tie.Start
 entry₁ c = search
 
--- ---- what the tests so far have passed, of any plan that stands in the slices
+-- ---- what the tests passed so far say of any plan that the slices hold
 
 abbrev begun : tie.Else1 → tie.Start
 begun c = search

@@ -1,5 +1,5 @@
--- Each test that is made decides or leaves it to the next, and what has passed is what the next one asks: in an order with whole subtrees and
--- the right pops no step takes off more than is held.
+-- Proves that `judge_tree` answers right: each test refuses, or its passing gives what the next one requires. In an order with whole subtrees and
+-- right pops no step pops more than is held.
 -- Assumes nothing.
 use mathlib.Core.Path.{_≡_}
 use native.Mathlib.Omega.{arith}
@@ -31,7 +31,7 @@ measured c = c
 abbrev past-20 : tie.Else3 → tie.Else3
 past-20 c = c
 
--- ---- what the tests so far have passed, of any plan that stands in the slices
+-- ---- what the tests passed so far say of any plan that the slices hold
 
 abbrev begun : tie.Else1 → tie.Start
 begun c = search

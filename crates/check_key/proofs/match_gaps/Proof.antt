@@ -1,4 +1,4 @@
--- The loop's invariant: the gaps of the rows before i are there, so those left are held against what follows at k. The measure is the rows left.
+-- Proves that `match_gaps` compares all gaps: those of the rows before i agree, so the others are compared from k on. Each turn leaves one row less.
 -- Assumes nothing.
 use Prim.Native.Nat.{ℕ, _-_}
 use mathlib.Core.List.{List}
@@ -11,7 +11,7 @@ use Rattle.check_key.proofs.Numbers.{Left, left-all, left-number, diffe
 use Rattle.check_key.proofs.match_gaps.Statement.{statement}
 use Rattle.check_key.proofs.match_gaps.Tie as tie
 
--- the gaps of the rows before i are there, up to k
+-- the gaps of the rows before i agree, up to k
 record Gaps (plan : List ℕ) (at : ℕ) (rows : List ℕ) (from to j k before i : ℕ) : Type 0 where
   left : RowsLeft rows to before i
   found : Left (gapsOf j (slice from to rows)) plan at (gapsOf before (slice i to rows)) k

@@ -1,4 +1,4 @@
--- The loop's invariant: the first i bytes of the number are there, so what is left to find is what was to find. The measure is how many are left.
+-- Proves that `match_groups` compares all bytes of a number: the first i agree, so the others decide. Each turn leaves one byte less.
 -- Assumes nothing.
 use Prim.Native.Nat.{_-_, _<_}
 use mathlib.Core.Path.{sym, _∙_}

@@ -1,4 +1,4 @@
--- Edition and n, then mark and limit, then the lists: the first byte of these that is not there is the one that refusal 11 names.
+-- Proves that `match_key` compares edition and n, then mark and limit, then the lists: the first byte that differs is the one that refusal 11 names.
 -- Assumes nothing.
 use native.Mathlib.Omega.{arith}
 use borrow.Author.Needs.{needs}

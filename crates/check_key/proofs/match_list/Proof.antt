@@ -1,4 +1,4 @@
--- A list's numbers are its count and, behind it, its gaps: where the count is there, the gaps are held against what follows it.
+-- Proves that `match_list` compares a list: its count and, if that agrees, the gaps with what follows it.
 -- Assumes nothing.
 use borrow.Author.Needs.{needs}
 use Rattle.write_lists.proofs.Counted.{list-is}

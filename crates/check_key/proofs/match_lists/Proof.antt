@@ -1,5 +1,5 @@
--- The loop's invariant: the lists of the first `done` columns are there, so those left are held against what follows at k. The measure is the columns
--- left.
+-- Proves that `match_lists` compares all lists: those of the first `done` columns agree, so the others are compared from k on. Each turn leaves one
+-- column less.
 -- Assumes nothing.
 use Prim.Native.Nat.{ℕ, _-_, _≤_}
 use mathlib.Core.List.{List}
@@ -13,7 +13,7 @@ use Rattle.check_key.proofs.Numbers.{Left, left-all, left-numbers, diff
 use Rattle.check_key.proofs.match_lists.Statement.{statement}
 use Rattle.check_key.proofs.match_lists.Tie as tie
 
--- the lists of the first `done` columns are there, up to k
+-- the lists of the first `done` columns agree, up to k
 record Columns (n : ℕ) (starts rows plan : List ℕ) (at k done : ℕ) : Type 0 where
   few : n ≤ maxColumns
   lists : PassedLists n starts rows

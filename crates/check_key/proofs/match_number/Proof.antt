@@ -1,4 +1,4 @@
--- A number below 128 is one byte, which is there; anything else is left to the comparison of all its bytes.
+-- Proves that `match_number` compares a number: one below 128 is a single byte, which it compares at once; of any other it compares all bytes.
 -- Assumes nothing.
 use mathlib.Core.Path.{sym, _∙_}
 use borrow.Author.Needs.{needs}

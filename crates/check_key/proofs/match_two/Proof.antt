@@ -1,4 +1,4 @@
--- Where the first number differs, the two do; where it is there, the second is held against what follows it.
+-- Proves that `match_two` compares two numbers: if the first differs, that decides; if it agrees, the second is compared with what follows it.
 -- Assumes nothing.
 use mathlib.Core.Path.{refl, sym, _∙_}
 use borrow.Author.Needs.{needs}

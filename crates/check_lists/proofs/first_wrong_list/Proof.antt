@@ -1,5 +1,5 @@
--- `check_lists::first_wrong_list` meets its contract: the lists of the columns up to m are right, so the next one can be held against R(m + 1); if it
--- is another, it is the first that is wrong. The measure is what is left of the columns.
+-- Proves that `first_wrong_list` finds the first wrong list: those of the columns up to m are right, so the next can be compared with R(m + 1), and
+-- if it differs it is the first. Each turn leaves one column less.
 -- Assumes nothing.
 use Prim.Native.Nat.{_-_}
 use native.Mathlib.Omega.{arith}
@@ -28,18 +28,18 @@ at-loop c = c
 abbrev in-loop : tie.In-loop Inv-loop μ-loop → tie.In-loop Inv-loop μ-loop
 in-loop c = c
 
--- the list is at hand
+-- the list is taken as a part
 abbrev read : tie.After-pattern-rows Inv-loop μ-loop → tie.After-pattern-rows Inv-loop μ-loop
 read c = c
 
 abbrev compared : tie.After-is-right Inv-loop μ-loop → tie.After-is-right Inv-loop μ-loop
 compared c = c
 
--- it is right
+-- the list is right
 abbrev right : tie.Else1 Inv-loop μ-loop → tie.Else1 Inv-loop μ-loop
 right c = c
 
--- its least row, the parent, is at hand
+-- its least row, the parent, is read
 abbrev named : tie.After-least Inv-loop μ-loop → tie.After-least Inv-loop μ-loop
 named c = c
 

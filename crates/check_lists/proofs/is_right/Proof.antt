@@ -1,5 +1,5 @@
--- `check_lists::is_right` meets its contract: without a child R(m + 1) is the pattern rows; with one child it is what that hands on, joined with the
--- pattern rows, so a list that begins with the one need only add the other; any other list is judged by the marks of all its rows.
+-- Proves that `is_right` tests a list against R(m + 1). With one child, a list that begins with what the child hands on need only add the pattern
+-- rows; any other list is tested by the marks of its rows.
 -- Assumes nothing.
 use native.Mathlib.Omega.{arith}
 use borrow.Author.Needs.{needs}
@@ -12,7 +12,7 @@ use Rattle.check_lists.proofs.is_right.Tie as tie
 abbrev entry : tie.Start → tie.Start
 entry c = c
 
--- the pattern rows are at hand
+-- the pattern rows are taken as a part
 abbrev given : tie.After-pattern-rows → tie.After-pattern-rows
 given c = c
 
@@ -20,7 +20,7 @@ given c = c
 abbrev parental : tie.Else1 → tie.Else1
 parental c = c
 
--- it has one child
+-- the column has one child
 abbrev single : tie.Then2 → tie.Then2
 single c = c
 

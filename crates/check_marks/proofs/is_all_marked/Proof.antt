@@ -1,5 +1,5 @@
--- `check_marks::is_all_marked` meets its contract: just the rows of R(m + 1) are marked and counted. A list with more rows or fewer is another; one
--- with as many is R(m + 1) just where all of its rows are marked.
+-- Proves that `is_all_marked` tests a list against R(m + 1): exactly the rows of R(m + 1) are marked and counted. A list with another number of rows
+-- differs; one with as many is R(m + 1) exactly if all its rows are marked.
 -- Assumes nothing.
 use mathlib.Core.Path.{_∙_}
 use native.Mathlib.Omega.{arith}

@@ -1,5 +1,5 @@
--- `check_marks::mark_column` meets its contract: what is marked and what the children left hand on make the column's list, and as many rows are
--- counted as are marked. The measure is the next child, since the chain descends.
+-- Proves that `mark_column` marks and counts R(m + 1): the marked rows and what the children left hand on make the list, and the count is the number
+-- of marked rows. Each turn the next child falls, since the chain descends.
 -- Assumes nothing.
 use Prim.Native.Nat.{_+_, _<_}
 use native.Mathlib.Omega.{arith}
@@ -22,11 +22,11 @@ abbrev μ-loop : tie.MeasureT-loop
 abbrev entry : tie.Start Inv-loop μ-loop → tie.Start Inv-loop μ-loop
 entry c = c
 
--- the pattern rows are at hand
+-- the pattern rows are taken as a part
 abbrev given : tie.After-pattern-rows Inv-loop μ-loop → tie.After-pattern-rows Inv-loop μ-loop
 given c = c
 
--- they are marked and counted
+-- the pattern rows are marked and counted
 abbrev begun : tie.After-mark-new Inv-loop μ-loop → tie.After-mark-new Inv-loop μ-loop
 begun c = c
 
@@ -36,11 +36,11 @@ at-loop c = c
 abbrev in-loop : tie.In-loop Inv-loop μ-loop → tie.In-loop Inv-loop μ-loop
 in-loop c = c
 
--- what child c hands on is at hand
+-- the rows that child c hands on are taken as a part
 abbrev handed : tie.After-handed-on Inv-loop μ-loop → tie.After-handed-on Inv-loop μ-loop
 handed c = c
 
--- it is marked and counted
+-- these rows are marked and counted
 abbrev counted : tie.After-mark-new2 Inv-loop μ-loop → tie.After-mark-new2 Inv-loop μ-loop
 counted c = c
 

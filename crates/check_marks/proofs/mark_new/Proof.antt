@@ -1,4 +1,5 @@
--- `check_marks::mark_new` meets its contract: the rows left bring as many new ones as are still to be counted. The measure is what is left.
+-- Proves that `mark_new` marks a list and counts its new rows: those counted and the new ones among the rows left are all. Each turn leaves one row
+-- less.
 -- Assumes nothing.
 use Prim.Native.Nat.{_+_, _-_, _<_}
 use native.Mathlib.Omega.{arith}
@@ -28,7 +29,7 @@ in-loop c = c
 abbrev start : tie.In-loop Inv-loop μ-loop → tie.Start Inv-loop μ-loop
 start c = search
 
--- the mark of the row at k has its place in work
+-- work has the place of the mark of the row at k
 place : (c : tie.In-loop Inv-loop μ-loop) → start c .args .n + start c .args .n + getD (now (start c .args .list)) (c .before .loop .k) 0
     < length (now (start c .args .work))
 place c = mark-place (start c .pre .markable) _ (c .loop-test .taken)

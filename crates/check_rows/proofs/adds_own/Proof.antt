@@ -1,5 +1,5 @@
--- `check_rows::adds_own` meets its contract: once the pattern rows are marked, as many rows of the list are marked as there are pattern rows, or
--- not; where they are, it is decided by the rows behind p.
+-- Proves that `adds_own` tests whether a list adds exactly the pattern rows: it marks them, and counts how many rows of the list are marked. If that
+-- is their number, the rows behind place p decide.
 -- Assumes nothing.
 use mathlib.Core.Path.{sym, ap, _∙_}
 use borrow.Author.Needs.{needs}

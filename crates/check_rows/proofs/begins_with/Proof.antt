@@ -1,4 +1,4 @@
--- `check_rows::begins_with` meets its contract: the front of the list is as long as the other list and the same.
+-- Proves that `begins_with` tests whether a list begins with another: it compares the list's front, if the list is that long, with the other list.
 -- Assumes nothing.
 use mathlib.Core.Path.{refl, sym, _∙_}
 use lib.Seq.{length-take-le}

@@ -1,4 +1,4 @@
--- `check_rows::count_marked` meets its contract: count, and the marked rows among those left, are all of them. The measure is what is left.
+-- Proves that `count_marked` counts the marked rows: the count and the marked rows among those left make them all. Each turn leaves one row less.
 -- Assumes nothing.
 use Prim.Native.Nat.{_+_, _-_, _<_}
 use native.Mathlib.Omega.{arith}
@@ -31,7 +31,7 @@ in-loop c = c
 abbrev start : tie.In-loop Inv-loop μ-loop → tie.Start Inv-loop μ-loop
 start c = search
 
--- the mark of the row at k has its place in work
+-- work has the place of the mark of the row at k
 place : (c : tie.In-loop Inv-loop μ-loop) → start c .args .n + start c .args .n + getD (now (start c .args .list)) (c .before .loop .k) 0
     < length (now (start c .args .work))
 place c = mark-place (start c .pre) _ (c .loop-test .taken)

@@ -1,4 +1,4 @@
--- `check_rows::same_rows` meets its contract: where no difference was seen, what is left decides. The measure is what is left.
+-- Proves that `same_rows` tests whether two lists are equal: while no difference is seen, the rows left decide. Each turn leaves one row less.
 -- Assumes nothing.
 use Prim.Native.Nat.{_-_}
 use native.Mathlib.Omega.{arith}

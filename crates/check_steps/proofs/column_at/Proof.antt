@@ -1,4 +1,4 @@
--- A column of the list is at most as high as the list is long.
+-- Proves that `column_at` reads a known column, since no column of the list is above the list's length.
 -- Assumes nothing.
 use mathlib.Core.Path.{refl}
 use native.Mathlib.Omega.{arith}

@@ -1,4 +1,5 @@
--- The loop's invariant: just the columns of the first i steps are marked, and none of them stood twice. The measure is how many are left.
+-- Proves that `first_repeat` finds the first repeat: exactly the columns of the first i steps are marked, and none of them occurs twice. Each turn
+-- leaves one step less.
 -- Assumes nothing.
 use Prim.Native.Nat.{_-_}
 use mathlib.Core.Path.{sym}

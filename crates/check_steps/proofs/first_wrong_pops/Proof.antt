@@ -1,4 +1,5 @@
--- The loop's invariant: work has the numbers of children, and the pops of the first i steps agree with them. The measure is how many are left.
+-- Proves that `first_wrong_pops` finds the first step with wrong pops: work holds the numbers of children, and the pops of the first i steps agree
+-- with them. Each turn leaves one step less.
 -- Assumes nothing.
 use Prim.Native.Nat.{_-_}
 use mathlib.Core.Path.{sym}

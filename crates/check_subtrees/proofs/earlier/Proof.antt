@@ -1,4 +1,4 @@
--- Each way out is a case of the definition.
+-- Proves that `earlier` gives the lesser step, since each way out is a case of the definition.
 -- Assumes nothing.
 use native.Mathlib.Omega.{arith}
 use Rattle.check_subtrees.proofs.Earliest.{earlier-left, earlier-right, earlier-least}

@@ -1,4 +1,5 @@
--- The two parts of work come back one after the other, and the columns are judged by them.
+-- Proves that `first_scattered` finds the first scattered subtree: the two parts of work come back one after the other, and the columns are judged by
+-- them.
 -- Assumes nothing.
 use mathlib.Core.Path.{sym}
 use native.Mathlib.Omega.{arith}

@@ -1,4 +1,4 @@
--- The loop's invariant: the least stray step of the first i columns is found. The measure is how many columns are left.
+-- Proves that `first_stray` finds the least stray step, since it keeps the least of the first i columns. Each turn leaves one column less.
 -- Assumes nothing.
 use Prim.Native.Nat.{_-_}
 use lib.ListN.{length}

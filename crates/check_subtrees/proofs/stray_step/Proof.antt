@@ -1,4 +1,5 @@
--- Each way out is a case of the definition; steps and counts are at most as many as there may be columns, so no sum is too great.
+-- Proves that `stray_step` answers by the definition, a case for each way out. Steps and counts are no greater than the number of columns, so every
+-- sum fits.
 -- Assumes nothing.
 use mathlib.Core.Logic.{⊎-elim}
 use native.Mathlib.Omega.{arith}
@@ -22,7 +23,7 @@ in-time c = c
 abbrev given : tie.Else1 → tie.Start
 given c = search
 
--- the parent has its places, and no sum is too great
+-- the parent's places are within the slices, and every sum fits
 fitting : (c : tie.Else1)
     → Fitting (now (given c .args .parents)) (now (given c .args .steps)) (now (given c .args .below)) (given c .args .i)
 fitting c = sums-fit _ _ _ _ (given c .pre) (c .if1 .left)

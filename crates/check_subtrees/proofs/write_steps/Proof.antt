@@ -1,5 +1,5 @@
--- No column has two steps, so a step once written stays. The loop's invariant: the first k steps are written; the measure is how many are
--- left.
+-- Proves that `write_steps` writes the step of each column: no column has two steps, so a step once written stays. The first k steps are written;
+-- each turn leaves one step less.
 -- Assumes nothing.
 use Prim.Native.Nat.{_-_}
 use native.Mathlib.Omega.{arith}

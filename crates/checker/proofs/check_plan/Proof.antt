@@ -1,4 +1,5 @@
--- A refused job and a short slice are ways of their own; every other way is a ruling, after which the slices are cleared, or work alone.
+-- Proves that `check_plan` answers right: a refused job and a short slice each end it at once; in every other case the tests decide, and then it
+-- clears all slices, or work alone.
 -- Assumes nothing.
 use mathlib.Core.Path.{sym, _∙_}
 use borrow.Author.Needs.{needs}

@@ -1,4 +1,4 @@
--- `child_lists::covered` meets its contract: the rows left are all marked just where all are. The measure is what is left.
+-- Proves that `covered` tests whether all rows are marked, since the rows passed are, so those left decide. Each turn leaves one row less.
 -- Assumes nothing.
 use Prim.Native.Nat.{_+_, _-_, _<_}
 use native.Mathlib.Omega.{arith}
@@ -27,7 +27,7 @@ in-loop c = c
 abbrev start : tie.In-loop Inv-loop μ-loop → tie.Start Inv-loop μ-loop
 start c = search
 
--- the mark of the row at k has its place in work
+-- work has the place of the mark of the row at k
 place : (c : tie.In-loop Inv-loop μ-loop) → start c .args .n + start c .args .n + getD (now (start c .args .list)) (c .before .loop .k) 0
     < length (now (start c .args .work))
 place c = mark-place (start c .pre) _ (c .loop-test .taken)

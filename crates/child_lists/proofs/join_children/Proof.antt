@@ -1,5 +1,5 @@
--- `child_lists::join_children` meets its contract: what is held and what the children left hand on make the whole list; a child all of whose rows are
--- marked brings none, since what is marked is held. The measure is the next child, since the chain descends.
+-- Proves that `join_children` makes the whole list of the held rows and what the children hand on. It may skip a child whose rows are all marked,
+-- since every marked row is held. Each turn c falls, since the chain descends.
 -- Assumes nothing.
 use Prim.Native.Nat.{_+_, _<_}
 use mathlib.Core.Path.{sym, _∙_}
@@ -30,7 +30,7 @@ in-loop c = c
 abbrev handed : tie.After-handed-on Inv-loop μ-loop → tie.After-handed-on Inv-loop μ-loop
 handed c = c
 
--- it is known whether all its rows are marked
+-- the test whether all its rows are marked was made
 abbrev tested : tie.After-covered Inv-loop μ-loop → tie.After-covered Inv-loop μ-loop
 tested c = c
 

@@ -1,4 +1,4 @@
--- `child_lists::join_rows` meets its contract: the list of one buffer and further rows are joined into the other buffer, whose turn it then is.
+-- Proves that `join_rows` joins the list of one buffer and further rows into the other buffer, which is then next in turn.
 -- Assumes nothing.
 use mathlib.Core.Path.{sym}
 use lib.Seq.{length-take-le}
@@ -11,11 +11,11 @@ use Rattle.child_lists.proofs.join_rows.Tie as tie
 abbrev entry : tie.Start → tie.Start
 entry c = c
 
--- it is the second buffer's turn
+-- the second buffer is next in turn
 abbrev second : tie.Else1 → tie.Else1
 second c = c
 
--- it is the first buffer's turn
+-- the first buffer is next in turn
 abbrev first : tie.Then1 → tie.Then1
 first c = c
 

@@ -1,4 +1,4 @@
--- `child_lists::mark` meets its contract: marking the rows left gives what marking all gives. The measure is what is left.
+-- Proves that `mark` marks every row of the list, since marking the rows left completes what was marked. Each turn leaves one row less.
 -- Assumes nothing.
 use Prim.Native.Nat.{_+_, _-_, _<_}
 use native.Mathlib.Omega.{arith}
@@ -24,7 +24,7 @@ at-loop c = c
 abbrev start : tie.In-loop Inv-loop μ-loop → tie.Start Inv-loop μ-loop
 start c = search
 
--- the mark of the row at k has its place in work
+-- work has the place of the mark of the row at k
 place : (c : tie.In-loop Inv-loop μ-loop) → start c .args .n + start c .args .n + getD (now (start c .args .list)) (c .before .loop .k) 0
     < length (now (start c .args .work))
 place c = mark-place (start c .pre) _ (c .loop-test .taken)

@@ -1,5 +1,5 @@
--- `column_list::gather` meets its contract. R(m + 1) is made of the column's pattern rows and of what its children hand on: without a child it is
--- the pattern rows; else these are joined with what the longest child hands on, and, where there are more children, with what those hand on.
+-- Proves that `gather` leaves R(m + 1) in a buffer. Without a child it copies the pattern rows; else it joins them with what the longest child hands
+-- on, and then with what the other children hand on.
 -- Assumes nothing.
 use Prim.Native.Nat.{ℕ}
 use mathlib.Core.Path.{refl, sym}
@@ -16,7 +16,7 @@ use Rattle.column_list.proofs.gather.Tie as tie
 abbrev entry : tie.Start → tie.Start
 entry c = c
 
--- the pattern rows are at hand
+-- the pattern rows are taken as a part
 abbrev given : tie.After-pattern-rows → tie.After-pattern-rows
 given c = c
 
@@ -24,11 +24,11 @@ given c = c
 abbrev childless : tie.Then1 → tie.Then1
 childless c = c
 
--- its pattern rows are copied to x
+-- the pattern rows are copied to x
 abbrev copied : tie.After-copy-at → tie.After-copy-at
 copied c = c
 
--- it has children
+-- the column has children
 abbrev parental : tie.Else1 → tie.Else1
 parental c = c
 
@@ -36,7 +36,7 @@ parental c = c
 abbrev picked : tie.After-longest → tie.After-longest
 picked c = c
 
--- what it hands on and the pattern rows are joined in x
+-- the rows that it hands on and the pattern rows are joined in x
 abbrev united : tie.After-unite → tie.After-unite
 united c = c
 

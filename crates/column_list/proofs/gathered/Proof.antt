@@ -1,4 +1,4 @@
--- `column_list::gathered` meets its contract: the list stands in the buffer whose turn it is.
+-- Proves that `gathered` gives the list that was gathered: the front of the buffer that is next in turn.
 -- Assumes nothing.
 use mathlib.Core.Path.{sym, ap}
 use lib.ListN.{take}

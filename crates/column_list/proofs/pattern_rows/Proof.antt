@@ -1,4 +1,4 @@
--- `column_list::pattern_rows` meets its contract: the rows of a column are the part between its two starts.
+-- Proves that `pattern_rows` gives a column's rows: the part between its start and the next one.
 -- Assumes nothing.
 use native.Mathlib.Omega.{arith}
 use Rattle.column_laws.proofs.Columns.{column-part}

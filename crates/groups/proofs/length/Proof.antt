@@ -1,4 +1,5 @@
--- Below 128 a number is its one byte. A number of m binary digits has m / 7 groups, rounded up, and at least one; 64 less the leading zeros is m.
+-- Proves that `length` counts the groups: a number below 128 is one byte, and a number of m bits has m / 7 groups, rounded up. 64 less the leading
+-- zeros is m.
 -- Assumes nothing.
 use mathlib.Core.Path.{refl}
 use native.Mathlib.Omega.{arith}

@@ -1,5 +1,5 @@
--- The groups of what is left, stored from count on, make the bytes of x: this holds at first, and each turn stores the low group. The measure is
--- what is left.
+-- Proves that `number` makes the bytes of x, since the groups left, stored from count on, complete them, and each turn stores the low group. Each
+-- turn makes the rest smaller.
 -- Assumes nothing.
 use Prim.Native.Nat.{_<_}
 use native.Mathlib.Omega.{arith}
@@ -20,7 +20,7 @@ abbrev μ-loop : tie.MeasureT-loop
 abbrev entry : tie.Start Inv-loop μ-loop → tie.Start Inv-loop μ-loop
 entry c = c
 
--- the next group finds a place in the array
+-- the array has a place for the next group
 room : (c : tie.At-loop Inv-loop μ-loop) → c .loop .count < maxGroups
 room c = omega (arith, inside (c .loop .inv), bytes-length (entry (search) .args .x))
 

@@ -1,5 +1,5 @@
--- The tests are made in their order, and the answer is that of the first that refuses: those before it pass, so the first of all is the first of
--- those that are left.
+-- Proves that `first_fault` answers the first test that refuses: it makes the tests in their order, and those before it pass, so the first of those
+-- left is the first of all.
 -- Assumes nothing.
 use Prim.Native.Nat.{_<_, _≤_}
 use mathlib.Core.Path.{_≡_, ap, sym, _∙_}
@@ -16,7 +16,7 @@ use Rattle.job_rows.proofs.Started.{started}
 use Rattle.job.proofs.first_fault.Statement.{statement}
 use Rattle.job.proofs.first_fault.Tie as tie
 
--- the tests of a job's lists: those behind the tests of its numbers
+-- the tests of a job's lists, which follow the tests of its numbers
 abbrev list-tests : List (Job → Verdict)
 list-tests = (λ job. startsTest (job .n) (job .starts) (job .rows)) ∷ (λ job. rowsTest (job .n) (job .starts) (job .rows)) ∷ []
 

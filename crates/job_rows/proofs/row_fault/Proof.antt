@@ -1,4 +1,4 @@
--- The tests are those of `rowFault`, in the same order.
+-- Proves that `row_fault` answers what `rowFault` defines, since it makes the same tests in the same order.
 -- Assumes nothing.
 use mathlib.Core.Path.{sym}
 use mathlib.Core.Logic.{⊎-elim}

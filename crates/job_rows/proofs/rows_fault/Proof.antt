@@ -1,5 +1,5 @@
--- The columns before the one at hand are without fault, and so are its rows before i: the first row at fault is then the one that is found next,
--- and where none is found none is at fault.
+-- Proves that `rows_fault` finds the first row at fault: neither the columns passed nor the rows before i have a fault, so the next fault found is
+-- the first, and if none is found there is none.
 -- Assumes nothing.
 use borrow.Author.Needs.{needs}
 use Prim.Native.Nat.{_-_}

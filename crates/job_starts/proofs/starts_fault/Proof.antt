@@ -1,5 +1,5 @@
--- No start of the first `done` columns falls: so the first that does is found where the next column ends before it begins, and at the end only the
--- last start is left to test.
+-- Proves that `starts_fault` finds the first fault: no start of the first `done` columns falls, so the next column that ends before it begins is the
+-- first. After all columns only the last start is left to test.
 -- Assumes nothing.
 use borrow.Author.Needs.{needs}
 use Prim.Native.Nat.{_-_}

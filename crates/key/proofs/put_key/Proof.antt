@@ -1,5 +1,5 @@
--- Behind each number so much of the key is left; behind the lists nothing is. The places stay near, since the key has not too many numbers, and each
--- has few bytes.
+-- Proves that `put_key` writes the key number by number: behind each, a known rest is left, and behind the lists nothing. The places stay small,
+-- since a key has few enough numbers and each has few bytes.
 -- Assumes nothing.
 use native.Mathlib.Omega.{arith}
 use borrow.Author.Needs.{needs}

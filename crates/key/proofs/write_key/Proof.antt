@@ -1,4 +1,4 @@
--- A law for each way out: a refused job, and the key stored.
+-- Proves that `write_key` answers right: one law covers a refused job, and one a stored key.
 -- Assumes nothing.
 use mathlib.Core.Path.{refl, sym, _∙_}
 use borrow.Author.Needs.{needs}

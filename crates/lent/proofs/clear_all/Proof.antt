@@ -1,4 +1,4 @@
--- `lent::clear_all` meets its contract: six slices cleared one by one are the six cleared.
+-- Proves that `clear_all` clears the six slices, since it clears each of them in turn.
 -- Assumes nothing.
 use Rattle.lent.proofs.Sixes.{all-cleared}
 use borrow.Author.Needs.{needs}

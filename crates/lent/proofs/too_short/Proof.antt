@@ -1,4 +1,4 @@
--- `lent::too_short` meets its contract: each test that holds makes the slices too short; where the first four fail, the last decides.
+-- Proves that `too_short` tests the lengths: each test that holds makes the slices too short, and if the first four fail, the last decides.
 -- Assumes nothing.
 use Rattle.lent.proofs.Shorts.{short-parents, short-order, short-pops, short-starts, short-work}
 use borrow.Author.Needs.{needs}

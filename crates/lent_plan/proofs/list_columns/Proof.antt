@@ -1,5 +1,5 @@
--- `lent_plan::list_columns` meets its contract: the slices are long enough for the column lists, whose buffers are the fronts of order and pops;
--- where all columns are done, what lies behind the lists and the fronts is cleared.
+-- Proves that `list_columns` writes the column lists: the slices are long enough, and the fronts of order and pops serve as buffers. If all columns
+-- are done, it clears the places behind the lists and the fronts.
 -- Assumes nothing.
 use native.Mathlib.Omega.{arith}
 use lib.ListN.{length-append}

@@ -1,4 +1,4 @@
--- The order works in the front of order and pops; work is cleared after it.
+-- Proves that `order_columns` writes the order and its pops in the front of their slices, and clears work after it.
 -- Assumes nothing.
 use mathlib.Core.Path.{sym}
 use lib.Seq.{length-take-le}

@@ -1,5 +1,5 @@
--- `lent_plan::planned` meets its contract: there is a law for each way out. The rows needed exceed the slice, the peak is over the limit, or the plan
--- is held. Every call keeps the lengths of the slices.
+-- Proves that `planned` makes the plan or refuses: a law covers each way out, with too many rows, with a peak over the limit, and with the plan made.
+-- Every call keeps the lengths of the slices.
 -- Assumes nothing.
 use native.Mathlib.Omega.{arith}
 use borrow.Author.Needs.{needs}
@@ -18,7 +18,7 @@ listed c = c
 abbrev short : tie.Then1 → tie.Then1
 short c = c
 
--- they are counted
+-- the rows needed are counted
 abbrev counted : tie.After-rows-needed → tie.After-rows-needed
 counted c = c
 
@@ -81,7 +81,7 @@ planned-spec =
     (λ c. omega (arith, listed (search) .list-columns .kept))
     (λ c. omega (arith, counted (search) .rows-needed .kept, listed (search) .list-columns .kept))
     returns
-    -- 9, and again
+    -- 9; the six slices are as long as they were
     order-columns-requires
     (λ c κs. tt)
     (λ c. omega (arith, listed (search) .list-columns .kept))
@@ -91,7 +91,7 @@ planned-spec =
     (λ c. omega (arith, listed (search) .list-columns .kept))
     (λ c. omega (arith, ordered (search) .order-columns .kept, listed (search) .list-columns .kept))
     returns-2
-    -- done, and again
+    -- done; the six slices are as long as they were
     (λ c κs. tt)
     (λ c. omega (arith, listed (search) .list-columns .kept))
     (λ c. omega (arith, ordered (search) .order-columns .kept, listed (search) .list-columns .kept))

@@ -1,4 +1,5 @@
--- `linked_children::handed_on` meets its contract: the part begins one behind the column's start, since the least row, the parent, is not handed on.
+-- Proves that `handed_on` gives the rows that a column hands on: the part begins one place behind the column's start, since the least row is the
+-- parent and is not handed on.
 -- Assumes nothing.
 use mathlib.Core.Path.{refl}
 use native.Mathlib.Omega.{arith}

@@ -1,5 +1,5 @@
--- `linked_children::longest` meets its contract: of the children before d none has more rows than best, and the others are linked from d on. The
--- measure is d, since the chain descends.
+-- Proves that `longest` finds the child with the most rows, since no child before d has more rows than the best, and the links list the others from d
+-- on. Each turn d falls, since the chain descends.
 -- Assumes nothing.
 use Prim.Native.Nat.{_+_, _<_}
 use native.Mathlib.Omega.{arith}

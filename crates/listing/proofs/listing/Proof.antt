@@ -1,4 +1,4 @@
--- A law for each way out: a slice too short for any listing, and what is printed in the cleared slice.
+-- Proves that `listing` answers right: one law covers a slice too short for any listing, and one what is printed in the cleared slice.
 -- Assumes nothing.
 use borrow.Author.Needs.{needs}
 use denote.Ref.{now}

@@ -1,4 +1,4 @@
--- Zeroed slices of the program's sizes are its buffers.
+-- Proves that `print_job` prints a job, since zeroed slices of the program's sizes are the program's buffers.
 -- Assumes nothing.
 use native.Mathlib.Omega.{arith}
 use borrow.Author.Needs.{needs}

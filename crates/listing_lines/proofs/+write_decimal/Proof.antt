@@ -1,4 +1,4 @@
--- One digit, or the last digit behind those of the tenth, which is smaller: the measure is the number itself.
+-- Proves that `write_decimal` writes a number: one digit, or the digits of its tenth and then its last digit. The tenth is smaller than the number.
 -- Assumes nothing.
 use Prim.Native.Nat.{ℕ, _+_, _/_, _<_, _≤_}
 use native.Mathlib.Omega.{arith}
@@ -41,11 +41,11 @@ module _ (t : ℕ) where
   abbrev entry₁ : lts.Else1 calls here write-decimal.Post → lts.Start calls here write-decimal.Post
   entry₁ c = search
 
-  -- what the contract asks, beside the measure
+  -- what the contract requires besides the measure
   asked : (c : lts.Start calls here write-decimal.Post) → c .args .at + length (decimalOf (c .args .x)) ≤ length (now (c .args .bytes))
   asked c = c .pre .1
 
-  -- the last digit has a place behind the others
+  -- the slice has a place for the last digit behind the others
   last-place : (c : lts.Else1 calls here write-decimal.Post)
       → entry₁ c .args .at + length (decimalOf (entry₁ c .args .x / 10)) < length (now (entry₁ c .args .bytes))
   last-place c = let e = entry₁ c .args in last-fits (e .x) (e .at) (now (e .bytes)) (c .if1 .left) (asked (entry₁ c))

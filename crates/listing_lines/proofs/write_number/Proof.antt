@@ -1,4 +1,4 @@
--- A space, and the number behind it.
+-- Proves that `write_number` writes a space, then the number.
 -- Assumes nothing.
 use native.Mathlib.Omega.{arith}
 use lib.ListN.{length-set}

@@ -1,4 +1,4 @@
--- The line of a refusal is the word `refused` and its three numbers.
+-- Proves that `write_refusal` writes the line of a refusal: the word `refused` and its three numbers.
 -- Assumes nothing.
 use Prim.Native.Nat.{ℕ, _≤_}
 use mathlib.Core.List.{List, [], _∷_}

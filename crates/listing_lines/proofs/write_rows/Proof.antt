@@ -1,4 +1,5 @@
--- The loop's invariant: storing the numbers from i on at next leaves what storing all of them leaves. The measure is how many are left.
+-- Proves that `write_rows` writes all numbers, since storing those from i on at next leaves what storing all of them leaves. Each turn leaves one
+-- number less.
 -- Assumes nothing.
 use Prim.Native.Nat.{_-_}
 use lib.ListN.{length}

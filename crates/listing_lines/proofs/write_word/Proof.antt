@@ -1,4 +1,5 @@
--- The loop's invariant: storing the letters from i on at their place leaves what storing all of them leaves. The measure is how many are left.
+-- Proves that `write_word` writes all letters, since storing those from i on at their place leaves what storing all of them leaves. Each turn leaves
+-- one letter less.
 -- Assumes nothing.
 use Prim.Native.Nat.{_-_}
 use mathlib.Core.Path.{refl}

@@ -1,4 +1,5 @@
--- A refusal prints its line; an analysis that is done has the plan of the job in parts of its slices, and what is printed of them is its listing.
+-- Proves that `print_analysis` prints the line of a refusal, or the listing of the job's plan, which parts of the slices hold after an analysis that
+-- is done.
 -- Assumes nothing.
 use mathlib.Core.Path.{sym, ap}
 use native.Mathlib.Omega.{arith}

@@ -1,4 +1,4 @@
--- The header, then the steps behind it: together the listing.
+-- Proves that `print_plan` prints the listing: the header, then the steps behind it.
 -- Assumes nothing.
 use Prim.Native.Nat.{ℕ}
 use mathlib.Core.List.{List, [], _∷_}

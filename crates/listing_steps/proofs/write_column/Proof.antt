@@ -1,4 +1,4 @@
--- The part of the rows that is handed on is the column's list.
+-- Proves that `write_column` writes the line with the column's own rows, since the part of the rows that it hands on is the column's list.
 -- Assumes nothing.
 use Prim.Native.Nat.{ℕ, _+_, _-_, _<_}
 use mathlib.Core.Path.{_≡_}
@@ -11,7 +11,7 @@ use Rattle.column_laws.proofs.Columns.{column-part}
 use Rattle.listing_steps.proofs.write_column.Statement.{statement}
 use Rattle.listing_steps.proofs.write_column.Tie as tie
 
--- the part of the rows that is handed on
+-- the part of the rows that is passed on
 list-is : (starts rows : List ℕ) (j : ℕ) → 0 < j
     → take (getD starts j 0 - getD starts (j - 1) 0) (drop (getD starts (j - 1) 0) rows) ≡ columnOf starts rows j
 list-is starts rows j some = let e : j - 1 + 1 ≡ j = omega arith in rw e at (column-part starts rows (j - 1))

@@ -1,4 +1,4 @@
--- The line is written part by part; what is left of it at each place is a law of Lines.
+-- Proves that `write_step` writes the line part by part: at each place a law of Lines tells what is left of it.
 -- Assumes nothing.
 use mathlib.Core.List.{[], _∷_}
 use borrow.Author.Needs.{needs}

@@ -1,5 +1,5 @@
--- The loop's invariant: the first k steps are done, the sums of the updates then held stand in below, and their lines are written. The measure is how
--- many steps are left.
+-- Proves that `write_steps` writes all lines: after k steps their lines are written, and below holds the sums of the updates then held. Each turn
+-- leaves one step less.
 -- Assumes nothing.
 use Prim.Native.Nat.{_-_}
 use mathlib.Core.Path.{_∙_}

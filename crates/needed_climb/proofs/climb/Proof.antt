@@ -1,5 +1,5 @@
--- `needed_climb::climb` meets its contract: each column on the way has row i and so has its parent, which is row i or lies below it; the climb ends
--- at a column that is marked, at the latest at column i. The measure is i less the column.
+-- Proves that `climb` marks and counts each column on the way: each has row i, and so has its parent unless that is row i itself. It ends at a marked
+-- column, at the latest at column i. Each turn goes to a higher column.
 -- Assumes nothing.
 use Prim.Native.Nat.{_-_}
 use native.Mathlib.Omega.{arith}

@@ -1,4 +1,5 @@
--- The steps written, their pops are the numbers of children, which the starts tell, and the pass over both finds the peak.
+-- Proves that `order_of` writes the order and its pops: it writes the steps, counts each column's children by the starts, and one pass over both
+-- finds the peak.
 -- Assumes nothing.
 use mathlib.Core.Path.{sym}
 use native.Mathlib.Omega.{arith}

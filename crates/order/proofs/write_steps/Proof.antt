@@ -1,4 +1,4 @@
--- The lists laid out are what arranging asks for, and arranged they are what the walk asks for.
+-- Proves that `write_steps` writes the order: the lists laid out are what arranging requires, and once arranged they are what the walk requires.
 -- Assumes nothing.
 use mathlib.Core.Path.{sym}
 use native.Mathlib.Omega.{arith}

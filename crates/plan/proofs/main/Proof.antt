@@ -1,4 +1,4 @@
--- What is printed is a part of the output: its length was kept, and is tested again.
+-- Proves that `main` is safe: what it prints is a part of the output, since the length was kept and is tested again.
 -- Assumes nothing.
 use mathlib.Core.Path.{sym}
 use native.Mathlib.Omega.{arith}

@@ -1,4 +1,5 @@
--- Where the analysis refuses, its answer is the answer; where it is done, what is stored beside it is the outcome.
+-- Proves that `write_plan` answers right: if the analysis refuses, its answer is the answer; if it is done, storing the bytes beside it gives the
+-- outcome.
 -- Assumes nothing.
 use native.Mathlib.Omega.{arith}
 use Rattle.plan_bytes.proofs.Ways.{way-refused}

@@ -1,4 +1,4 @@
--- A value from low to high is found; one below or above is 14, at the place where it starts.
+-- Proves that `in_range` finds a value from low to high, and answers 14 at the number's first place for any other.
 -- Assumes nothing.
 use mathlib.Core.Logic.{⊎-elim}
 use borrow.Author.Needs.{needs}

@@ -1,5 +1,5 @@
--- A byte below 128 is a number by itself, two bytes may be one; any other number is what read_long reads. Either way the field is that number in its
--- range.
+-- Proves that `read_field` reads a field: a byte below 128 is a number, two bytes may be one, and read_long reads any other. Each is then tested
+-- against its range.
 -- Assumes nothing.
 use borrow.Author.Needs.{needs}
 use Rattle.read_fields.proofs.Answers.{field-by-number, one-group}

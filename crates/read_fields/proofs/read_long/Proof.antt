@@ -1,4 +1,4 @@
--- Any number is what read_number reads, and the field is that number in its range.
+-- Proves that `read_long` reads a field: read_number reads its number, and the range is tested after it.
 -- Assumes nothing.
 use mathlib.Core.Path.{sym, _∙_}
 use borrow.Author.Needs.{needs}

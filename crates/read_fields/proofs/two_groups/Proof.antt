@@ -1,4 +1,4 @@
--- A byte of 128 or more and one from 1 to 127 behind it are a number.
+-- Proves that `two_groups` reads a number of two groups: a byte of 128 or more, then a byte from 1 to 127.
 -- Assumes nothing.
 use mathlib.Core.Path.{refl}
 use mathlib.Core.Logic.{_≢_}

@@ -1,4 +1,5 @@
--- The loop that keeps lists, over slices that are empty: a store into one leaves it empty. The measure is the columns left.
+-- Proves that `count_rows` counts the rows of all lists: it is the loop that keeps lists, with empty slices, in which no store changes anything. Each
+-- turn leaves one column less.
 -- Assumes nothing.
 use Prim.Native.Nat.{_+_, _-_}
 use mathlib.Core.List.{[]}

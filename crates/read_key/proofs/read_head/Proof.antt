@@ -1,4 +1,4 @@
--- Edition and size are two fields, and mark and limit stand behind them: the first at fault makes the head faulty.
+-- Proves that `read_head` reads edition and size, then mark and limit; the first at fault makes the head unreadable.
 -- Assumes nothing.
 use borrow.Author.Needs.{needs}
 use Rattle.read_fields.proofs.Answers.{field-refused, field-read, field-found}

@@ -1,4 +1,4 @@
--- A key is its head, its lists and the end: the first part at fault makes it unreadable.
+-- Proves that `read_key` reads the head, the lists and the end; the first part at fault makes the key unreadable.
 -- Assumes nothing.
 use borrow.Author.Needs.{needs}
 use Rattle.read_fields.proofs.Answers.{told-found, told-refused}

@@ -1,4 +1,4 @@
--- Mark and limit are two fields, one behind the other; either at fault is the head's fault.
+-- Proves that `read_mark` reads two fields, mark and limit; if either is at fault, the head is.
 -- Assumes nothing.
 use borrow.Author.Needs.{needs}
 use Rattle.read_fields.proofs.Answers.{field-refused, field-read, field-found}

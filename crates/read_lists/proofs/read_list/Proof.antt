@@ -1,4 +1,5 @@
--- A list is its count and, behind it, its rows. Where the quick reader leaves off, the other one begins again and keeps its rows over those kept.
+-- Proves that `read_list` reads a list: its count, then its rows. If the quick reader gives up, the other reader begins again and keeps its rows over
+-- those kept.
 -- Assumes nothing.
 use mathlib.Core.Path.{refl}
 use borrow.Author.Needs.{needs}

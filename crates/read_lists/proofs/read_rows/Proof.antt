@@ -1,4 +1,5 @@
--- The loop's invariant: the rows before place total are read and kept, and those left, put onto them, are the column's. The measure is the rows left.
+-- Proves that `read_rows` reads all rows: those before place total are read and kept, and those left, put onto them, are the column's. Each turn
+-- leaves one row less.
 -- Assumes nothing.
 use mathlib.Core.Path.{refl}
 use native.Mathlib.Nat.{lt-of-le-of-lt, lt-of-lt-of-le}

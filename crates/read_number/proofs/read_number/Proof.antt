@@ -1,5 +1,5 @@
--- The loop's invariant: what is found at i, carried on top of the groups before it, is what is found at `at`. The measure is how many groups may
--- still come.
+-- Proves that `read_number` reads the number at `at`, since the groups from i on, added on top of those before, give it. Each turn leaves one group
+-- less that may come.
 -- Assumes nothing.
 use Prim.Native.Nat.{_-_}
 use mathlib.Core.Logic.{⊎-elim, inl, inr}

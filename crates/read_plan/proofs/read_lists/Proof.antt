@@ -1,4 +1,5 @@
--- The loop's invariant: the lists of the columns before j are read and kept, and those left, put onto them, are all. The measure is the columns left.
+-- Proves that `read_lists` reads all lists: those of the columns before j are read and kept, and those left, put onto them, are all. Each turn leaves
+-- one column less.
 -- Assumes nothing.
 use Prim.Native.Nat.{_+_, _-_}
 use mathlib.Core.Path.{_≡_, refl, _∙_}

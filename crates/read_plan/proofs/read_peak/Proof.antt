@@ -1,4 +1,4 @@
--- The peak is a field, and the plan ends behind it or the first byte after it is 15.
+-- Proves that `read_peak` reads the peak as a field, and answers 15 at the first byte behind it if the plan does not end there.
 -- Assumes nothing.
 use borrow.Author.Needs.{needs}
 use Rattle.read_fields.proofs.Answers.{field-refused, field-read}

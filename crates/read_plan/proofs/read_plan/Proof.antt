@@ -1,4 +1,5 @@
--- A plan is its steps, its lists, its peak and the end: the first part at fault is the plan's fault, and what is read is kept part by part.
+-- Proves that `read_plan` reads the steps, the lists, the peak and the end: the first part at fault is the plan's fault, and each part that is read
+-- is kept.
 -- Assumes nothing.
 use borrow.Author.Needs.{needs}
 use native.Mathlib.Omega.{arith}

@@ -1,4 +1,4 @@
--- A step is its column and, behind it, its pops; either at fault is the step's fault.
+-- Proves that `read_step` reads a column, then its pops; if either is at fault, the step is.
 -- Assumes nothing.
 use mathlib.Core.Path.{refl, ap}
 use lib.ListN.{set, length-set}

@@ -1,4 +1,4 @@
--- The loop's invariant: the first i steps are read and kept, and those left, put onto them, are all. The measure is how many are left.
+-- Proves that `read_steps` reads all steps: the first i are read and kept, and those left, put onto them, are all. Each turn leaves one step less.
 -- Assumes nothing.
 use Prim.Native.Nat.{_-_}
 use mathlib.Core.Path.{refl}

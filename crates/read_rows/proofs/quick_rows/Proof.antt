@@ -1,5 +1,5 @@
--- The loop's invariant is that of read_rows: the rows before place total are read and kept, and the rest, put onto them, are the column's. The
--- measure is the rest.
+-- Proves that `quick_rows` reads the rows: those before place total are read and kept, and the rest, put onto them, are the column's, as in
+-- read_rows. Each turn leaves fewer rows.
 -- Assumes nothing.
 use native.Mathlib.Nat.{le-trans, pos-of-ne-zero}
 use borrow.Author.Tests.{leb-false, ltb-false}

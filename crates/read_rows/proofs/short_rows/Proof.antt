@@ -1,5 +1,5 @@
--- The loop's invariant: i rows are kept by i bytes, and read where the last is in its range. Each turn reads one byte that is a gap. The measure is
--- how many may come.
+-- Proves that `short_rows` reads rows with gaps of one byte: i bytes give i rows, which are kept, and all are in range if the last is. Each turn
+-- reads one gap and leaves one less.
 -- Assumes nothing.
 use Prim.Native.Nat.{_-_}
 use native.Mathlib.Nat.{le-of-lt, lt-of-lt-of-le, pos-of-ne-zero}

@@ -1,5 +1,5 @@
--- A list of children is as long as from its start to the next one. The loop's invariant: the pops of the first k steps are written; the
--- measure is how many are left.
+-- Proves that `count_pops` writes each step's pops: a list of children is as long as the distance from its start to the next one. The pops of the
+-- first k steps are written; each turn leaves one step less.
 -- Assumes nothing.
 use Prim.Native.Nat.{ℕ, _+_, _-_, _<_, _≤_}
 use mathlib.Core.Path.{_≡_, refl, _∙_}

@@ -1,5 +1,5 @@
--- What lies below the updates taken off stays, and the update's entries on top of it make the next sum; the sums are small enough for
--- an update more.
+-- Proves that `hold` does a step: the sums below the popped updates stay, and the new update's entries added to the last of them make the next sum,
+-- which still fits.
 -- Assumes nothing.
 use Prim.Native.Nat.{ℕ, _+_, _-_}
 use mathlib.Core.Path.{ap}

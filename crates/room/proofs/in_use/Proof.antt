@@ -1,4 +1,5 @@
--- A front over the top update begins below it, and any other above all; the sums are small enough for a front more.
+-- Proves that `in_use` computes a step's room: if the step pops, its front begins below the top update, else above all updates. The sums are small,
+-- so adding a front still fits.
 -- Assumes nothing.
 use Prim.Native.Nat.{ℕ, _+_, _-_, min}
 use mathlib.Core.Path.{_≡_}

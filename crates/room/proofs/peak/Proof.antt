@@ -1,5 +1,5 @@
--- The loop's invariant: the updates held after k steps have their sums in below, and most is the greatest room so far. The measure is how
--- many steps are left.
+-- Proves that `peak` finds the greatest room: after k steps below holds the sums of the updates held, and most is the greatest room so far. Each turn
+-- leaves one step less.
 -- Assumes nothing.
 use Prim.Native.Nat.{_-_}
 use mathlib.Core.Path.{_∙_}
@@ -46,7 +46,7 @@ turn c = search
 abbrev begun : tie.After-rows-of Inv-loop μ-loop → tie.Start Inv-loop μ-loop
 begun c = search
 
--- the step lies over the updates held
+-- the step pops no more updates than are held
 over : (c : tie.After-rows-of Inv-loop μ-loop)
     → Over (turn c .loop .below) (turn c .loop .depth) (getD (now (begun c .args .pops)) (turn c .loop .k) 0) (c .rows-of .result)
 over c =

@@ -1,4 +1,4 @@
--- A column has no more rows than there may be columns.
+-- Proves that `rows_of` counts a column's rows, which are no more than the greatest number of columns.
 -- Assumes nothing.
 use mathlib.Core.Path.{refl}
 use native.Mathlib.Omega.{arith}

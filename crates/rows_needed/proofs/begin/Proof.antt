@@ -1,5 +1,5 @@
--- `rows_needed::begin` meets its contract: in cleared work no column is filed, and each turn files one more under its first pattern row. The measure
--- is what is left of the columns.
+-- Proves that `begin` files every column: in cleared work none is filed, and each turn files one more under its first pattern row. Each turn leaves
+-- one column less.
 -- Assumes nothing.
 use Prim.Native.Nat.{_-_}
 use native.Mathlib.Omega.{arith}

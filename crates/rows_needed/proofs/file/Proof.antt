@@ -1,5 +1,5 @@
--- `rows_needed::file` meets its contract: its stores are those of the definition, and each has its place, since work has four places for a column
--- and a row that is filed under is one of the columns.
+-- Proves that `file` makes the stores of the definition. Each has its place, since work has four places for a column, and the row it files under is
+-- one of the columns.
 -- Assumes nothing.
 use mathlib.Core.Path.{sym, _∙_}
 use native.Mathlib.Omega.{arith}

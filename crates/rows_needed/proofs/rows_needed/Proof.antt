@@ -1,5 +1,5 @@
--- `rows_needed::rows_needed` meets its contract: before row m + 1 the rows up to m are counted, and the walk over the columns of a row counts that
--- row. The measure is what is left of the rows.
+-- Proves that `rows_needed` counts all rows: before row m + 1 the rows up to m are counted, and the walk over a row's columns counts that row. Each
+-- turn leaves one row less.
 -- Assumes nothing.
 use Prim.Native.Nat.{_-_}
 use native.Mathlib.Omega.{arith}

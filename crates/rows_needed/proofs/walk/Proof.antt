@@ -1,5 +1,5 @@
--- `rows_needed::walk` meets its contract: of the columns at row i those from c on are still to do, and the first of them is climbed from and filed
--- under its next row. The measure is the number of rows ahead in all columns.
+-- Proves that `walk` does every column at row i: those from c on are left, and a turn climbs from the first of them and files it under its next row.
+-- Each turn leaves fewer rows ahead.
 -- Assumes nothing.
 use Prim.Native.Nat.{_+_, _<_}
 use mathlib.Core.Path.{refl}

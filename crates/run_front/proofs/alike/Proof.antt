@@ -1,4 +1,4 @@
--- The loop's invariant: the first i rows are the same. The measure is how many are left to the end of the shorter list.
+-- Proves that `alike` counts the first rows that two lists share: the first i are equal. Each turn leaves one row less of the shorter list.
 -- Assumes nothing.
 use Prim.Native.Nat.{_-_}
 use native.Mathlib.Omega.{arith}

@@ -1,4 +1,4 @@
--- The loop's invariant: the row's place lies from low on and no later than high. The measure is how far they lie apart.
+-- Proves that `bisect` finds a row's place, which is never before low nor behind high. Each turn brings the two closer.
 -- Assumes nothing.
 use Prim.Native.Nat.{_-_}
 use native.Mathlib.Omega.{arith}

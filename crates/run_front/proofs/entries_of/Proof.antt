@@ -1,4 +1,4 @@
--- A column has fewer rows than there are columns, so their triangle can be computed.
+-- Proves that `entries_of` computes an update's entries: a column has fewer rows than there are columns, so their triangle fits.
 -- Assumes nothing.
 use mathlib.Core.Path.{ap, _∙_}
 use native.Mathlib.Omega.{arith}

@@ -1,4 +1,4 @@
--- The two starts of a column lie in order and inside the rows, so the part between them is there, and it is the column's rows.
+-- Proves that `rows_of` gives a column's rows: its two starts ascend and are within the rows, so the part between them exists.
 -- Assumes nothing.
 use native.Mathlib.Omega.{arith}
 use borrow.Author.Needs.{needs}

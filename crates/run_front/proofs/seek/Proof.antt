@@ -1,4 +1,4 @@
--- The loop's invariant: the row's place lies from low on, and low is no later than the place looked at. The measure is how many places are left.
+-- Proves that `seek` finds a row's place, which is never before low, and low is never behind the place looked at. Each turn leaves fewer places.
 -- Assumes nothing.
 use Prim.Native.Nat.{ℕ, _-_, _≤_}
 use mathlib.Core.List.{List}
@@ -10,7 +10,7 @@ use Rattle.run_front.proofs.Places.{narrow-above, narrow-below}
 use Rattle.run_front.proofs.seek.Statement.{statement}
 use Rattle.run_front.proofs.seek.Tie as tie
 
--- the row's place lies from low on; the next place looked at is no earlier
+-- the row's place is not before low, and the next place looked at is no earlier
 record Looking (rows : List ℕ) (row from low look : ℕ) : Type 0 where
   between : Bracket rows row low (length rows)
   ahead : low ≤ look

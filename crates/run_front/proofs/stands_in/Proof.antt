@@ -1,5 +1,5 @@
--- The loop's invariant: the first i rows of the update stand in the front, and the front's rows before the last one found are below the next.
--- The measure is how many rows are left.
+-- Proves that `stands_in` tests every row of an update: the first i are in the front, and the front's rows before the last one found are below the
+-- next. Each turn leaves fewer rows.
 -- Assumes nothing.
 use Prim.Native.Nat.{_-_}
 use native.Mathlib.Omega.{arith}

@@ -1,5 +1,5 @@
--- The record is stepped by value. A walk of the code by hand: the record is copied to a local, which is lent to `step` for a lifetime that the walk
--- makes, and comes back at what `step` left in it. Of `step` only its contract is known.
+-- Proves that `advance` steps a record by value, in a walk of the code by hand: the record is copied to a local and lent to `step`, whose contract
+-- tells what comes back when the loan ends.
 -- Assumes nothing.
 use Prim.Native.Nat.{ℕ}
 use mathlib.Core.Path.{_≡_, refl, sym, ap, subst}
@@ -61,7 +61,7 @@ stayed = (
   (stay-none (λ _. u64) yes, (stay-none (λ _. u64) yes, (stay-none (λ _. u64) yes, (stay-none (λ _. u64) yes, tt)))),
 )
 
--- the contract that the proof cites
+-- the contract that this proof cites
 abbrev Step : {M : Type 1} (𝓤 : URA M) (H : Heap 𝓤) (A : Atoms 𝓤) (at-mem : Memory → SProp 𝓤) (run : Routine → Fun 𝓤) → Contract 𝓤
 Step 𝓤 H A at-mem run = tripleOf 𝓤 H A step.signature (step.spec 𝓤 H A at-mem run)
 
@@ -81,7 +81,7 @@ module _ {M : Type 1} (𝓤 : URA M) (H : Heap 𝓤) (A : Atoms 𝓤) (W : Given
       (refl, fit .pops) $ fjoin ! $
       owned ! T.the-row (Is T.the-row) (LL.makes T.the-type T′.the-plain 𝓤 H A) h _ g $ fjoin ! $ nothing ! $ done !
 
-  -- the reference that the local is lent as
+  -- the reference by which the local is lent
   abbrev ref : ℕ → GName → RefT Held
   ref l γ = record { ptr = (l, 0); name = γ; now = h }
 

@@ -1,5 +1,5 @@
--- The lent record is stepped. A walk of the code by hand: the borrow is opened, the record is copied out and passed to `stepped`, what that
--- gives is stored over it, and the borrow is closed at the new record. Of `stepped` only its contract is known.
+-- Proves that `step` steps the lent record, in a walk of the code by hand: the record is copied out and passed to `stepped`, whose contract tells the
+-- result, and the result is stored over it before the loan ends.
 -- Assumes nothing.
 use Prim.Native.Nat.{ℕ}
 use mathlib.Core.Path.{_≡_, refl}
@@ -60,7 +60,7 @@ stayed = (
 )
 
 module _ {M : Type 1} (𝓤 : URA M) (H : Heap 𝓤) (A : Atoms 𝓤) (at-mem : Memory → SProp 𝓤) (run : Routine → Fun 𝓤) where
-  -- the contract that the proof cites
+  -- the contract that this proof cites
   abbrev Stepped : Contract 𝓤
   Stepped = tripleOf 𝓤 H A stepped.signature (stepped.spec 𝓤 H A at-mem run)
 

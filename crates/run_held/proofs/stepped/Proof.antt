@@ -1,4 +1,4 @@
--- The three fields one by one: nothing comes off that is not held, so no difference goes below 0, and the sums fit.
+-- Proves that `stepped` computes the three fields: a step pops no more than is held, so no difference falls below 0, and the sums fit.
 -- Assumes nothing.
 use Prim.Native.Nat.{ℕ, _+_, _-_, min, max}
 use mathlib.Core.Path.{_≡_}

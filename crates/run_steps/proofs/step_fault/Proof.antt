@@ -1,4 +1,4 @@
--- The tests are those of the papers, in their order; each is made where those before it found nothing, and the first that does gives the number.
+-- Proves that `step_fault` answers the first test that refuses: it makes the papers' tests in their order, each only after those before it passed.
 -- Assumes nothing.
 use native.Mathlib.Omega.{arith}
 use lib.ListN.{getD}

@@ -1,5 +1,5 @@
--- The loop's invariant: after `done` steps without fault the stack list and the record hold the state after them. The measure is how many steps are
--- left.
+-- Proves that `steps` runs the steps: after `done` steps without a fault the stack list and the record hold the state. Each turn leaves one step
+-- less.
 -- Assumes nothing.
 use Prim.Native.Nat.{_-_}
 use mathlib.Core.Path.{_∙_}

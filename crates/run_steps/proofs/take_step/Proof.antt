@@ -1,5 +1,5 @@
--- The entries popped, the step's own and the room are computed, and that is what the record takes. A column with rows is stored behind those that
--- stay, where there is a place for it.
+-- Proves that `take_step` takes a step: it computes the popped entries, the step's own and the room for the record, and stores a column with rows
+-- behind those that stay, which has a place.
 -- Assumes nothing.
 use native.Mathlib.Omega.{arith}
 use borrow.Author.Needs.{needs}
@@ -33,7 +33,7 @@ returns c =
     taken-root (entry (search) .pre) (popped (search) .popped-entries .ensures) (updated (search) .entries-of .ensures)
     (used (search) .room-in-use .ensures) (c .before .advance .ensures) (c .if1 .taken)
 
--- the column's own update finds its place
+-- the stack list has a place for the column's own update
 place : (c : tie.Else1) → Place (entry (search) .args .n) (now (entry (search) .args .stack)) (advanced (search) .advance .result .count)
 place c =
     store-within (entry (search) .pre) (popped (search) .popped-entries .ensures) (updated (search) .entries-of .ensures)

@@ -1,4 +1,4 @@
--- The stack list holds columns of 1 to n up to the place, so the one read there is such a column.
+-- Proves that `held_column` reads a column of 1 to n, since the stack list holds such columns up to the place.
 -- Assumes nothing.
 use Prim.Native.Nat.{_-_}
 use mathlib.Core.Path.{refl}

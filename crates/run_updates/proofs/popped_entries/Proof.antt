@@ -1,4 +1,5 @@
--- The loop's invariant: the total has the entries of the updates from `top` up. The measure is how many are left. All of them together are few.
+-- Proves that `popped_entries` sums the popped updates: the total is the sum of those above `top`, and even all entries together fit. Each turn
+-- leaves one update less.
 -- Assumes nothing.
 use Prim.Native.Nat.{_-_}
 use native.Mathlib.Omega.{arith}

@@ -1,4 +1,4 @@
--- The loop's invariant: the updates from `top` up stand in the front, so what is left decides. The measure is how many are left.
+-- Proves that `popped_fit` tests all popped updates: those above `top` are in the front, so the others decide. Each turn leaves one update less.
 -- Assumes nothing.
 use Prim.Native.Nat.{_-_}
 use native.Mathlib.Omega.{arith}

@@ -1,4 +1,5 @@
--- The record has the entries held; the top update, read from the list, is one of them, so nothing goes below 0.
+-- Proves that `room_in_use` computes the room: the record keeps the sum of the entries held, and the top update is one of them, so no difference
+-- falls below 0.
 -- Assumes nothing.
 use Prim.Native.Nat.{_+_, _^_, _<_}
 use native.Mathlib.Omega.{arith}

@@ -1,4 +1,5 @@
--- The loop's invariant: the room, the updates and those but the last of the first i children. The measure is how many are left.
+-- Proves that `room_alone` finds W: it keeps the room of the first i children, the sum of their updates, and the sum of all these but the last. Each
+-- turn leaves one child less.
 -- Assumes nothing.
 use Prim.Native.Nat.{_+_, _-_, _<_}
 use native.Mathlib.Omega.{arith}
@@ -38,7 +39,7 @@ compared c = c
 abbrev begun : tie.In-loop Inv-loop μ-loop → tie.Start Inv-loop μ-loop
 begun c = search
 
--- the W of the child is there
+-- work holds the W of the child
 known : (c : tie.In-loop Inv-loop μ-loop) → getD (now (begun c .args .kids)) (c .before .loop .i) 0 < length (now (begun c .args .rooms))
 known c = turned-known _ _ _ (begun c .args .j) (c .before .loop .inv) (begun c .pre) (c .loop-test .taken)
 

@@ -1,4 +1,4 @@
--- Each mark is a case of the key's definition; where W is less than the update, their difference is 0.
+-- Proves that `sibling_key` computes the key, since each mark is a case of the key's definition; if W is less than the update, their difference is 0.
 -- Assumes nothing.
 use mathlib.Core.Path.{sym, _∙_}
 use native.Mathlib.Omega.{arith}

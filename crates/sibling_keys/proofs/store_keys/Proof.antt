@@ -1,5 +1,5 @@
--- The keys lie behind the W, so no W that is still to be read is lost. The loop's invariant: the keys of the first i children are stored,
--- and what lies before the keys is as it was; the measure is how many are left.
+-- Proves that `store_keys` stores the keys of the children: it stores them behind the W, so it overwrites no W that it has yet to read. Each turn
+-- leaves one child less.
 -- Assumes nothing.
 use Prim.Native.Nat.{_-_}
 use native.Mathlib.Omega.{arith}
@@ -38,7 +38,7 @@ child-read c = c
 abbrev begun : tie.In-loop Inv-loop μ-loop → tie.Start Inv-loop μ-loop
 begun c = search
 
--- the W of the child and its key have their places
+-- work has the places of the child's W and key
 places : (c : tie.In-loop Inv-loop μ-loop)
     → Places (begun c .args .w) (begun c .args .k) (getD (now (begun c .args .kids)) (c .before .loop .i) 0) (c .before .loop .work)
 places c = keying-places (c .before .loop .inv) (begun c .pre) (c .loop-test .taken)

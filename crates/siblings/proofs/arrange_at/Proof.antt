@@ -1,4 +1,4 @@
--- The children lie where the starts say, and come back sorted to the same place.
+-- Proves that `arrange_at` sorts the children in their place: they are between the column's start and the next one, and come back there sorted.
 -- Assumes nothing.
 use borrow.Author.Needs.{needs}
 use Rattle.siblings.proofs.Placing.{placed-kids, placed-done}

@@ -1,4 +1,4 @@
--- The keys stored are those that the sort reads, and the sorted children are those that W is found from.
+-- Proves that `sort_kids` sorts by the mark: the sort reads the keys that were stored, and W is computed from the sorted children.
 -- Assumes nothing.
 use native.Mathlib.Omega.{arith}
 use borrow.Author.Needs.{needs}

@@ -1,4 +1,4 @@
--- The part from the place on is cleared, and what stands before it stays.
+-- Proves that `clear32_from` clears the part from the place on, and keeps what is before it.
 -- Assumes nothing.
 use borrow.Author.Needs.{needs}
 use Rattle.slices.proofs.From.{cleared-from}

@@ -1,4 +1,4 @@
--- The loop's invariant: the places before i are zero. The measure is how many are left.
+-- Proves that `clear8` clears the slice, since every place before i is zero. Each turn leaves one place less.
 -- Assumes nothing.
 use Prim.Native.Nat.{_-_}
 use lib.ListN.{length}

@@ -1,4 +1,4 @@
--- A count inside the slice gives that many bytes; from the end on, all.
+-- Proves that `part` gives the first bytes: as many as the count if the slice has that many, else all of them.
 -- Assumes nothing.
 use mathlib.Core.Path.{sym}
 use native.Mathlib.Omega.{arith}

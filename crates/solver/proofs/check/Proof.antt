@@ -1,5 +1,5 @@
--- A key that does not read through is 27, one over the sizes 26; else the check for its job answers.
--- The number is at most 27 and the place at most a byte behind the plan, so the two together fit 64 bits.
+-- Proves that `check` answers 27 for a key that does not read through, 26 for one over the sizes, and else what the check of its job answers. The
+-- number is at most 27 and the place at most one byte behind the plan, so both fit 64 bits.
 -- Assumes nothing.
 use mathlib.Core.Logic.{inl, inr, ⊎-elim}
 use borrow.Author.Needs.{needs}

@@ -1,5 +1,5 @@
--- The key's columns and rows are within the program's sizes, so its lists, read once more, stand whole at the front of two buffers. The parts that
--- hold them are the job's lists, and the check for that job is the call's.
+-- Proves that `check_for_key` makes the check for the key's job: its columns and rows are within the program's sizes, so a second reading puts its
+-- lists whole at the fronts of two buffers, and these fronts are the job's lists.
 -- Assumes nothing.
 use mathlib.Core.Path.{sym}
 use native.Mathlib.Omega.{arith}

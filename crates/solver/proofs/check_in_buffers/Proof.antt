@@ -1,4 +1,5 @@
--- The slices lent are zeroed and of the program's sizes, so they are its buffers, and the check's answer is that in the buffers.
+-- Proves that `check_in_buffers` answers as a check in the program's buffers: the lent slices are zero and have the program's sizes, so they are
+-- these buffers.
 -- Assumes nothing.
 use Prim.Native.Nat.{ℕ}
 use mathlib.Core.Path.{_≡_, ap}

@@ -1,5 +1,5 @@
--- Each test before the steps refuses and leaves the stack list as it was, or passes; where all pass the steps decide, and the list is cleared after
--- them.
+-- Proves that `run` answers right: each test before the steps passes, or refuses and leaves the stack list as it was; if all pass, the steps decide,
+-- and the list is cleared after them.
 -- Assumes nothing.
 use borrow.Author.Needs.{needs}
 use Rattle.run_updates.specs.Kept.{callOf}

@@ -1,4 +1,4 @@
--- The three lengths are compared with n in turn: the first that is below it decides, and where the first two are not, the third does.
+-- Proves that `too_short` compares the three lengths with n in turn: the first that is below n decides, and if the first two are not, the third does.
 -- Assumes nothing.
 use Rattle.stack_run.proofs.Outcomes.{columns-short, pops-short, stack-short}
 use Rattle.stack_run.proofs.too_short.Statement.{statement}

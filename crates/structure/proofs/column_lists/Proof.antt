@@ -1,5 +1,5 @@
--- `structure::column_lists` meets its contract: after m columns the slices hold their parents, starts and lists, so the list of the next column
--- can be gathered, and stored if it has room. The measure is what is left of the columns.
+-- Proves that `column_lists` makes the lists, starts and parents: after m columns the slices hold theirs, so the next list can be gathered, and
+-- stored if it fits. Each turn leaves one column less.
 -- Assumes nothing.
 use Prim.Native.Nat.{_-_}
 use mathlib.Core.Path.{refl, _∙_}
@@ -37,7 +37,7 @@ gathered c = c
 abbrev roomy : tie.Else1 Inv-loop μ-loop → tie.Else1 Inv-loop μ-loop
 roomy c = c
 
--- it is at hand
+-- the gathered list is taken as a part
 abbrev read : tie.After-gathered Inv-loop μ-loop → tie.After-gathered Inv-loop μ-loop
 read c = c
 
@@ -108,7 +108,7 @@ column-lists-spec =
     (λ c. omega (arith, at-loop₁ (search) .loop .inv .tested .few))
     (λ c. omega arith)
     loop-again
-    -- all columns are done, and again
+    -- all columns are done; the slices are as long as they were
     (λ c. long-p (c .before .loop .inv))
     (λ c. long-s (c .before .loop .inv) ∙ simp length-set)
     (λ c. long-f (c .before .loop .inv))

@@ -1,4 +1,4 @@
--- `structure::hang` meets its contract: a root is not hung; of any other column the two stores are those of the definition.
+-- Proves that `hang` makes the two stores of the definition, and none for a root, which has no parent.
 -- Assumes nothing.
 use mathlib.Core.Path.{sym}
 use native.Mathlib.Omega.{arith}

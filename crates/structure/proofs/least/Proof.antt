@@ -1,4 +1,4 @@
--- `structure::least` meets its contract: the first row of a list, 0 of an empty one.
+-- Proves that `least` gives the first row of a list, and 0 of an empty list.
 -- Assumes nothing.
 use native.Mathlib.Omega.{arith}
 use Rattle.structure.proofs.Storing.{least-none, least-some}

@@ -1,4 +1,4 @@
--- `structure::store` meets its contract: each of its stores is one of the four equations, and the parent is the list's least row.
+-- Proves that `store` stores a column's list: each of its stores is one of the definition's four equations, and the parent is the list's least row.
 -- Assumes nothing.
 use mathlib.Core.Path.{refl}
 use native.Mathlib.Omega.{arith}

@@ -1,4 +1,4 @@
--- Line 1 begins with n, and the rest of it stands behind: a line that ends there, or does not begin with a number, is bad.
+-- Proves that `read_head` reads n, then the rest of line 1: a line that ends there, or does not begin with a number, is bad.
 -- Assumes nothing.
 use borrow.Author.Needs.{needs}
 use Rattle.text_words.proofs.Told.{word-more, word-last, word-bad}

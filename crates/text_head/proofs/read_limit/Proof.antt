@@ -1,4 +1,4 @@
--- The second number of line 1 is the limit: it ends the line, and the mark is the default, or the mark follows it.
+-- Proves that `read_limit` reads the second number of line 1, the limit: it ends the line, and the mark is the default, or the mark follows it.
 -- Assumes nothing.
 use borrow.Author.Needs.{needs}
 use Rattle.text_words.proofs.Told.{word-more, word-last, word-bad}

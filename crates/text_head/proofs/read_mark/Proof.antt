@@ -1,4 +1,4 @@
--- The third number of line 1 is the mark, and ends the line: a fourth is bad.
+-- Proves that `read_mark` reads the third number of line 1, the mark, which ends the line: a fourth number is bad.
 -- Assumes nothing.
 use borrow.Author.Needs.{needs}
 use Rattle.text_words.proofs.Told.{word-more, word-last, word-bad}

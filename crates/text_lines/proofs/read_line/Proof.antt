@@ -1,4 +1,5 @@
--- A line of rows begins with its count. Alone on the line it must be 0; else as many rows must follow it, or the line is bad.
+-- Proves that `read_line` reads a line of rows: its count comes first. A count alone on the line must be 0; else as many rows must follow, or the
+-- line is bad.
 -- Assumes nothing.
 use native.Mathlib.Omega.{arith}
 use borrow.Author.Needs.{needs}

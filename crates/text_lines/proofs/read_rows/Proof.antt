@@ -1,4 +1,5 @@
--- The loop's invariant: the numbers before k are read and kept, and the rest of the line, behind them, is the line's. The measure is the text left.
+-- Proves that `read_rows` reads the rows: the numbers before k are read and kept, and the rest of the line completes them. Each turn leaves less
+-- text.
 -- Assumes nothing.
 use Prim.Native.Nat.{_-_}
 use native.Mathlib.Omega.{arith}

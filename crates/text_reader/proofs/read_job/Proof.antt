@@ -1,5 +1,5 @@
--- The tests of a text are made in their order, and the first that refuses is the answer. Where all pass, the job is what line 1 and the lines of rows
--- hold.
+-- Proves that `read_job` makes the tests of a text in their order, and answers the first that refuses. If all pass, the job is what line 1 and the
+-- lines of rows hold.
 -- Assumes nothing.
 use mathlib.Core.Path.{sym, ap}
 use borrow.Author.Needs.{needs}

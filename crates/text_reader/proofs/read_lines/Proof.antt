@@ -1,5 +1,5 @@
--- The loop's invariant: the lines of the first j columns are read and without fault, and the rest of the text begins with the next. The measure is
--- the columns left.
+-- Proves that `read_lines` reads the lines of rows: those of the first j columns are read and have no fault, and the rest of the text begins with the
+-- next. Each turn leaves one column less.
 -- Assumes nothing.
 use Prim.Native.Nat.{_-_}
 use mathlib.Core.Path.{_≡_, refl, _∙_}

@@ -1,4 +1,4 @@
--- Digits are a decimal unless there is none, or a 0 before others.
+-- Proves that `is_decimal` refuses exactly an empty list of digits and a 0 before others.
 -- Assumes nothing.
 use mathlib.Core.Path.{sym}
 use native.Mathlib.Omega.{arith}

@@ -1,4 +1,4 @@
--- Both comparisons, or the first where it fails.
+-- Proves that `is_digit` tests a byte: it makes both comparisons, or stops after the first if that fails.
 -- Assumes nothing.
 use Rattle.text_words.proofs.Scan.{digit-high, digit-low}
 use Rattle.text_words.proofs.is_digit.Statement.{statement}

@@ -1,4 +1,4 @@
--- The loop's invariant: the first i bytes are digits, of this value. The measure is how many may come.
+-- Proves that `read_digits` reads the digits: the first i bytes are digits, and value is what they make. Each turn leaves one less that may come.
 -- Assumes nothing.
 use Prim.Native.Nat.{_-_}
 use mathlib.Core.Logic.{inr}

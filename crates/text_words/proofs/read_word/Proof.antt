@@ -1,5 +1,5 @@
--- A number is a decimal with a space or a newline behind it. Its digits are all that stand there, so where they are no decimal, or the byte behind
--- them is another, a line that begins there has no numbers.
+-- Proves that `read_word` reads a decimal with a space or a newline behind it. It reads all digits there, so if they are no decimal, or another byte
+-- follows, a line that begins there has no numbers.
 -- Assumes nothing.
 use mathlib.Core.Path.{refl, sym, _∙_}
 use borrow.Author.Needs.{needs}

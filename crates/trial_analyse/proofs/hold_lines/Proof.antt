@@ -1,4 +1,5 @@
--- The loop asks nothing of what it holds; the measure is how many turns are left.
+-- Proves that `hold_lines`, which tries the jobs and pieces of all lines, is safe: a turn needs nothing of what it reads, and each leaves fewer to
+-- come.
 -- Assumes nothing.
 use Prim.Native.Nat.{_-_}
 use native.Mathlib.Omega.{arith}

@@ -1,4 +1,5 @@
--- Places wrap and numbers stay small, so a turn is safe whatever it finds. The measure is how many turns are left.
+-- Proves that `fill64`, which fills a slice before a call, is safe and keeps the slice's length, since each turn only stores a number at a place.
+-- Each turn leaves fewer to come.
 -- Assumes nothing.
 use Prim.Native.Nat.{_-_}
 use native.Mathlib.Omega.{arith}

@@ -1,4 +1,4 @@
--- A turn is safe whatever it finds. The measure is how many turns are left.
+-- Proves that `thin`, which takes away one row in eight, is safe: a turn needs nothing of what it reads, and each leaves fewer to come.
 -- Assumes nothing.
 use Prim.Native.Nat.{_-_}
 use native.Mathlib.Omega.{arith}

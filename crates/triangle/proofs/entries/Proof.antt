@@ -1,4 +1,4 @@
--- The product fits, since the rows are few, and half of it is t by its definition.
+-- Proves that `entries` computes t, since the rows are few, so the product fits, and half of it is t by definition.
 -- Assumes nothing.
 use Prim.Native.Nat.{_+_}
 use mathlib.Core.Path.{sym}

@@ -1,5 +1,5 @@
--- The two tasks call each other (Column, Siblings): each relies on the other's contract where fewer columns are left, and at every call fewer
--- are (Measure).
+-- Proves the two tasks, which call each other (Column, Siblings): each relies on the other's contract for fewer columns, and every call has fewer
+-- columns left (Measure).
 -- Assumes nothing.
 mod Column
 mod Siblings

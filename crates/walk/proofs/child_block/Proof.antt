@@ -1,4 +1,4 @@
--- The column is read from its place in the lists, so it is the child that stands there; its subtree is its descendants and itself.
+-- Proves that `child_block` gives a child's block: it reads the child from its place in the lists, and counts its descendants and itself.
 -- Assumes nothing.
 use mathlib.Core.Path.{refl}
 use borrow.Author.Needs.{needs}

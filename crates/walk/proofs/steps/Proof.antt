@@ -1,4 +1,5 @@
--- What the siblings' task for the roots hands back is written by the column's task. Without columns there is no step.
+-- Proves that `steps` writes all steps: the siblings' task does the roots but for one block, and the column's task writes that one. Without columns
+-- there is no step.
 -- Assumes nothing.
 use mathlib.Core.Path.{_∙_}
 use native.Mathlib.Omega.{arith}

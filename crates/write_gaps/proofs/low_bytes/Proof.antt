@@ -1,4 +1,5 @@
--- The invariant: the low bytes of the gaps before i are stored up to next, and widest is the greatest of these gaps. The measure is the rows left.
+-- Proves that `low_bytes` stores the low byte of each gap: those before i are stored up to next, and widest is the greatest of these gaps. Each turn
+-- leaves one row less.
 -- Assumes nothing.
 use Prim.Native.Nat.{_-_}
 use mathlib.Core.Path.{refl}

@@ -1,4 +1,5 @@
--- The invariant: storing the gaps of the rows from i on at next leaves what storing all of them leaves. The measure is the rows left.
+-- Proves that `write_gaps` stores all gaps, since storing the gaps from i on at next leaves what storing all of them leaves. Each turn leaves one row
+-- less.
 -- Assumes nothing.
 use Prim.Native.Nat.{_-_}
 use mathlib.Core.Path.{refl}

@@ -1,4 +1,4 @@
--- Below 128 the low bytes are the bytes of the gaps; else the gaps are written over them.
+-- Proves that `write_run` stores the gaps: if all are below 128, their low bytes are their bytes; else it writes the gaps over them.
 -- Assumes nothing.
 use native.Mathlib.Omega.{arith}
 use borrow.Author.Needs.{needs}

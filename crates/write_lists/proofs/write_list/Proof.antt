@@ -1,5 +1,5 @@
--- The invariant: storing the gaps of the rows from i on at next leaves what storing all of them behind the count leaves. A turn writes a run of rows.
--- The measure is the rows left.
+-- Proves that `write_list` stores a list, since storing the gaps from i on at next leaves what storing all of them behind the count leaves. A turn
+-- writes a run of rows, so fewer rows are left.
 -- Assumes nothing.
 use Prim.Native.Nat.{_-_}
 use mathlib.Core.Path.{refl}

@@ -1,5 +1,5 @@
--- The invariant: storing the lists of the columns behind the first `done` at next leaves what storing all of them leaves. The measure is the columns
--- left.
+-- Proves that `write_lists` stores all lists, since storing those behind the first `done` at next leaves what storing all of them leaves. Each turn
+-- leaves one column less.
 -- Assumes nothing.
 use Prim.Native.Nat.{_-_}
 use native.Mathlib.Omega.{arith}

@@ -1,5 +1,5 @@
--- Below 128 times 128 one byte or two are stored. From there on the loop's invariant: the first i bytes of the little array, which are those of x,
--- are stored. The measure is how many are left.
+-- Proves that `put` stores the bytes of x. Below 128 times 128 it stores one byte or two; else the loop stores those of the little array, and the
+-- first i are stored. Each turn leaves one byte less.
 -- Assumes nothing.
 use Prim.Native.Nat.{_+_, _-_, _/_, _%_, _<_}
 use native.Mathlib.Omega.{arith}

@@ -1,4 +1,4 @@
--- Behind each part so much of the plan is left, at a place that is near; behind the peak nothing is left.
+-- Proves that `put_plan` writes the plan part by part: behind each part a known rest is left, at a small place, and behind the peak nothing.
 -- Assumes nothing.
 use native.Mathlib.Omega.{arith}
 use borrow.Author.Needs.{needs}

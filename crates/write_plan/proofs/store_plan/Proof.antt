@@ -1,4 +1,4 @@
--- The plan is put, and what comes of it is stored.
+-- Proves that `store_plan` stores the plan: it writes the bytes, then clears what is behind them or refuses.
 -- Assumes nothing.
 use borrow.Author.Needs.{needs}
 use Rattle.write_plan.proofs.store_plan.Statement.{statement}

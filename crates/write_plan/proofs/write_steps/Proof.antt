@@ -1,4 +1,5 @@
--- The invariant: storing the steps behind the first `done` at next leaves what storing all of them leaves. The measure is the steps left.
+-- Proves that `write_steps` stores all steps, since storing those behind the first `done` at next leaves what storing all of them leaves. Each turn
+-- leaves one step less.
 -- Assumes nothing.
 use Prim.Native.Nat.{_-_}
 use native.Mathlib.Omega.{arith}

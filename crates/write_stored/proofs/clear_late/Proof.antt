@@ -1,4 +1,4 @@
--- The test is the one that the promise makes.
+-- Proves that `clear_late` clears exactly after a refusal with a number over 7, since it makes the test that the contract names.
 -- Assumes nothing.
 use mathlib.Core.Path.{refl}
 use native.Mathlib.Omega.{arith}

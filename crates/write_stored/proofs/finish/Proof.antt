@@ -1,4 +1,4 @@
--- A law for each way out: the slice too short and cleared, and the places behind the bytes cleared.
+-- Proves that `finish` refuses and clears a slice that is too short, and else clears the places behind the bytes: a law covers each way out.
 -- Assumes nothing.
 use borrow.Author.Needs.{needs}
 use Rattle.write_stored.proofs.Stores.{finished-short, finished-whole}

@@ -1,4 +1,4 @@
--- Every lent part is within its array.
+-- Proves that `call`, which calls the check and compares, is safe: each part that it lends is within its array.
 -- Assumes nothing.
 use native.Mathlib.Omega.{arith}
 use lib.ListN.{length-take}

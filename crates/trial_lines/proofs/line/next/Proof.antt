@@ -1,4 +1,4 @@
--- Every lent part is within its array.
+-- Proves that `next`, which reads the next line, is safe: each part that it lends is within its array.
 -- Assumes nothing.
 use native.Mathlib.Omega.{arith}
 use lib.ListN.{length-take}

@@ -1,4 +1,4 @@
--- The loop asks nothing of what it holds; the measure is how many turns are left.
+-- Proves that `wrong32`, which counts the wrong places of a slice, is safe: a turn needs nothing of what it reads, and each leaves fewer to come.
 -- Assumes nothing.
 use Prim.Native.Nat.{_-_}
 use native.Mathlib.Omega.{arith}

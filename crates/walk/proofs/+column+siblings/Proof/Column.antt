@@ -1,5 +1,5 @@
--- The column's task: at every turn what is there, with the block that is left stored on top, is the whole. The children are one column less than
--- the block, and the block is no more than what was left at the start.
+-- Proves the column's task: at every turn the steps written, with the block that is left stored on top, are the whole. The children take one step
+-- less than the block, and the block is no larger than at the start.
 -- Assumes nothing.
 use Prim.Native.Nat.{ℕ}
 use native.Mathlib.Omega.{arith}

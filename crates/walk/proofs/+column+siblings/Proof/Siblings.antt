@@ -1,5 +1,5 @@
--- The siblings' task: at every turn what is there, with the block that is held stored on top and then those of the siblings to come, is the whole.
--- Two blocks lie in the siblings' steps, so the one that is done has fewer columns than were left.
+-- Proves the siblings' task: at every turn the steps written, with the held block and the blocks of the siblings to come, are the whole. The
+-- siblings' steps contain two blocks, so the one that is done has fewer columns than were left.
 -- Assumes nothing.
 use Prim.Native.Nat.{ℕ, _+_, _-_}
 use native.Mathlib.Omega.{arith}
