@@ -54,4 +54,5 @@ else
         python3 test.py "$stage/all.so" "$VECTORS/$kind.jsonl"
     done
 fi
+python3 ../tests/reading.py || fail "docs/READING.md and crates.txt differ"
 echo "test: passed"
