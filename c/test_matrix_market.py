@@ -1,0 +1,353 @@
+"""Tries the reader of Matrix Market files, and the tool farm.
+usage: test_matrix_market.py [-n FILES] [-s SEED] [FARM]
+
+Without FARM: builds the reader with the sanitizers; hands it bad files one by one, which must be refused in the line that is at fault; then FILES
+files (default 5,000) that SEED (default 1) made bad or left good. For each of these `reading` below, a second reading of the format, says what it is:
+a pattern with these rows, or refused in this line. With FARM: also the program's answers, exit statuses and files. Exits with 1 if anything differs.
+"""
+import argparse
+import os
+import random
+import re
+import subprocess
+import sys
+import tempfile
+
+HERE = os.path.dirname(os.path.abspath(__file__))
+STRICT = ["-std=c11", "-g", "-O1", "-Wall", "-Wextra", "-Wpedantic", "-Werror", "-fsanitize=address,undefined", "-fno-sanitize-recover=all"]
+
+# For each file named on standard input: its pattern or its refusal, in one line.
+DRIVER = r"""
+#include "matrix_market.h"
+#include <inttypes.h>
+#include <stdio.h>
+#include <string.h>
+int main(void) {
+    char path[4096];
+    while (fgets(path, sizeof path, stdin)) {
+        mm_pattern p; mm_fault f;
+        path[strcspn(path, "\n")] = 0;
+        mm_answer a = mm_read_pattern(path, &p, &f);
+        if (a) { printf("%d %" PRIu64 " %s\n", (int)a, f.line, f.words); continue; }
+        printf("0 %" PRIu64 " %" PRIu64 " %" PRIu64 " %" PRIu64, p.n, p.repeated, p.mirrored, p.unended);
+        for (uint64_t j = 1; j <= p.n; j++) {
+            printf(" |");
+            for (uint64_t k = p.starts[j - 1]; k < p.starts[j]; k++) printf(" %" PRIu32, p.rows[k]);
+        }
+        printf(" %s\n", p.starts[0] == 0 && p.starts[p.n] == p.rows_len ? "." : "starts");
+        mm_free(&p);
+    }
+    return 0;
+}
+"""
+
+failures = tried = 0
+
+
+def see(good, what, *more):
+    global failures, tried
+    tried += 1
+    if not good:
+        failures += 1
+        if failures <= 20:
+            print("FAILED", what, *more)
+
+
+# ---- the second reading
+
+def reading(data):
+    """("refused", line), ("columns", line), or ("pattern", n, repeated, mirrored, unended, rows of each column)."""
+    lines = data.split(b"\n")
+    ended = lines[-1] == b""
+    if ended:
+        lines.pop()
+    count = len(lines)
+    lines = [l[:-1] if l.endswith(b"\r") else l for l in lines]
+    cr_last = data.endswith(b"\r")
+
+    def text(l):
+        return not re.search(rb"[\x00-\x08\x0b-\x1f\x7f]", l)
+
+    banner = lines[0] if lines else b""
+    m = re.fullmatch(rb"%%matrixmarket[ \t]+matrix[ \t]+coordinate[ \t]+(real|integer|pattern)[ \t]+(general|symmetric)[ \t]*", banner.lower())
+    if not m or len(banner) > 1024:
+        return ("refused", 1)
+    field, symmetric = m[1], m[2] == b"symmetric"
+    value = {b"pattern": rb"", b"integer": rb"[ \t]+[+-]?[0-9]+", b"real": rb"[ \t]+[+-]?([0-9]+\.?[0-9]*|\.[0-9]+)([eEdD][+-]?[0-9]+)?"}[field]
+    n = None
+    places, missing = {}, 0
+    repeated, unended = 0, 0
+    for at, l in enumerate(lines[1:], 2):
+        if not text(l):
+            return ("refused", at)
+        body = l.lstrip(b" \t")
+        if body.startswith(b"%") and len(l) - len(body) <= 1024:
+            continue
+        if len(l) > 1024:
+            return ("refused", at)
+        if not body:
+            continue
+        if n is None:
+            s = re.fullmatch(rb"[ \t]*([0-9]+)[ \t]+([0-9]+)[ \t]+([0-9]+)[ \t]*", l)
+            if not s or max(map(int, s.groups())) >= 2 ** 64 or int(s[1]) != int(s[2]):
+                return ("refused", at)
+            n, missing = int(s[1]), int(s[3])
+            if n > 4096:
+                return ("columns", at)
+            if missing > n * n:
+                return ("refused", at)
+            continue
+        e = re.fullmatch(rb"[ \t]*([0-9]+)[ \t]+([0-9]+)" + value + rb"[ \t]*", l)
+        if not e or not missing or not (1 <= int(e[1]) <= n and 1 <= int(e[2]) <= n):
+            return ("refused", at)
+        missing -= 1
+        place = int(e[1]), int(e[2])
+        repeated += place in places
+        places.setdefault(place, at)
+        if at == count and not ended and not cr_last:
+            unended = at
+    if n is None or missing:
+        return ("refused", count + 1)
+    if not symmetric:
+        alone = [at for (i, j), at in places.items() if (j, i) not in places]
+        if alone:
+            return ("refused", min(alone))
+    columns = [set() for _ in range(n)]
+    for i, j in places:
+        if i != j:
+            columns[min(i, j) - 1].add(max(i, j))
+    mirrored = sum((j, i) in places for i, j in places if i < j) if symmetric else 0
+    return ("pattern", n, repeated, mirrored, unended, [sorted(c) for c in columns])
+
+
+def said(answer):
+    """A line of the driver in the same form."""
+    words = answer.split()
+    if words[0] != "0":
+        return ({"1": "refused", "2": "columns"}.get(words[0], "answer " + words[0]), int(words[1]))
+    columns = " ".join(words[5:-1]).split("|")[1:]
+    return ("pattern", *map(int, words[1:5]), [list(map(int, c.split())) for c in columns]) if words[-1] == "." else ("starts",)
+
+
+# ---- bad files, one by one: name, line, a word of the answer, bytes
+
+H = b"%%MatrixMarket matrix coordinate real symmetric\n"
+P = b"%%MatrixMarket matrix coordinate pattern symmetric\n"
+G = b"%%MatrixMarket matrix coordinate real general\n"
+BAD = [
+    ("empty", 1, "empty", b""),
+    ("no banner", 1, "begin", b"3 3 1\n2 1 5\n"),
+    ("one percent sign", 1, "begin", b"%MatrixMarket matrix coordinate real symmetric\n3 3 1\n2 1 5\n"),
+    ("blank before the banner", 1, "begin", b" " + H + b"3 3 1\n2 1 5\n"),
+    ("blank line before the banner", 1, "begin", b"\n" + H + b"3 3 1\n2 1 5\n"),
+    ("banner too short", 1, "4 words", b"%%MatrixMarket matrix coordinate real\n3 3 1\n2 1 5\n"),
+    ("banner too long", 1, "6 words", H[:-1] + b" indeed\n3 3 1\n2 1 5\n"),
+    ("vector", 1, "vector", b"%%MatrixMarket vector coordinate real symmetric\n3 3 1\n2 1 5\n"),
+    ("array", 1, "array", b"%%MatrixMarket matrix array real symmetric\n1 1\n5\n"),
+    ("complex", 1, "complex", b"%%MatrixMarket matrix coordinate complex symmetric\n3 3 1\n2 1 5 5\n"),
+    ("hermitian", 1, "hermitian", b"%%MatrixMarket matrix coordinate real hermitian\n3 3 1\n2 1 5\n"),
+    ("skew-symmetric", 1, "skew-symmetric", b"%%MatrixMarket matrix coordinate real skew-symmetric\n3 3 1\n2 1 5\n"),
+    ("unknown field", 1, "field", b"%%MatrixMarket matrix coordinate double symmetric\n3 3 1\n2 1 5\n"),
+    ("unknown symmetry", 1, "symmetry", b"%%MatrixMarket matrix coordinate real lopsided\n3 3 1\n2 1 5\n"),
+    ("banner alone", 2, "size line", H),
+    ("comments alone", 4, "size line", H + b"% one\n% two\n"),
+    ("size of two numbers", 2, "2 words", H + b"3 3\n2 1 5\n"),
+    ("size of four numbers", 2, "4 words", H + b"3 3 1 1\n2 1 5\n"),
+    ("size of one word", 3, "1 word,", H + b"% c\n3\n2 1 5\n"),
+    ("size of many words", 2, "12 words", H + b"3 3 1 1 1 1 1 1 1 1 1 1\n2 1 5\n"),
+    ("size in words", 2, "no whole number", H + b"3 three 1\n2 1 5\n"),
+    ("size with a sign", 2, "sign", H + b"-3 -3 1\n2 1 5\n"),
+    ("size with a point", 2, "no whole number", H + b"3 3 1.0\n2 1 5\n"),
+    ("size over 64 bits", 2, "64 bits", H + b"18446744073709551616 18446744073709551616 1\n2 1 5\n"),
+    ("count over 64 bits", 2, "64 bits", H + b"3 3 18446744073709551617\n2 1 5\n"),
+    ("not square", 2, "square", H + b"3 4 1\n2 1 5\n"),
+    ("size that wraps to a square", 2, "square", H + b"3 4294967299 1\n2 1 5\n"),
+    ("more entries than places", 2, "places", H + b"3 3 10\n2 1 5\n"),
+    ("entries in no matrix", 2, "places", H + b"0 0 1\n1 1 5\n"),
+    ("count that would take all memory", 2, "places", H + b"4096 4096 18446744073709551615\n2 1 5\n"),
+    ("too few entries", 4, "ends after 1 of the 2", H + b"3 3 2\n2 1 5\n"),
+    ("too few entries, no line end", 4, "ends after 1 of the 2", H + b"3 3 2\n2 1 5"),
+    ("no entry of many", 3, "ends after 0", H + b"4096 4096 16777216\n"),
+    ("an entry beyond", 4, "beyond", H + b"3 3 1\n2 1 5\n3 1 5\n"),
+    ("an entry beyond, after comments", 6, "beyond", H + b"3 3 1\n2 1 5\n%\n\n3 1 5\n"),
+    ("words beyond", 4, "beyond", H + b"3 3 1\n2 1 5\nthe end\n"),
+    ("minus in a row", 4, "sign", H + b"3 3 2\n3 1 5\n-2 1 5\n"),
+    ("minus in a column", 3, "sign", H + b"3 3 1\n2 -1 5\n"),
+    ("plus in a row", 3, "sign", H + b"3 3 1\n+2 1 5\n"),
+    ("row 0", 3, "row is 0", H + b"3 3 1\n0 1 5\n"),
+    ("column 0", 3, "column is 0", H + b"3 3 1\n2 0 5\n"),
+    ("row over n", 3, "row 4 is over", H + b"3 3 1\n4 1 5\n"),
+    ("column over n", 3, "column 4 is over", H + b"3 3 1\n2 4 5\n"),
+    ("row that wraps in 32 bits", 3, "over n", H + b"3 3 1\n4294967298 1 5\n"),
+    ("row that wraps in 64 bits", 3, "64 bits", H + b"3 3 1\n18446744073709551618 1 5\n"),
+    ("row in words", 3, "no whole number", H + b"3 3 1\ntwo 1 5\n"),
+    ("column with a point", 3, "no whole number", H + b"3 3 1\n2 1.0 5\n"),
+    ("row in hexadecimal", 3, "no whole number", H + b"3 3 1\n0x2 1 5\n"),
+    ("column missing", 3, "column is missing", H + b"3 3 1\n2\n"),
+    ("value missing", 3, "value is missing", H + b"3 3 1\n2 1\n"),
+    ("value in words", 3, "no number", H + b"3 3 1\n2 1 five\n"),
+    ("value nan", 3, "no number", H + b"3 3 1\n2 1 nan\n"),
+    ("value inf", 3, "no number", H + b"3 3 1\n2 1 -inf\n"),
+    ("value without a digit", 3, "no number", H + b"3 3 1\n2 1 .\n"),
+    ("value with half an exponent", 3, "no number", H + b"3 3 1\n2 1 1e+\n"),
+    ("value with a comma", 3, "no number", H + b"3 3 1\n2 1 1,5\n"),
+    ("real value for integer", 3, "no whole number", b"%%MatrixMarket matrix coordinate integer symmetric\n3 3 1\n2 1 5.0\n"),
+    ("value for pattern", 3, "follows", P + b"3 3 1\n2 1 5\n"),
+    ("trailing word", 3, "follows", H + b"3 3 1\n2 1 5 6\n"),
+    ("trailing comment", 3, "follows", H + b"3 3 1\n2 1 5 % five\n"),
+    ("two entries in a line", 3, "follows", H + b"3 3 2\n2 1 5 3 1 5\n"),
+    ("no mate", 5, "row 3, column 2 has no mate at row 2, column 3", G + b"3 3 3\n1 2 5\n2 1 5\n3 2 5\n"),
+    ("no mate, above the diagonal", 3, "row 1, column 3 has no mate at row 3, column 1", G + b"3 3 4\n1 3 5\n1 2 5\n2 1 5\n1 3 7\n"),
+    ("a byte 0", 3, "byte 0", H + b"3 3 1\n2 1 5\x00\n"),
+    ("a byte 0 in a comment", 2, "byte 0", H + b"% a\x00b\n3 3 1\n2 1 5\n"),
+    ("a packed file", 1, "byte 31", b"\x1f\x8b\x08\x00\x00\x00\x00\x00\x00\x03\xcb"),
+    ("a program", 1, "byte 127", b"\x7fELF\x02\x01\x01" + bytes(900)),
+    ("bytes over 127 in a number", 3, "no whole number", H + b"3 3 1\n2 \xb9 5\n"),
+    ("a byte order mark", 1, "begin", b"\xef\xbb\xbf" + H + b"3 3 1\n2 1 5\n"),
+    ("two bytes a letter", 1, "byte 0", (H + b"3 3 1\n2 1 5\n").decode().encode("utf-16-le")),
+    ("line ends of CR alone", 1, "carriage return", (H + b"3 3 1\n2 1 5\n").replace(b"\n", b"\r")),
+    ("a CR inside", 3, "carriage return", H + b"3 3 1\n2 1\r5\n"),
+    ("a long line", 3, "longer", H + b"3 3 1\n2 1 " + b"5" * 5000 + b"\n"),
+    ("a long first line", 1, "longer", b"%" * 100000),
+]
+
+MANY = [     # over the library's columns
+    ("4,097 columns", 2, "4,096", H + b"4097 4097 1\n2 1 5\n"),
+    ("very many columns", 3, "4,096", H + b"%\n18446744073709551615 18446744073709551615 18446744073709551615\n2 1 5\n"),
+]
+
+GOOD = [     # n, repeated, mirrored, unended, columns
+    ("lower", (3, 0, 0, 0, [[2], [3], []]), H + b"3 3 3\n2 1 5\n3 2 5\n1 1 5\n"),
+    ("upper", (3, 0, 0, 0, [[2], [3], []]), H + b"3 3 2\n1 2 5\n2 3 5\n"),
+    ("both triangles", (3, 0, 2, 0, [[2], [3], []]), H + b"3 3 4\n1 2 5\n2 3 5\n2 1 5\n3 2 5\n"),
+    ("general", (3, 0, 0, 0, [[2], [3], []]), G + b"3 3 5\n1 2 5\n2 3 6\n3 3 1\n2 1 7\n3 2 0\n"),
+    ("repeated", (3, 3, 1, 0, [[3], [], []]), H + b"3 3 6\n3 1 1\n3 1 2\n1 3 1\n3 1 5\n2 2 1\n2 2 1\n"),
+    ("any case, CRLF, long comment, blanks", (3, 0, 0, 0, [[2], [], []]),
+     b"%%mATRIXmARKET\tMATRIX  Coordinate REAL Symmetric \r\n%" + b"x" * 100000 + b"\r\n  % \xe9\r\n\r\n \t 3\t3  1 \r\n\r\n  002 1 -.5D+07\t\r\n% end\r\n\r\n"),
+    ("numbers", (2, 3, 0, 0, [[2], []]), H + b"2 2 4\n2 1 1.\n2 1 +1e5\n2 1 " + b"9" * 1000 + b"\n2 1 -0.0E-99999\n"),
+    ("integer over 64 bits is a value", (2, 0, 0, 0, [[2], []]), b"%%MatrixMarket matrix coordinate integer symmetric\n2 2 1\n2 1 -99999999999999999999\n"),
+    ("no line end", (2, 0, 0, 3, [[2], []]), P + b"2 2 1\n2 1"),
+    ("no line end behind a comment", (2, 0, 0, 0, [[2], []]), P + b"2 2 1\n2 1\n% end"),
+    ("no entries", (3, 0, 0, 0, [[], [], []]), P + b"3 3 0\n"),
+    ("no columns", (0, 0, 0, 0, []), P + b"0 0 0\n"),
+    ("the last column", (4096, 0, 0, 0, [[4096]] + [[]] * 4095), P + b"4096 4096 2\n4096 4096\n4096 1\n"),
+]
+
+
+# ---- files made bad, from a seed
+
+def made(rng):
+    n = rng.choice([0, 1, 2, 3, 4, 5, 7, 9, 12])
+    field, shape = rng.choice(["real", "integer", "pattern"]), rng.choice(["symmetric", "symmetric", "general"])
+    pairs = [(i, j) for i in range(1, n + 1) for j in range(1, i + 1) if rng.random() < 0.4]
+    entries = []
+    for i, j in pairs:
+        both = shape == "general" or rng.random() < 0.1
+        turn = rng.random() < 0.3
+        entries += [(i, j), (j, i)] if both and i != j else [(j, i) if turn else (i, j)]
+    if rng.random() < 0.3 and entries:
+        entries += [rng.choice(entries) for _ in range(rng.randint(1, 3))]
+    if rng.random() < 0.5:
+        rng.shuffle(entries)
+
+    def value():
+        if field == "pattern":
+            return ""
+        return " " + (str(rng.randint(-99, 99)) if field == "integer" else rng.choice(["1.5", "-2", "+.5e3", "1.D-2", "0"]))
+
+    lines = ["%%MatrixMarket matrix coordinate " + field + " " + shape]
+    if rng.random() < 0.3:
+        lines[0] = rng.choice([lines[0].upper(), lines[0].lower(), lines[0].title()])
+    lines += ["% " + "c" * rng.choice([0, 5, 2000])] * rng.randint(0, 2)
+    lines += [f"{n} {n} {len(entries)}"] + [f"{i} {j}{value()}" for i, j in entries]
+    end = rng.choice(["\n", "\n", "\r\n"])
+    return (end.join(lines) + (end if rng.random() < 0.8 else "")).encode()
+
+
+WORDS = [b"0", b"1", b"2", b"-1", b"+1", b"99", b"1.5", b"1e5", b"x", b"", b" ", b"18446744073709551616", b"18446744073709551615", b"4294967297", b"4096", b"4097",
+         b"nan", b"%", b"1 1", b"1 2 3", b"\xb2", b"1\r", b"1\x00", b"general", b"symmetric", b"real", b"pattern", b"integer", b"complex", b"array", b"Hermitian"]
+LETTERS = b"0123456789-+.eED% \t\r\n\x00\x0b\x0c\x1a\x7f\xffxX"
+
+
+def spoilt(rng, data):
+    for _ in range(rng.choice([0, 1, 1, 1, 2, 3])):
+        how = rng.randrange(9)
+        at = rng.randrange(len(data) + 1)
+        if how == 0:
+            data = data[:at] + bytes([rng.choice(LETTERS)]) + data[at:]
+        elif how == 1:
+            data = data[:at] + data[at + 1:]
+        elif how == 2:
+            data = data[:at] + bytes([rng.choice(LETTERS)]) + data[at + 1:]
+        elif how == 3:
+            data = data[:at]
+        elif how in (4, 5):
+            words = [m.span() for m in re.finditer(rb"[^ \t\r\n]+", data)][rng.choice([0, 5, 5]):]
+            if words:
+                a, b = rng.choice(words)
+                data = data[:a] + rng.choice(WORDS) + data[b:]
+        else:
+            lines = data.splitlines(True)
+            if lines:
+                k = rng.randrange(len(lines))
+                if how == 6:
+                    del lines[k]
+                elif how == 7:
+                    lines.insert(rng.randrange(len(lines) + 1), lines[k])
+                else:
+                    lines.insert(rng.randrange(len(lines) + 1), rng.choice([b"\n", b"% c\n", b" \t\r\n", b"1 1\n", b"2 1 1\n", b"1 2 1\n", b"%" * 1500 + b"\n"]))
+            data = b"".join(lines)
+    return data
+
+
+def run_reader(folder, files):
+    with open(folder + "/driver.c", "w") as f:
+        f.write(DRIVER)
+    subprocess.run(["gcc", *STRICT, "-I", HERE, "-o", folder + "/driver", folder + "/driver.c", HERE + "/matrix_market.c"], check=True)
+    paths = []
+    for k, data in enumerate(files):
+        paths.append(f"{folder}/{k}.mtx")
+        with open(paths[-1], "wb") as f:
+            f.write(data)
+    ran = subprocess.run([folder + "/driver"], input="\n".join(paths) + "\n", capture_output=True, text=True)
+    see(ran.returncode == 0 and not ran.stderr, "the sanitizers", ran.returncode, ran.stderr[:2000])
+    answers = ran.stdout.splitlines()
+    see(len(answers) == len(files), "answers", len(answers), "of", len(files))
+    return answers
+
+
+def test_reader(folder, count, seed):
+    rng = random.Random(seed)
+    random_files = [spoilt(rng, made(rng)) for _ in range(count)]
+    answers = run_reader(folder, [b[3] for b in BAD + MANY] + [g[2] for g in GOOD] + random_files)
+    for (name, line, word, data), answer in zip(BAD + MANY, answers):
+        kind = "columns" if (name, line, word, data) in MANY else "refused"
+        see(said(answer) == (kind, line) and word in answer, name, "|", answer, "| not", kind, line, word)
+        see(reading(data) == (kind, line), name, "| second reading:", reading(data))
+    answers = answers[len(BAD) + len(MANY):]
+    for (name, pattern, data), answer in zip(GOOD, answers):
+        see(said(answer) == ("pattern", *pattern), name, "|", answer[:200])
+        see(reading(data) == ("pattern", *pattern), name, "| second reading:", str(reading(data))[:200])
+    taken = 0
+    for data, answer in zip(random_files, answers[len(GOOD):]):
+        want = reading(data)
+        taken += want[0] == "pattern"
+        see(said(answer) == want, data, "|", answer, "| not", want)
+        see(len(answer) < 260 or want[0] == "pattern", "a long answer", answer)
+    print(f"reader: {len(BAD) + len(MANY)} bad files, {len(GOOD)} good files, {count} from seed {seed}, of which {taken} are good")
+
+
+def main():
+    p = argparse.ArgumentParser(usage=__doc__.splitlines()[1][7:])
+    p.add_argument("-n", type=int, default=5000)
+    p.add_argument("-s", type=int, default=1)
+    p.add_argument("farm", nargs="?")
+    a = p.parse_args()
+    with tempfile.TemporaryDirectory() as folder:
+        test_reader(folder, a.n, a.s)
+    print(f"{tried - failures} passed, {failures} failed")
+    sys.exit(failures > 0)
+
+
+if __name__ == "__main__":
+    main()
