@@ -9,6 +9,8 @@ import argparse
 import os
 import random
 import re
+import resource
+import signal
 import subprocess
 import sys
 import tempfile
@@ -42,6 +44,7 @@ int main(void) {
 """
 
 failures = tried = 0
+WORK = None      # the folder of all files
 
 
 def see(good, what, *more):
@@ -337,14 +340,216 @@ def test_reader(folder, count, seed):
     print(f"reader: {len(BAD) + len(MANY)} bad files, {len(GOOD)} good files, {count} from seed {seed}, of which {taken} are good")
 
 
+# ---- the tool
+
+def key_of(n, mark, limit, columns):
+    """The bytes of a key: edition, n, mark, limit; for each column how many rows, and their gaps; groups of seven bits, the lowest first."""
+    numbers = [1, n, mark, limit]
+    for j, rows in enumerate(columns, 1):
+        numbers += [len(rows)] + [b - a for a, b in zip([j] + rows, rows)]
+    out = bytearray()
+    for x in numbers:
+        while x > 127:
+            out.append(x % 128 + 128)
+            x //= 128
+        out.append(x)
+    return bytes(out)
+
+
+class Farm:
+    def __init__(self, program, folder):
+        self.program, self.folder = os.path.abspath(program), folder
+
+    def file(self, name, data):
+        with open(f"{self.folder}/{name}", "wb") as f:
+            f.write(data)
+
+    def bytes(self, name):
+        try:
+            with open(f"{self.folder}/{name}", "rb") as f:
+                return f.read()
+        except FileNotFoundError:
+            return None
+
+    def names(self):
+        return sorted(os.listdir(self.folder))
+
+    def run(self, *words, **more):
+        ran = subprocess.run([self.program, *words], cwd=self.folder, capture_output=True, **more)
+        return ran.returncode, ran.stdout.decode(), ran.stderr.decode()
+
+    def sees(self, what, words, status, out, err, **more):
+        """The answer matches: out and err are patterns for all that was printed, "" for nothing."""
+        got = self.run(*words, **more)
+        see(got[0] == status and re.fullmatch(out, got[1]) and re.fullmatch(err, got[2]), what, words, got, "| not", status, out, err)
+
+
+def new_farm(program):
+    folder = tempfile.mkdtemp(dir=WORK)
+    return Farm(program, folder)
+
+
+def test_bad_files(program):
+    f = new_farm(program)
+    for name, line, word, data in BAD + MANY:
+        f.file("a.mtx", data)
+        status = 1 if (name, line, word, data) in MANY else 2
+        f.sees(name, ["plan", "a.mtx"], status, "", rf"farm: a\.mtx: line {line}: [^\n]*{re.escape(word)}[^\n]*\n")
+    see(f.names() == ["a.mtx"], "bad files leave no files", f.names())
+    f.sees("no file", ["plan", "b.mtx"], 2, "", r"farm: b\.mtx: cannot be opened: [^\n]*\n")
+    f.sees("a folder", ["plan", "."], 2, "", r"farm: \.: cannot be read: [^\n]*\n")
+    f.sees("a name with a line end", ["plan", "b\n.mtx"], 2, "", r"farm: b\?\.mtx: cannot be opened: [^\n]*\n")
+
+
+def test_good_files(program):
+    f = new_farm(program)
+    for name, (n, repeated, mirrored, unended, columns), data in GOOD:
+        f.file("a.mtx", data)
+        notes = (rf"farm: a\.mtx: {repeated} repeated [^\n]*\n" if repeated else "") + (rf"farm: a\.mtx: symmetric[^\n]* {mirrored} [^\n]*\n" if mirrored else "")
+        notes += rf"farm: a\.mtx: line {unended}: [^\n]*\n" if unended else ""
+        f.sees(name, ["plan", "a.mtx"], 0, rf"columns +{n}\n(.*\n)*plan .* a\.plan\n", notes)
+        see(f.bytes("a.key") == key_of(n, 0, 2 ** 40, columns), name, "key", f.bytes("a.key"))
+        f.sees(name, ["check", "a.key", "a.plan"], 0, r"done, peak \d+\n", "")
+        f.sees(name, ["check", "a.mtx", "a.plan"], 0, r"done, peak \d+\n", notes)
+
+
+def matrix(rng, n, density):
+    columns = [[i for i in range(j + 1, n + 1) if rng.random() < density] for j in range(1, n + 1)]
+    entries = [(i, j) for j, c in enumerate(columns, 1) for i in c]
+    return columns, P + f"{n} {n} {len(entries)}\n".encode() + "".join(f"{i} {j}\n" for i, j in entries).encode()
+
+
+def permuted(columns, numbers):
+    place = {old: new for new, old in enumerate(numbers, 1)}
+    out = [[] for _ in columns]
+    for j, rows in enumerate(columns, 1):
+        for i in rows:
+            out[min(place[i], place[j]) - 1].append(max(place[i], place[j]))
+    return [sorted(c) for c in out]
+
+
+def test_jobs(program, rng):
+    """The key says which job was planned: with mark, limit and permutation. Damaged plans and keys are refused, by key and by matrix alike."""
+    f = new_farm(program)
+    for k in range(12):
+        n = rng.choice([1, 2, 5, 20, 60, 300])
+        columns, data = matrix(rng, n, 3 / n)
+        mark, limit, numbers = rng.randrange(3), rng.choice([2 ** 40, 10 ** 6]), rng.sample(range(1, n + 1), n)
+        f.file("a.mtx", data)
+        f.file("p", (rng.choice([" ", "\n", "\r\n", " \n\n\t"]).join(map(str, numbers)) + rng.choice(["", "\n"])).encode())
+        options = ["-m", str(mark), "-l", str(limit), "-p", "p"]
+        f.sees("plan", ["plan", *options, "a.mtx", "-d", "."], 0, rf"(.*\n)*permutation   {n} numbers, \./a\.perm\n", "")
+        see(f.bytes("a.key") == key_of(n, mark, limit, permuted(columns, numbers)), "the key of a permuted job", n)
+        see(f.bytes("a.perm") == "".join(f"{x}\n" for x in numbers).encode(), "the permutation", n)
+        options[5] = "a.perm"
+        f.sees("check", ["check", "a.key", "a.plan"], 0, r"done, peak \d+\n", "")
+        f.sees("check", ["check", "a.mtx", "a.plan", *options], 0, r"done, peak \d+\n", "")
+        key, plan = f.bytes("a.key"), f.bytes("a.plan")
+        for _ in range(6):
+            at = rng.randrange(len(plan))
+            f.file("bad.plan", rng.choice([plan[:at], plan + b"\x00", plan[:at] + bytes([plan[at] ^ 1 << rng.randrange(8)]) + plan[at + 1:]]))
+            one, two = f.run("check", "a.key", "bad.plan"), f.run("check", "a.mtx", "bad.plan", *options)
+            same = [re.sub(r"; the true peak is \d+", "", x[1]) for x in (one, two)]    # the solver's call does not tell it
+            see(one[0] == two[0] == 1 and same[0] == same[1] and re.fullmatch(r"refused \d+ at \d+: [^\n]+\n", one[1]) and not one[2] + two[2], "a damaged plan", one, two)
+            at = rng.randrange(len(key))
+            f.file("bad.key", rng.choice([key[:at], key + b"\x00", key[:at] + bytes([key[at] ^ 1 << rng.randrange(8)]) + key[at + 1:]]))
+            f.sees("a damaged key", ["check", "bad.key", "a.plan"], 1, r"refused (27|11) at \d+: [^\n]+\n", "")
+        f.sees("another mark", ["check", "a.mtx", "a.plan", "-p", "p", "-m", str((mark + 1) % 3), "-l", str(limit)], 1, r"refused 11 at [34]: [^\n]+\n", "")
+    for order in ("amd", "metis"):
+        columns, data = matrix(rng, 40, 0.1)
+        f.file("o.mtx", data)
+        status, out, err = f.run("plan", "o.mtx", "-o", order)
+        if status:
+            see(status == 2 and re.fullmatch(rf"farm: -o {order}: [^\n]* was not found when farm was built\n", err) and "o.key" not in f.names(), order, err)
+        else:
+            numbers = list(map(int, f.bytes("o.perm").split()))
+            see(sorted(numbers) == list(range(1, 41)) and f.bytes("o.key") == key_of(40, 0, 2 ** 40, permuted(columns, numbers)), order, numbers)
+            f.sees(order, ["check", "o.mtx", "o.plan", "-p", "o.perm"], 0, r"done, peak \d+\n", "")
+        print(f"farm: -o {order}: {'not built in' if status else 'built in'}")
+
+
+def test_permutations(program):
+    f = new_farm(program)
+    f.file("a.mtx", P + b"3 3 2\n2 1\n3 1\n")
+    for line, word, data in [(1, "ends after 0", b""), (3, "ends after 2", b"1\n2\n"), (1, "ends after 2", b"1 2"), (4, "beyond", b"1\n2\n3\n4\n"), (1, "beyond", b"1 2 3 3"),
+                             (2, "in line 1 already", b"3 1\n3\n"), (2, "not in 1 to 3", b"3\n0\n1\n"), (2, "not in 1 to 3", b"3\n4\n1\n"), (1, "sign", b"-1 2 3\n"),
+                             (3, "no whole number", b"1\n2\nthree\n"), (3, "no whole number", b"1\r\n2\r\n3.0\r\n"), (2, "64 bits", b"1\n18446744073709551618\n3\n"),
+                             (2, "byte 0", b"1\n2\x00\n3\n"), (1, "more than 63", b"0" * 63 + b"1 2 3\n"), (1, "no whole number", b"% 1 2 3\n"), (1, "carriage", b"1\r2\r3\r")]:
+        f.file("p", data)
+        for words in (["plan", "a.mtx", "-p", "p"], ["check", "a.mtx", "a.mtx", "-p", "p"]):
+            f.sees(data, words, 2, "", rf"farm: p: line {line}: [^\n]*{re.escape(word)}[^\n]*\n")
+    see(f.names() == ["a.mtx", "p"], "bad permutations leave no files", f.names())
+
+
+def test_calls(program):
+    f = new_farm(program)
+    f.file("a.mtx", P + b"3 3 2\n2 1\n3 1\n")
+    f.sees("help", ["--help"], 0, r"usage: farm plan (.*\n)+", "")
+    for words in ([], ["pla"], ["plan"], ["plan", "a.mtx", "b.mtx"], ["check", "a.mtx"], ["plan", "a.mtx", "-x"], ["plan", "a.mtx", "-m"], ["plan", "a.mtx", "-m", ""],
+                  ["plan", "a.mtx", "-m", "one"], ["plan", "a.mtx", "-m", "-1"], ["plan", "a.mtx", "-m", "1x"], ["plan", "a.mtx", "-m", " 1"], ["plan", "a.mtx", "-m1"],
+                  ["plan", "a.mtx", "-l", "1e6"], ["plan", "a.mtx", "-l", "18446744073709551616"], ["plan", "a.mtx", "-m", "1", "-m", "1"], ["plan", "a.mtx", "-o", "rcm"],
+                  ["plan", "a.mtx", "-o", "natural", "-p", "p"], ["plan", "a.mtx", "-p", "p"], ["plan", "a.mtx", "-d", "nowhere"], ["plan", "a.mtx", "-d", ""], ["plan", "a.mtx", "-d", "a.mtx"],
+                  ["check", "a.mtx", "a.plan"], ["check", "a.key", "a.plan"], ["check", "a.mtx", "a.plan", "-o", "amd"], ["check", "a.mtx", "."], ["check", "a.key", "a.plan", "-m", "0"]):
+        f.sees("call", words, 2, "", r"farm: [^\n]+\n")
+    for words, number in ((["-m", "3"], 2), (["-l", str(2 ** 40 + 1)], 3), (["-m", str(2 ** 32)], 2), (["-l", "1"], 9)):
+        f.sees("call", ["plan", "a.mtx", *words], 1, "", rf"farm: a\.mtx: refused {number} at 0: [^\n]+\n")
+    see(f.names() == ["a.mtx"], "refused calls leave no files", f.names())
+
+
+def small_files():
+    signal.signal(signal.SIGXFSZ, signal.SIG_IGN)
+    resource.setrlimit(resource.RLIMIT_FSIZE, (40, 40))
+
+
+def test_files(program, rng):
+    """Files are replaced whole, or stay as they were."""
+    f = new_farm(program)
+    f.file("a.mtx", matrix(rng, 30, 0.2)[1])
+    old = {"a.key": b"old key", "a.plan": b"old plan"}
+    for name in old:
+        f.file(name, old[name])
+    whole = ["a.key", "a.mtx", "a.plan"]
+    f.sees("over the limit", ["plan", "a.mtx", "-l", "1"], 1, "", r"farm: [^\n]+\n")
+    see({k: f.bytes(k) for k in old} == old and f.names() == whole, "a refused plan touches nothing", f.names())
+    f.sees("no room", ["plan", "a.mtx"], 2, "", r"farm: a\.key: cannot be written: [^\n]+\n", preexec_fn=small_files)
+    see({k: f.bytes(k) for k in old} == old and f.names() == whole, "a full disk touches nothing", f.names())
+    os.remove(f.folder + "/a.plan")
+    os.mkdir(f.folder + "/a.plan")
+    f.sees("a folder in the way", ["plan", "a.mtx"], 2, "", r"farm: a\.plan: cannot be written: [^\n]+\n")
+    see(f.bytes("a.key") == b"old key" and f.names() == whole, "a folder in the way: nothing is touched", f.names())
+    os.rmdir(f.folder + "/a.plan")
+    f.sees("replaced", ["plan", "a.mtx"], 0, r"(.*\n)+", "")
+    see(f.bytes("a.key")[:2] == bytes([1, 30]) and f.names() == whole, "replaced", f.names())
+    f.file("a.perm", b"old\n")
+    f.sees("an old permutation", ["plan", "a.mtx"], 0, r"(.*\n)+", r"farm: a\.perm: this file is not of this plan[^\n]*\n")
+    see(f.bytes("a.perm") == b"old\n", "an old permutation stays")
+    with open("/dev/full", "w") as full:
+        ran = subprocess.run([f.program, "check", "a.key", "a.plan"], cwd=f.folder, stdout=full, stderr=subprocess.PIPE)
+    see(ran.returncode == 2 and ran.stderr.startswith(b"farm: the answer cannot be printed"), "a full output", ran)
+
+
+def test_farm(program, seed):
+    before, rng = tried, random.Random(seed)
+    test_bad_files(program)
+    test_good_files(program)
+    test_permutations(program)
+    test_calls(program)
+    test_jobs(program, rng)
+    test_files(program, rng)
+    print(f"farm: {tried - before} answers and files seen")
+
+
 def main():
+    global WORK
     p = argparse.ArgumentParser(usage=__doc__.splitlines()[1][7:])
     p.add_argument("-n", type=int, default=5000)
     p.add_argument("-s", type=int, default=1)
     p.add_argument("farm", nargs="?")
     a = p.parse_args()
-    with tempfile.TemporaryDirectory() as folder:
-        test_reader(folder, a.n, a.s)
+    with tempfile.TemporaryDirectory() as WORK:
+        test_reader(WORK, a.n, a.s)
+        if a.farm:
+            test_farm(a.farm, a.s)
     print(f"{tried - failures} passed, {failures} failed")
     sys.exit(failures > 0)
 
