@@ -337,11 +337,15 @@ static char *named(const Call *c, const char *suffix) {
 
 /* Writes bytes beside the name that they shall have. */
 static const char *write_part(const Call *c, const char *suffix, const void *bytes, size_t count) {
-    char *name = named(c, suffix), *part = room_for(strlen(name) + 40, 1);
+    char *name = named(c, suffix), *part = room_for(strlen(name) + 60, 1);
     struct stat was;
     if (!stat(name, &was) && S_ISDIR(was.st_mode)) stop(name, WRONG, "cannot be written: it is a folder");
-    sprintf(part, "%s.part-%ld", name, (long)getpid());
-    int file = open(part, O_WRONLY | O_CREAT | O_EXCL, 0666);
+    int file = -1;
+    for (int k = 0; k < 100; k++) {     /* a part that another run has, or left behind, stays as it is */
+        sprintf(part, "%s.part-%ld-%d", name, (long)getpid(), k);
+        file = open(part, O_WRONLY | O_CREAT | O_EXCL, 0666);
+        if (file >= 0 || errno != EEXIST) break;
+    }
     if (file < 0) stop(part, WRONG, "cannot be written: %s", strerror(errno));
     held.output[held.outputs].name = name;
     held.output[held.outputs++].part = part;

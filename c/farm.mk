@@ -34,8 +34,9 @@ FARM_ORDERS := $(if $(FARM_AMD),-DFARM_AMD) $(if $(FARM_METIS),-DFARM_METIS)
 FARM_LINK := $(FARM_LIBRARY) $(FARM_LDFLAGS) $(FARM_EXTRA) $(FARM_AMD) $(FARM_METIS)
 
 farm: $(FARM)farm
-farm-test: $(FARM)farm-tried
-	python3 $(FARM)test_matrix_market.py $(FARM)farm-tried
+# The sanitizers are not for the other machine's code: there, only the reader is tried.
+farm-test: $(if $(FARM_LDFLAGS),,$(FARM)farm-tried)
+	python3 $(FARM)test_matrix_market.py $^
 farm-clean:
 	rm -f $(FARM)farm $(FARM)farm-tried
 

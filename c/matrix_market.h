@@ -4,7 +4,8 @@
    Taken: coordinate files, real, integer or pattern, symmetric (either triangle, or both) or general with a symmetric pattern. The banner in any case;
    blank lines and comment lines of any length anywhere after it; LF or CRLF. A line that is no comment has at most 1,024 bytes, as the format says.
    A value must be a number (decimal, E or D exponent; an integer for integer) and is not looked at further: a stored zero is an entry. Everything else
-   is refused, at the first faulty line. No file is taken in part. */
+   is refused, at the first faulty line, and no file is taken in part. An entry count over the n * n places of the matrix is refused before memory is
+   taken, though repeated entries could make it right. */
 #ifndef MATRIX_MARKET_H
 #define MATRIX_MARKET_H
 

@@ -18,30 +18,68 @@ import tempfile
 HERE = os.path.dirname(os.path.abspath(__file__))
 STRICT = ["-std=c11", "-g", "-O1", "-Wall", "-Wextra", "-Wpedantic", "-Werror", "-fsanitize=address,undefined", "-fno-sanitize-recover=all"]
 
-# For each file named on standard input: its pattern or its refusal, in one line.
+# For each line of standard input an answer in one line. "M FILE": the pattern, or its refusal. "P N FILE": the permutation, or its refusal. "F N FILE
+# FILE": reads both and permutes, failing each taking of memory in turn, until one run meets no failure; answers how many runs had to say so.
 DRIVER = r"""
 #include "matrix_market.h"
 #include <inttypes.h>
 #include <stdio.h>
+#include <stdlib.h>
 #include <string.h>
-int main(void) {
-    char path[4096];
-    while (fgets(path, sizeof path, stdin)) {
-        mm_pattern p; mm_fault f;
-        path[strcspn(path, "\n")] = 0;
+static long left = -1;
+static int fails(void) { return left > 0 && !--left; }
+void *__real_malloc(size_t), *__real_calloc(size_t, size_t), *__real_realloc(void *, size_t);
+void *__wrap_malloc(size_t a) { return fails() ? NULL : __real_malloc(a); }
+void *__wrap_calloc(size_t a, size_t b) { return fails() ? NULL : __real_calloc(a, b); }
+void *__wrap_realloc(void *p, size_t a) { return fails() ? NULL : __real_realloc(p, a); }
+static void pattern(const char *path) {
+    mm_pattern p; mm_fault f;
+    mm_answer a = mm_read_pattern(path, &p, &f);
+    if (a) { printf("%d %" PRIu64 " %s\n", (int)a, f.line, f.words); return; }
+    printf("0 %" PRIu64 " %" PRIu64 " %" PRIu64 " %" PRIu64, p.n, p.repeated, p.mirrored, p.unended);
+    for (uint64_t j = 1; j <= p.n; j++) {
+        printf(" |");
+        for (uint64_t k = p.starts[j - 1]; k < p.starts[j]; k++) printf(" %" PRIu32, p.rows[k]);
+    }
+    printf(" %s\n", p.starts[0] == 0 && p.starts[p.n] == p.rows_len ? "." : "starts");
+    mm_free(&p);
+}
+static void permutation(const char *path, uint64_t n) {
+    mm_fault f; uint32_t *numbers = calloc(n ? n : 1, 4);
+    mm_answer a = mm_read_permutation(path, n, numbers, &f);
+    if (a) printf("%d %" PRIu64 " %s\n", (int)a, f.line, f.words);
+    else { printf("0"); for (uint64_t k = 0; k < n; k++) printf(" %" PRIu32, numbers[k]); printf("\n"); }
+    free(numbers);
+}
+static void failing(const char *path, const char *perm, uint64_t n) {
+    uint32_t *numbers = calloc(n ? n : 1, 4);
+    for (long at = 1;; at++) {
+        mm_pattern p = {0}, q = {0}; mm_fault f;
+        left = at;
         mm_answer a = mm_read_pattern(path, &p, &f);
-        if (a) { printf("%d %" PRIu64 " %s\n", (int)a, f.line, f.words); continue; }
-        printf("0 %" PRIu64 " %" PRIu64 " %" PRIu64 " %" PRIu64, p.n, p.repeated, p.mirrored, p.unended);
-        for (uint64_t j = 1; j <= p.n; j++) {
-            printf(" |");
-            for (uint64_t k = p.starts[j - 1]; k < p.starts[j]; k++) printf(" %" PRIu32, p.rows[k]);
-        }
-        printf(" %s\n", p.starts[0] == 0 && p.starts[p.n] == p.rows_len ? "." : "starts");
-        mm_free(&p);
+        if (!a) a = mm_read_permutation(perm, n, numbers, &f);
+        if (!a) a = mm_permute(&p, numbers, &q, &f);
+        long unused = left; left = -1;
+        int empty = !q.starts && !q.rows && !q.n;
+        mm_free(&p); mm_free(&q);
+        if (!a) { printf("%s %ld\n", unused > 0 ? "done" : "silent", at - 1); break; }
+        if (a != MM_NO_MEMORY || f.line || strcmp(f.words, "out of memory") || !empty) { printf("wrong %d %s\n", (int)a, f.words); break; }
+    }
+    free(numbers);
+}
+int main(void) {
+    char line[8192];
+    while (fgets(line, sizeof line, stdin)) {
+        char *word[4] = {0}; int k = 0;
+        for (char *w = strtok(line, " \n"); w && k < 4; w = strtok(NULL, " \n")) word[k++] = w;
+        if (*word[0] == 'M') pattern(word[1]);
+        else if (*word[0] == 'P') permutation(word[2], strtoull(word[1], NULL, 10));
+        else failing(word[2], word[3], strtoull(word[1], NULL, 10));
     }
     return 0;
 }
 """
+WRAPPED = ["-Wl,--wrap=malloc,--wrap=calloc,--wrap=realloc"]
 
 failures = tried = 0
 WORK = None      # the folder of all files
@@ -303,26 +341,28 @@ def spoilt(rng, data):
     return data
 
 
-def run_reader(folder, files):
-    with open(folder + "/driver.c", "w") as f:
-        f.write(DRIVER)
-    subprocess.run(["gcc", *STRICT, "-I", HERE, "-o", folder + "/driver", folder + "/driver.c", HERE + "/matrix_market.c"], check=True)
-    paths = []
+def run_reader(folder, files, lines):
+    """Stores the files as folder/0, folder/1 and so on, and has the driver answer the lines; in a line, @K is the name of file K."""
+    driver = WORK + "/driver"
+    if not os.path.exists(driver):
+        with open(driver + ".c", "w") as f:
+            f.write(DRIVER)
+        subprocess.run(["gcc", *STRICT, "-I", HERE, "-o", driver, driver + ".c", HERE + "/matrix_market.c", *WRAPPED], check=True)
     for k, data in enumerate(files):
-        paths.append(f"{folder}/{k}.mtx")
-        with open(paths[-1], "wb") as f:
+        with open(f"{folder}/{k}", "wb") as f:
             f.write(data)
-    ran = subprocess.run([folder + "/driver"], input="\n".join(paths) + "\n", capture_output=True, text=True)
+    ran = subprocess.run([driver], input=re.sub("@", folder + "/", "\n".join(lines) + "\n"), capture_output=True, text=True)
     see(ran.returncode == 0 and not ran.stderr, "the sanitizers", ran.returncode, ran.stderr[:2000])
     answers = ran.stdout.splitlines()
-    see(len(answers) == len(files), "answers", len(answers), "of", len(files))
+    see(len(answers) == len(lines), "answers", len(answers), "of", len(lines))
     return answers
 
 
 def test_reader(folder, count, seed):
     rng = random.Random(seed)
     random_files = [spoilt(rng, made(rng)) for _ in range(count)]
-    answers = run_reader(folder, [b[3] for b in BAD + MANY] + [g[2] for g in GOOD] + random_files)
+    files = [b[3] for b in BAD + MANY] + [g[2] for g in GOOD] + random_files
+    answers = run_reader(folder, files, [f"M @{k}" for k in range(len(files))])
     for (name, line, word, data), answer in zip(BAD + MANY, answers):
         kind = "columns" if (name, line, word, data) in MANY else "refused"
         see(said(answer) == (kind, line) and word in answer, name, "|", answer, "| not", kind, line, word)
@@ -338,6 +378,49 @@ def test_reader(folder, count, seed):
         see(said(answer) == want, data, "|", answer, "| not", want)
         see(len(answer) < 260 or want[0] == "pattern", "a long answer", answer)
     print(f"reader: {len(BAD) + len(MANY)} bad files, {len(GOOD)} good files, {count} from seed {seed}, of which {taken} are good")
+
+
+def permutation_reading(data, n):
+    lines = [l[:-1] if l.endswith(b"\r") else l for l in data.split(b"\n")]
+    numbers = []
+    for at, l in enumerate(lines, 1):
+        if re.search(rb"[\x00-\x08\x0b-\x1f\x7f]", l):
+            return ("refused", at)
+        for word in l.replace(b"\t", b" ").split(b" "):
+            if not word:
+                continue
+            if not re.fullmatch(rb"[0-9]{1,63}", word) or len(numbers) == n or not 1 <= int(word) <= n or int(word) in numbers:
+                return ("refused", at)
+            numbers.append(int(word))
+    return ("numbers", numbers) if len(numbers) == n else ("refused", len(lines) + data.endswith(b"\r"))
+
+
+def test_reading_permutations(folder, count, seed):
+    rng = random.Random(seed)
+    files, sizes = [], []
+    for _ in range(count):
+        n = rng.choice([0, 1, 2, 3, 5, 12])
+        words = [str(x) for x in rng.sample(range(1, n + 1), n)]
+        sizes.append(n)
+        files.append(spoilt(rng, "".join(w + rng.choice(["\n", "\n", "\r\n", " ", " \t"]) for w in words).encode()))
+    taken = 0
+    for data, n, answer in zip(files, sizes, run_reader(folder, files, [f"P {n} @{k}" for k, n in enumerate(sizes)])):
+        want = permutation_reading(data, n)
+        taken += want[0] == "numbers"
+        words = answer.split()
+        got = ("numbers", list(map(int, words[1:]))) if words[0] == "0" else ("refused", int(words[1])) if words[0] == "1" else words
+        see(got == want, "permutation", n, data, "|", answer, "| not", want)
+    print(f"permutations: {count} from seed {seed}, of which {taken} are good")
+
+
+def test_memory(folder):
+    """Wherever memory runs out it is said, and what was taken is given back."""
+    n = 60
+    entries = [(i, j) for j in range(1, n + 1) for i in range(j, n + 1)]
+    data = P + f"{n} {n} {len(entries)}\n".encode() + "".join(f"{i} {j}\n" for i, j in entries).encode()
+    answers = run_reader(folder, [data, "\n".join(map(str, range(n, 0, -1))).encode()], [f"F {n} @0 @1"])
+    see(re.fullmatch(r"done ([6-9]|\d\d)", answers[0]), "memory", answers)
+    print(f"memory: {answers[0].split()[-1]} failures, each said")
 
 
 # ---- the tool
@@ -547,7 +630,9 @@ def main():
     p.add_argument("farm", nargs="?")
     a = p.parse_args()
     with tempfile.TemporaryDirectory() as WORK:
-        test_reader(WORK, a.n, a.s)
+        test_reader(tempfile.mkdtemp(dir=WORK), a.n, a.s)
+        test_reading_permutations(tempfile.mkdtemp(dir=WORK), a.n // 2, a.s)
+        test_memory(tempfile.mkdtemp(dir=WORK))
         if a.farm:
             test_farm(a.farm, a.s)
     print(f"{tried - failures} passed, {failures} failed")
