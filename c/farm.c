@@ -24,12 +24,13 @@ static const char HELP[] =
     "       farm check KEY PLAN\n"
     "       farm check FILE.mtx PLAN [-m MARK] [-l LIMIT] [-p PERM]\n"
     "\n"
-    "plan   writes FILE.key and FILE.plan beside FILE.mtx or in DIR, and FILE.perm if a permutation was used. Files that are there already are replaced\n"
-    "       only if all went well.\n"
-    "check  prints 'done, peak N', or 'refused NUMBER at PLACE' and why. A name that ends in .mtx is a matrix: give the -m, -l and -p of its plan.\n"
+    "plan   writes FILE.key and FILE.plan beside FILE.mtx or in DIR, and FILE.perm if a permutation\n"
+    "       was used. Files that are there already are replaced only if all went well.\n"
+    "check  checks PLAN and runs it at its peak, and prints 'done, peak N', or 'refused NUMBER at\n"
+    "       PLACE' and why. A name that ends in .mtx is a matrix: give the -m, -l and -p of its plan.\n"
     "\n"
     "-m     the sibling mark: 0 (if not given), 1 or 2\n"
-    "-l     the room limit, at most 2^40 (if not given), in entries\n"
+    "-l     the room limit in entries, at most 2^40 (if not given)\n"
     "-p     a file of n numbers: the k-th says which column of the matrix becomes column k of the job\n"
     "-o     the order of the columns: as in the file (natural, if not given), or by AMD or METIS\n"
     "\n"
@@ -118,6 +119,10 @@ static const char *in_words(uint64_t number) {
     case LS_SUBTREE_SCATTERED: return "the subtree whose top this step does is not in one piece";
     case LS_WRONG_POPS: return "this step does not pop its column's children";
     case LS_WRONG_PEAK: return "the declared peak is not the peak";
+    case LS_POPS_OVER_HELD: return "this step of the run pops more than is held";
+    case LS_ROW_OUTSIDE_FRONT: return "in this step of the run a popped row has no place in the front";
+    case LS_ROOM_EXCEEDED: return "this step of the run needs more room than the peak";
+    case LS_UPDATES_LEFT: return "updates are left on the stack after the run";
     case LS_SIZES_EXCEEDED: return "the key's job is over 256 columns or 2,048 pattern rows";
     case LS_UNREADABLE_KEY: return "the key is not the key of a job: it is damaged, or no key";
     default: return "the library does not say why";
@@ -177,7 +182,8 @@ static Call read_call(int argc, char **argv, const char *options, int files, con
             c.folder = argv[k];
         }
     }
-    if (c.files < files) stop(NULL, WRONG, "%s is missing; usage: %s", files == 1 ? "the matrix" : c.files ? "the plan" : "the key or matrix, and the plan,", usage);
+    const char *missing = files == 1 ? "the matrix is" : c.files ? "the plan is" : "the key or matrix, and the plan are";
+    if (c.files < files) stop(NULL, WRONG, "%s missing; usage: %s", missing, usage);
     return c;
 }
 
@@ -194,8 +200,8 @@ static void read_matrix(const char *path) {
     mm_fault fault;
     read_or_stop(path, mm_read_pattern(path, &held.matrix, &fault), &fault);
     const mm_pattern *m = &held.matrix;
-    if (m->repeated) tell(path, 0, "%" PRIu64 " repeated entr%s joined with the first of the same place", m->repeated, m->repeated == 1 ? "y is" : "ies are");
-    if (m->mirrored) tell(path, 0, "symmetric, and yet %" PRIu64 " entr%s given in both triangles: joined", m->mirrored, m->mirrored == 1 ? "y is" : "ies are");
+    if (m->repeated) tell(path, 0, "repeated entries, joined with the first of the same place: %" PRIu64, m->repeated);
+    if (m->mirrored) tell(path, 0, "symmetric, but with entries in both triangles, joined: %" PRIu64, m->mirrored);
     if (m->unended) tell(path, m->unended, "the last line has no line end; if the file was cut off, this entry may be wrong");
 }
 
@@ -243,7 +249,8 @@ static uint32_t *by_metis(const mm_pattern *m) {
     for (size_t k = 0; k < n; k++) found[k] = (idx_t)k;
     METIS_SetDefaultOptions(options);
     options[METIS_OPTION_SEED] = 1;     /* the same order every time */
-    if (m->rows_len && METIS_NodeND(&count, starts, mates, NULL, options, found, inverse) != METIS_OK) stop("-o metis", WRONG, "METIS gives no ordering");
+    if (m->rows_len && METIS_NodeND(&count, starts, mates, NULL, options, found, inverse) != METIS_OK)
+        stop("-o metis", WRONG, "METIS gives no ordering");
     for (size_t k = 0; k < n; k++) numbers[k] = (uint32_t)found[k];
     number_from_1("-o metis", numbers, n);
     return numbers;
@@ -275,18 +282,24 @@ typedef struct { uint32_t *parents, *order, *pops, *rows; uint64_t *starts, *wor
 #define LENT s.parents, n, s.order, n, s.pops, n, s.starts, n + 1, s.rows, s.rows_len, s.work, LS_WORK(n)
 
 static Lent lend(size_t n) {
-    return (Lent){.parents = room_for(n, 4), .order = room_for(n, 4), .pops = room_for(n, 4), .rows = room_for(0, 4), .starts = room_for(n + 1, 8), .work = room_for(LS_WORK(n), 8)};
+    return (Lent){.parents = room_for(n, 4), .order = room_for(n, 4), .pops = room_for(n, 4), .rows = room_for(0, 4),
+                  .starts = room_for(n + 1, 8), .work = room_for(LS_WORK(n), 8)};
 }
 
 static void lend_rows(Lent *s) { s->rows_len = (size_t)s->count; s->rows = room_for(s->rows_len, 4); }
 
-/* Checks a plan for held.job and prints the answer; the exit status. */
+/* Checks a plan for held.job, runs it at its peak, and prints the answer; the exit status. That a plan which passes the check also runs is proved. */
 static int print_check(const Call *c, const uint8_t *plan, size_t plan_len) {
     size_t n = (size_t)held.job.n;
     Lent s = lend(n);
     uint64_t number = ls_check_plan(JOB, plan, plan_len, LENT, &s.place, &s.count);
     if (number == LS_ROWS_NEEDED) { lend_rows(&s); number = ls_check_plan(JOB, plan, plan_len, LENT, &s.place, &s.count); }
-    if (number == LS_DONE) printf("done, peak %" PRIu64 "\n", s.count); else puts(refusal(number, s.place, s.count).text);
+    uint64_t peak = s.count;
+    if (number == LS_DONE) {
+        uint32_t *stack = room_for(n, 4);
+        number = ls_run(n, s.starts, n + 1, s.rows, s.rows_len, s.order, n, s.pops, n, peak, stack, n, &s.place, &s.count);
+    }
+    if (number == LS_DONE) printf("done, peak %" PRIu64 "\n", peak); else puts(refusal(number, s.place, s.count).text);
     return number == LS_DONE ? DONE : REFUSED;
 }
 
@@ -372,7 +385,8 @@ static void finish_parts(void) {
 
 static int plan_command(int argc, char **argv) {
     Call call = read_call(argc, argv, "mlpod", 1, "farm plan FILE.mtx [-m MARK] [-l LIMIT] [-p PERM | -o amd|metis|natural] [-d DIR]"), *c = &call;
-    if (c->order && strcmp(c->order, "amd") && strcmp(c->order, "metis") && strcmp(c->order, "natural")) stop("-o", WRONG, "'%.60s' is not amd, metis or natural", c->order);
+    if (c->order && strcmp(c->order, "amd") && strcmp(c->order, "metis") && strcmp(c->order, "natural"))
+        stop("-o", WRONG, "'%.60s' is not amd, metis or natural", c->order);
     if (c->order && c->perm) stop(NULL, WRONG, "give -p or -o, not both");
     read_matrix(c->file[0]);
     uint32_t *numbers = make_job(c);
@@ -390,7 +404,11 @@ static int plan_command(int argc, char **argv) {
     if (number == LS_BYTES_NEEDED) number = ls_write_key(JOB, key, key_len, &s.place, &s.count);
     if (!number) {
         number = ls_write_plan(JOB, LENT, NULL, 0, &s.place, &s.count);
-        if (number == LS_BYTES_NEEDED) { plan_len = (size_t)s.count; plan = room_for(plan_len, 1); number = ls_write_plan(JOB, LENT, plan, plan_len, &s.place, &s.count); }
+        if (number == LS_BYTES_NEEDED) {
+            plan_len = (size_t)s.count;
+            plan = room_for(plan_len, 1);
+            number = ls_write_plan(JOB, LENT, plan, plan_len, &s.place, &s.count);
+        }
     }
     if (number) stop(c->file[0], REFUSED, "%s", refusal(number, s.place, s.count).text);
 
@@ -425,7 +443,7 @@ static uint64_t key_number(const uint8_t *key, size_t key_len, size_t *at) {
     return value;
 }
 
-/* Makes held.job, mark and limit of a key that the solver's call could read. That they are right is seen by writing their key: no other job has it. */
+/* Makes held.job, mark and limit of a key that the solver's call could read. To see that they are right, writes their key: no other job has it. */
 static void job_of_key(Call *c, const uint8_t *key, size_t key_len) {
     size_t at = 0, row = 0;
     uint64_t place, count, number;

@@ -1,11 +1,11 @@
 /* Reads a pattern from a Matrix Market file, and a permutation from a file of numbers. Not proved: test_matrix_market.py tries it against a second
    reading of the format.
 
-   Taken: coordinate files, real, integer or pattern, symmetric (either triangle, or both) or general with a symmetric pattern. The banner in any case;
-   blank lines and comment lines of any length anywhere after it; LF or CRLF. A line that is no comment has at most 1,024 bytes, as the format says.
-   A value must be a number (decimal, E or D exponent; an integer for integer) and is not looked at further: a stored zero is an entry. Everything else
-   is refused, at the first faulty line, and no file is taken in part. An entry count over the n * n places of the matrix is refused before memory is
-   taken, though repeated entries could make it right. */
+   Taken: coordinate files, real, integer or pattern, symmetric (either triangle, or both) or general with a symmetric pattern. The banner in any
+   case; blank lines and comment lines of any length anywhere after it; LF or CRLF. A line that is no comment has at most 1,024 bytes, as the format
+   says. A value must be a number (decimal, E or D exponent; an integer for integer) and is not looked at further: a stored zero is an entry.
+   Everything else is refused, at the first faulty line, and no file is taken in part. An entry count over the n * n places of the matrix is refused
+   before memory is taken, though repeated entries could make it right. */
 #ifndef MATRIX_MARKET_H
 #define MATRIX_MARKET_H
 
@@ -30,8 +30,8 @@ typedef struct {
     uint64_t unended;       /* the last line, if it has an entry but no line end, as when a file is cut off; else 0 */
 } mm_pattern;
 
-/* Why a file was not taken: one line of words, and the line of the file from 1. A file that ends too early is faulty in the line that is missing. 0: no
-   line is at fault. */
+/* Why a file was not taken: one line of words, and the line of the file from 1. A file that ends too early is faulty in the line that is missing.
+   0: no line is at fault. */
 typedef struct {
     uint64_t line;
     char words[240];

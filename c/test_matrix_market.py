@@ -488,7 +488,7 @@ def test_good_files(program):
     f = new_farm(program)
     for name, (n, repeated, mirrored, unended, columns), data in GOOD:
         f.file("a.mtx", data)
-        notes = (rf"farm: a\.mtx: {repeated} repeated [^\n]*\n" if repeated else "") + (rf"farm: a\.mtx: symmetric[^\n]* {mirrored} [^\n]*\n" if mirrored else "")
+        notes = (rf"farm: a\.mtx: repeated entries[^\n]*: {repeated}\n" if repeated else "") + (rf"farm: a\.mtx: symmetric, but[^\n]*: {mirrored}\n" if mirrored else "")
         notes += rf"farm: a\.mtx: line {unended}: [^\n]*\n" if unended else ""
         f.sees(name, ["plan", "a.mtx"], 0, rf"columns +{n}\n(.*\n)*plan .* a\.plan\n", notes)
         see(f.bytes("a.key") == key_of(n, 0, 2 ** 40, columns), name, "key", f.bytes("a.key"))
