@@ -1,5 +1,5 @@
 # The rules of farm, to be included by the Makefile here, or by itself: make -f c/farm.mk
-#   farm        proves the library where needed, and builds
+#   farm-all    proves the library where needed, and builds c/farm
 #   farm-test   tries the reader and the tool, built with the sanitizers
 #   farm-clean
 # AMD (of SuiteSparse) and METIS are used if they are found; WITHOUT_AMD=1, WITHOUT_METIS=1 leave them out; FARM_EXTRA=
@@ -33,7 +33,7 @@ endif
 FARM_ORDERS := $(if $(FARM_AMD),-DFARM_AMD) $(if $(FARM_METIS),-DFARM_METIS)
 FARM_LINK := $(FARM_LIBRARY) $(FARM_LDFLAGS) $(FARM_EXTRA) $(FARM_AMD) $(FARM_METIS)
 
-farm: $(FARM)farm
+farm-all: $(FARM)farm
 # The sanitizers are not for the other machine's code: there, only the reader is tried.
 farm-test: $(if $(FARM_LDFLAGS),,$(FARM)farm-tried)
 	python3 $(FARM)test_matrix_market.py $^
@@ -49,4 +49,4 @@ $(FARM)farm-tried: $(FARM_NEEDS) $(FARM_LIBRARY)
 $(FARM_LIBRARY): $(FARM_ROOT)target/staticlib/lib%.a: $(wildcard $(FARM_ROOT)crates/*/src/*.rt)
 	cd $(FARM_ROOT) && rt staticlib $*
 
-.PHONY: farm farm-test farm-clean
+.PHONY: farm-all farm-test farm-clean
