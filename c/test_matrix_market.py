@@ -10,6 +10,7 @@ import os
 import random
 import re
 import resource
+import shlex
 import signal
 import subprocess
 import sys
@@ -264,9 +265,11 @@ GOOD = [     # n, repeated, mirrored, unended, columns
     ("general", (3, 0, 0, 0, [[2], [3], []]), G + b"3 3 5\n1 2 5\n2 3 6\n3 3 1\n2 1 7\n3 2 0\n"),
     ("repeated", (3, 3, 1, 0, [[3], [], []]), H + b"3 3 6\n3 1 1\n3 1 2\n1 3 1\n3 1 5\n2 2 1\n2 2 1\n"),
     ("any case, CRLF, long comment, blanks", (3, 0, 0, 0, [[2], [], []]),
-     b"%%mATRIXmARKET\tMATRIX  Coordinate REAL Symmetric \r\n%" + b"x" * 100000 + b"\r\n  % \xe9\r\n\r\n \t 3\t3  1 \r\n\r\n  002 1 -.5D+07\t\r\n% end\r\n\r\n"),
+     b"%%mATRIXmARKET\tMATRIX  Coordinate REAL Symmetric \r\n%" + b"x" * 100000 +
+     b"\r\n  % \xe9\r\n\r\n \t 3\t3  1 \r\n\r\n  002 1 -.5D+07\t\r\n% end\r\n\r\n"),
     ("numbers", (2, 3, 0, 0, [[2], []]), H + b"2 2 4\n2 1 1.\n2 1 +1e5\n2 1 " + b"9" * 1000 + b"\n2 1 -0.0E-99999\n"),
-    ("integer over 64 bits is a value", (2, 0, 0, 0, [[2], []]), b"%%MatrixMarket matrix coordinate integer symmetric\n2 2 1\n2 1 -99999999999999999999\n"),
+    ("integer over 64 bits is a value", (2, 0, 0, 0, [[2], []]),
+     b"%%MatrixMarket matrix coordinate integer symmetric\n2 2 1\n2 1 -99999999999999999999\n"),
     ("no line end", (2, 0, 0, 3, [[2], []]), P + b"2 2 1\n2 1"),
     ("no line end behind a comment", (2, 0, 0, 0, [[2], []]), P + b"2 2 1\n2 1\n% end"),
     ("no entries", (3, 0, 0, 0, [[], [], []]), P + b"3 3 0\n"),
@@ -305,8 +308,10 @@ def made(rng):
     return (end.join(lines) + (end if rng.random() < 0.8 else "")).encode()
 
 
-WORDS = [b"0", b"1", b"2", b"-1", b"+1", b"99", b"1.5", b"1e5", b"x", b"", b" ", b"18446744073709551616", b"18446744073709551615", b"4294967297", b"4096", b"4097",
-         b"nan", b"%", b"1 1", b"1 2 3", b"\xb2", b"1\r", b"1\x00", b"general", b"symmetric", b"real", b"pattern", b"integer", b"complex", b"array", b"Hermitian"]
+WORDS = [b"0", b"1", b"2", b"-1", b"+1", b"99", b"1.5", b"1e5", b"x", b"", b" ", b"18446744073709551616", b"18446744073709551615", b"4294967297",
+         b"4096", b"4097", b"nan", b"%", b"1 1", b"1 2 3", b"\xb2", b"1\r", b"1\x00", b"general", b"symmetric", b"real", b"pattern", b"integer",
+         b"complex", b"array", b"Hermitian"]
+LINES = [b"\n", b"% c\n", b" \t\r\n", b"1 1\n", b"2 1 1\n", b"1 2 1\n", b"%" * 1500 + b"\n"]
 LETTERS = b"0123456789-+.eED% \t\r\n\x00\x0b\x0c\x1a\x7f\xffxX"
 
 
@@ -336,7 +341,7 @@ def spoilt(rng, data):
                 elif how == 7:
                     lines.insert(rng.randrange(len(lines) + 1), lines[k])
                 else:
-                    lines.insert(rng.randrange(len(lines) + 1), rng.choice([b"\n", b"% c\n", b" \t\r\n", b"1 1\n", b"2 1 1\n", b"1 2 1\n", b"%" * 1500 + b"\n"]))
+                    lines.insert(rng.randrange(len(lines) + 1), rng.choice(LINES))
             data = b"".join(lines)
     return data
 
@@ -488,7 +493,8 @@ def test_good_files(program):
     f = new_farm(program)
     for name, (n, repeated, mirrored, unended, columns), data in GOOD:
         f.file("a.mtx", data)
-        notes = (rf"farm: a\.mtx: repeated entries[^\n]*: {repeated}\n" if repeated else "") + (rf"farm: a\.mtx: symmetric, but[^\n]*: {mirrored}\n" if mirrored else "")
+        notes = rf"farm: a\.mtx: repeated entries[^\n]*: {repeated}\n" if repeated else ""
+        notes += rf"farm: a\.mtx: symmetric, but[^\n]*: {mirrored}\n" if mirrored else ""
         notes += rf"farm: a\.mtx: line {unended}: [^\n]*\n" if unended else ""
         f.sees(name, ["plan", "a.mtx"], 0, rf"columns +{n}\n(.*\n)*plan .* a\.plan\n", notes)
         see(f.bytes("a.key") == key_of(n, 0, 2 ** 40, columns), name, "key", f.bytes("a.key"))
@@ -533,17 +539,20 @@ def test_jobs(program, rng):
             f.file("bad.plan", rng.choice([plan[:at], plan + b"\x00", plan[:at] + bytes([plan[at] ^ 1 << rng.randrange(8)]) + plan[at + 1:]]))
             one, two = f.run("check", "a.key", "bad.plan"), f.run("check", "a.mtx", "bad.plan", *options)
             same = [re.sub(r"; the true peak is \d+", "", x[1]) for x in (one, two)]    # the solver's call does not tell it
-            see(one[0] == two[0] == 1 and same[0] == same[1] and re.fullmatch(r"refused \d+ at \d+: [^\n]+\n", one[1]) and not one[2] + two[2], "a damaged plan", one, two)
+            good = one[0] == two[0] == 1 and same[0] == same[1] and re.fullmatch(r"refused \d+ at \d+: [^\n]+\n", one[1])
+            see(good and not one[2] + two[2], "a damaged plan", one, two)
             at = rng.randrange(len(key))
             f.file("bad.key", rng.choice([key[:at], key + b"\x00", key[:at] + bytes([key[at] ^ 1 << rng.randrange(8)]) + key[at + 1:]]))
             f.sees("a damaged key", ["check", "bad.key", "a.plan"], 1, r"refused (27|11) at \d+: [^\n]+\n", "")
-        f.sees("another mark", ["check", "a.mtx", "a.plan", "-p", "p", "-m", str((mark + 1) % 3), "-l", str(limit)], 1, r"refused 11 at [34]: [^\n]+\n", "")
+        options[1] = str((mark + 1) % 3)
+        f.sees("another mark", ["check", "a.mtx", "a.plan", *options], 1, r"refused 11 at [34]: [^\n]+\n", "")
     for order in ("amd", "metis"):
         columns, data = matrix(rng, 40, 0.1)
         f.file("o.mtx", data)
         status, out, err = f.run("plan", "o.mtx", "-o", order)
         if status:
-            see(status == 2 and re.fullmatch(rf"farm: -o {order}: [^\n]* was not found when farm was built\n", err) and "o.key" not in f.names(), order, err)
+            good = re.fullmatch(rf"farm: -o {order}: [^\n]* was not found when farm was built\n", err)
+            see(good and status == 2 and "o.key" not in f.names(), order, err)
         else:
             numbers = list(map(int, f.bytes("o.perm").split()))
             see(sorted(numbers) == list(range(1, 41)) and f.bytes("o.key") == key_of(40, 0, 2 ** 40, permuted(columns, numbers)), order, numbers)
@@ -551,29 +560,44 @@ def test_jobs(program, rng):
         print(f"farm: -o {order}: {'not built in' if status else 'built in'}")
 
 
+BAD_PERMUTATIONS = [     # of 3 numbers
+    (1, "ends after 0", b""), (3, "ends after 2", b"1\n2\n"), (1, "ends after 2", b"1 2"), (4, "beyond", b"1\n2\n3\n4\n"), (1, "beyond", b"1 2 3 3"),
+    (2, "in line 1 already", b"3 1\n3\n"), (2, "not in 1 to 3", b"3\n0\n1\n"), (2, "not in 1 to 3", b"3\n4\n1\n"), (1, "sign", b"-1 2 3\n"),
+    (3, "no whole number", b"1\n2\nthree\n"), (3, "no whole number", b"1\r\n2\r\n3.0\r\n"), (2, "64 bits", b"1\n18446744073709551618\n3\n"),
+    (2, "byte 0", b"1\n2\x00\n3\n"), (1, "more than 63", b"0" * 63 + b"1 2 3\n"), (1, "no whole number", b"% 1 2 3\n"), (1, "carriage", b"1\r2\r3\r"),
+]
+
+
 def test_permutations(program):
     f = new_farm(program)
     f.file("a.mtx", P + b"3 3 2\n2 1\n3 1\n")
-    for line, word, data in [(1, "ends after 0", b""), (3, "ends after 2", b"1\n2\n"), (1, "ends after 2", b"1 2"), (4, "beyond", b"1\n2\n3\n4\n"), (1, "beyond", b"1 2 3 3"),
-                             (2, "in line 1 already", b"3 1\n3\n"), (2, "not in 1 to 3", b"3\n0\n1\n"), (2, "not in 1 to 3", b"3\n4\n1\n"), (1, "sign", b"-1 2 3\n"),
-                             (3, "no whole number", b"1\n2\nthree\n"), (3, "no whole number", b"1\r\n2\r\n3.0\r\n"), (2, "64 bits", b"1\n18446744073709551618\n3\n"),
-                             (2, "byte 0", b"1\n2\x00\n3\n"), (1, "more than 63", b"0" * 63 + b"1 2 3\n"), (1, "no whole number", b"% 1 2 3\n"), (1, "carriage", b"1\r2\r3\r")]:
+    for line, word, data in BAD_PERMUTATIONS:
         f.file("p", data)
         for words in (["plan", "a.mtx", "-p", "p"], ["check", "a.mtx", "a.mtx", "-p", "p"]):
             f.sees(data, words, 2, "", rf"farm: p: line {line}: [^\n]*{re.escape(word)}[^\n]*\n")
     see(f.names() == ["a.mtx", "p"], "bad permutations leave no files", f.names())
 
 
+WRONG_CALLS = [
+    ("", "usage"), ("pla", "no such command"), ("plan", "missing"), ("plan a.mtx b.mtx", "too many"), ("check a.mtx", "the plan is missing"),
+    ("plan a.mtx -x", "no such option"), ("plan a.mtx -m", "nothing follows"), ("plan a.mtx -m ''", "a number is wanted"),
+    ("plan a.mtx -m one", "no whole number"), ("plan a.mtx -m -1", "no whole number"), ("plan a.mtx -m 1x", "no whole number"),
+    ("plan a.mtx -m ' 1'", "no whole number"), ("plan a.mtx -m1", "no such option"), ("plan a.mtx -l 1e6", "no whole number"),
+    ("plan a.mtx -l 18446744073709551616", "64 bits"), ("plan a.mtx -m 1 -m 1", "twice"), ("plan a.mtx -o rcm", "not amd, metis or natural"),
+    ("plan a.mtx -o natural -p p", "not both"), ("plan a.mtx -p p", "p: cannot be opened"), ("plan a.mtx -d nowhere", "cannot be written"),
+    ("plan a.mtx -d ''", "a folder is wanted"), ("plan a.mtx -d a.mtx", "cannot be written"), ("check a.mtx a.plan", "a.plan: cannot be opened"),
+    ("check a.key a.plan", "a.key: cannot be opened"), ("check a.mtx a.plan -o amd", "no such option"), ("check a.mtx .", "cannot be read"),
+    ("check a.key a.plan -m 0", "for a .mtx file"),
+]
+
+
 def test_calls(program):
     f = new_farm(program)
     f.file("a.mtx", P + b"3 3 2\n2 1\n3 1\n")
     f.sees("help", ["--help"], 0, r"usage: farm plan (.*\n)+", "")
-    for words in ([], ["pla"], ["plan"], ["plan", "a.mtx", "b.mtx"], ["check", "a.mtx"], ["plan", "a.mtx", "-x"], ["plan", "a.mtx", "-m"], ["plan", "a.mtx", "-m", ""],
-                  ["plan", "a.mtx", "-m", "one"], ["plan", "a.mtx", "-m", "-1"], ["plan", "a.mtx", "-m", "1x"], ["plan", "a.mtx", "-m", " 1"], ["plan", "a.mtx", "-m1"],
-                  ["plan", "a.mtx", "-l", "1e6"], ["plan", "a.mtx", "-l", "18446744073709551616"], ["plan", "a.mtx", "-m", "1", "-m", "1"], ["plan", "a.mtx", "-o", "rcm"],
-                  ["plan", "a.mtx", "-o", "natural", "-p", "p"], ["plan", "a.mtx", "-p", "p"], ["plan", "a.mtx", "-d", "nowhere"], ["plan", "a.mtx", "-d", ""], ["plan", "a.mtx", "-d", "a.mtx"],
-                  ["check", "a.mtx", "a.plan"], ["check", "a.key", "a.plan"], ["check", "a.mtx", "a.plan", "-o", "amd"], ["check", "a.mtx", "."], ["check", "a.key", "a.plan", "-m", "0"]):
-        f.sees("call", words, 2, "", r"farm: [^\n]+\n")
+    for call, words in WRONG_CALLS:
+        words = re.escape(words)
+        f.sees("call", shlex.split(call), 2, "", rf"farm: [^\n]*{words}[^\n]*\n")
     for words, number in ((["-m", "3"], 2), (["-l", str(2 ** 40 + 1)], 3), (["-m", str(2 ** 32)], 2), (["-l", "1"], 9)):
         f.sees("call", ["plan", "a.mtx", *words], 1, "", rf"farm: a\.mtx: refused {number} at 0: [^\n]+\n")
     see(f.names() == ["a.mtx"], "refused calls leave no files", f.names())
