@@ -1,0 +1,494 @@
+/* farm: plans a Matrix Market file, and checks plans. Not proved; what it hands to the proved library is judged there, and `farm check` asks only the
+   library. It reads everything first, writes at the end, and says what is wrong in one line. HELP below says how it is called. */
+#define _POSIX_C_SOURCE 200809L
+#include "../include/loomsaffron.h"
+#include "matrix_market.h"
+#include <errno.h>
+#include <fcntl.h>
+#include <inttypes.h>
+#include <stdarg.h>
+#include <stdio.h>
+#include <stdlib.h>
+#include <string.h>
+#include <sys/stat.h>
+#include <unistd.h>
+#ifdef FARM_AMD
+#include <amd.h>
+#endif
+#ifdef FARM_METIS
+#include <metis.h>
+#endif
+
+static const char HELP[] =
+    "usage: farm plan FILE.mtx [-m MARK] [-l LIMIT] [-p PERM | -o amd|metis|natural] [-d DIR]\n"
+    "       farm check KEY PLAN\n"
+    "       farm check FILE.mtx PLAN [-m MARK] [-l LIMIT] [-p PERM]\n"
+    "\n"
+    "plan   writes FILE.key and FILE.plan beside FILE.mtx or in DIR, and FILE.perm if a permutation\n"
+    "       was used. Files that are there already are replaced only if all went well.\n"
+    "check  checks PLAN and runs it at its peak, and prints 'done, peak N', or 'refused NUMBER at\n"
+    "       PLACE' and why. A name that ends in .mtx is a matrix: give the -m, -l and -p of its plan.\n"
+    "\n"
+    "-m     the sibling mark: 0 (if not given), 1 or 2\n"
+    "-l     the room limit in entries, at most 2^40 (if not given)\n"
+    "-p     a file of n numbers: the k-th says which column of the matrix becomes column k of the job\n"
+    "-o     the order of the columns: as in the file (natural, if not given), or by AMD or METIS\n"
+    "\n"
+    "Exit status: 0 done, 1 the library refuses, 2 anything else is wrong.\n";
+
+enum { DONE, REFUSED, WRONG, MOST_TAKEN = 64, MOST_OUTPUTS = 3 };
+#define LARGEST_FILE ((size_t)64 << 20)     /* of keys and plans: 4,096 columns take less than 40 MB */
+
+/* ---- what is given back when the program ends */
+
+typedef struct { char *name, *part; } Output;
+static struct {
+    void *taken[MOST_TAKEN];
+    size_t takings;
+    mm_pattern matrix, job;
+    Output output[MOST_OUTPUTS];
+    size_t outputs;
+} held;
+
+_Noreturn static void leave(int status) {
+    for (size_t k = 0; k < held.outputs; k++) if (held.output[k].part) unlink(held.output[k].part);
+    for (size_t k = 0; k < held.takings; k++) free(held.taken[k]);
+    mm_free(&held.matrix);
+    mm_free(&held.job);
+    exit(status);
+}
+
+/* One line on standard error: which file or option, which line of it, what is wrong. */
+static void tell_list(const char *who, uint64_t line, const char *form, va_list more) {
+    char words[400];
+    vsnprintf(words, sizeof words, form, more);
+    fputs("farm: ", stderr);
+    if (who) {
+        for (; *who; who++) fputc((unsigned char)*who < ' ' || *who == 127 ? '?' : *who, stderr);
+        fputs(": ", stderr);
+    }
+    if (line) fprintf(stderr, "line %" PRIu64 ": ", line);
+    for (char *c = words; *c; c++) fputc((unsigned char)*c < ' ' || *c == 127 ? '?' : *c, stderr);
+    fputc('\n', stderr);
+}
+
+static void tell(const char *who, uint64_t line, const char *form, ...) {
+    va_list more;
+    va_start(more, form);
+    tell_list(who, line, form, more);
+    va_end(more);
+}
+
+_Noreturn static void stop(const char *who, int status, const char *form, ...) {
+    va_list more;
+    va_start(more, form);
+    tell_list(who, 0, form, more);
+    va_end(more);
+    leave(status);
+}
+
+static void *hold(void *p) {
+    if (!p) stop(NULL, WRONG, "out of memory");
+    if (held.takings == MOST_TAKEN) { free(p); stop(NULL, WRONG, "more is held than was foreseen"); }
+    return held.taken[held.takings++] = p;
+}
+
+static void *room_for(size_t count, size_t size) { return hold(calloc(count ? count : 1, size)); }
+
+/* ---- the library's numbers in words */
+
+static const char *in_words(uint64_t number) {
+    switch (number) {
+    case LS_TOO_MANY_COLUMNS: return "more than 4,096 columns";
+    case LS_UNKNOWN_MARK: return "the sibling mark is not 0, 1 or 2";
+    case LS_LIMIT_TOO_LARGE: return "the room limit is over 2^40";
+    case LS_BAD_STARTS: return "the start numbers do not fit the rows";
+    case LS_ROW_OUT_OF_RANGE: return "a row is not below the diagonal, or over n";
+    case LS_ROW_NOT_ASCENDING: return "the rows of a column do not ascend";
+    case LS_SLICE_TOO_SHORT: return "a lent slice is too short";
+    case LS_ROWS_NEEDED: return "the factor rows do not fit";
+    case LS_PEAK_OVER_LIMIT: return "the peak is over the room limit";
+    case LS_BYTES_NEEDED: return "the bytes do not fit";
+    case LS_WRONG_KEY: return "the plan is for another job: from this byte on it differs from the key";
+    case LS_BYTES_END: return "the plan ends inside or before the number that starts at this byte";
+    case LS_BAD_NUMBER: return "the number at this byte is too long, or not in shortest form";
+    case LS_VALUE_OUT_OF_RANGE: return "the number at this byte is out of its range";
+    case LS_BYTES_AFTER: return "bytes follow the plan, from this byte on";
+    case LS_COLUMN_REPEATED: return "this step does a column a second time";
+    case LS_WRONG_LIST: return "the list of this column is not that of elimination";
+    case LS_SUBTREE_SCATTERED: return "the subtree whose top this step does is not in one piece";
+    case LS_WRONG_POPS: return "this step does not pop its column's children";
+    case LS_WRONG_PEAK: return "the declared peak is not the peak";
+    case LS_POPS_OVER_HELD: return "this step of the run pops more than is held";
+    case LS_ROW_OUTSIDE_FRONT: return "in this step of the run a popped row has no place in the front";
+    case LS_ROOM_EXCEEDED: return "this step of the run needs more room than the peak";
+    case LS_UPDATES_LEFT: return "updates are left on the stack after the run";
+    case LS_SIZES_EXCEEDED: return "the key's job is over 256 columns or 2,048 pattern rows";
+    case LS_UNREADABLE_KEY: return "the key is not the key of a job: it is damaged, or no key";
+    default: return "the library does not say why";
+    }
+}
+
+typedef struct { char text[200]; } Words;
+static Words refusal(uint64_t number, uint64_t place, uint64_t count) {
+    Words w;
+    int length = snprintf(w.text, sizeof w.text, "refused %" PRIu64 " at %" PRIu64 ": %s", number, place, in_words(number));
+    if (number == LS_PEAK_OVER_LIMIT || number == LS_WRONG_PEAK)
+        snprintf(w.text + length, sizeof w.text - (size_t)length, "; the %speak is %" PRIu64, number == LS_WRONG_PEAK ? "true " : "", count);
+    return w;
+}
+
+/* ---- how it was called */
+
+typedef struct {
+    const char *file[2], *perm, *order, *folder;
+    int files, marked, limited;
+    uint64_t mark, limit;
+} Call;
+
+static uint64_t number_of(const char *option, const char *word) {
+    uint64_t value = 0;
+    if (!*word) stop(option, WRONG, "a number is wanted, not nothing");
+    for (const char *c = word; *c; c++) if (*c < '0' || *c > '9') stop(option, WRONG, "'%.60s' is no whole number", word);
+    for (const char *c = word; *c; c++) {
+        if (value > (UINT64_MAX - (uint64_t)(*c - '0')) / 10) stop(option, WRONG, "'%.60s' is over 64 bits", word);
+        value = 10 * value + (uint64_t)(*c - '0');
+    }
+    return value;
+}
+
+static Call read_call(int argc, char **argv, const char *options, int files, const char *usage) {
+    Call c = {.mark = 0, .limit = (uint64_t)1 << 40};
+    int only_files = 0;
+    for (int k = 2; k < argc; k++) {
+        const char *word = argv[k];
+        if (only_files || word[0] != '-' || !word[1]) {
+            if (c.files == files) stop(word, WRONG, "one file too many; usage: %s", usage);
+            c.file[c.files++] = word;
+            continue;
+        }
+        if (!strcmp(word, "--")) { only_files = 1; continue; }
+        if (word[2] || !strchr(options, word[1])) stop(word, WRONG, "no such option; usage: %s", usage);
+        if (++k == argc) stop(word, WRONG, "nothing follows this option; usage: %s", usage);
+        int again = word[1] == 'm' ? c.marked++ : word[1] == 'l' ? c.limited++ : word[1] == 'p' ? !!c.perm : word[1] == 'o' ? !!c.order : !!c.folder;
+        if (again) stop(word, WRONG, "this option is given twice");
+        switch (word[1]) {
+        case 'm': c.mark = number_of(word, argv[k]); break;
+        case 'l': c.limit = number_of(word, argv[k]); break;
+        case 'p': c.perm = argv[k]; break;
+        case 'o': c.order = argv[k]; break;
+        default:
+            if (!*argv[k]) stop(word, WRONG, "a folder is wanted, not nothing");
+            c.folder = argv[k];
+        }
+    }
+    const char *missing = files == 1 ? "the matrix is" : c.files ? "the plan is" : "the key or matrix, and the plan are";
+    if (c.files < files) stop(NULL, WRONG, "%s missing; usage: %s", missing, usage);
+    return c;
+}
+
+/* ---- the job */
+
+static void read_or_stop(const char *path, mm_answer answer, const mm_fault *fault) {
+    if (answer == MM_DONE) return;
+    if (answer == MM_TOO_MANY_COLUMNS) tell(path, fault->line, "%s", refusal(LS_TOO_MANY_COLUMNS, 0, 0).text);
+    else tell(path, fault->line, "%s", fault->words);
+    leave(answer == MM_TOO_MANY_COLUMNS ? REFUSED : WRONG);
+}
+
+static void read_matrix(const char *path) {
+    mm_fault fault;
+    read_or_stop(path, mm_read_pattern(path, &held.matrix, &fault), &fault);
+    const mm_pattern *m = &held.matrix;
+    if (m->repeated) tell(path, 0, "repeated entries, joined with the first of the same place: %" PRIu64, m->repeated);
+    if (m->mirrored) tell(path, 0, "symmetric, but with entries in both triangles, joined: %" PRIu64, m->mirrored);
+    if (m->unended) tell(path, m->unended, "the last line has no line end; if the file was cut off, this entry may be wrong");
+}
+
+#if defined FARM_AMD || defined FARM_METIS
+/* The numbers of an ordering, which come from 0; stops unless each is there once. */
+static void number_from_1(const char *who, uint32_t *numbers, size_t n) {
+    uint8_t *seen = room_for(n, 1);
+    for (size_t k = 0; k < n; k++) {
+        if (numbers[k] >= n || seen[numbers[k]]++) stop(who, WRONG, "the ordering is no permutation");
+        numbers[k]++;
+    }
+}
+#endif
+
+static uint32_t *by_amd(const mm_pattern *m) {
+#ifdef FARM_AMD
+    size_t n = (size_t)m->n;
+    int *starts = room_for(n + 1, sizeof *starts), *rows = room_for(m->rows_len, sizeof *rows), *found = room_for(n, sizeof *found);
+    uint32_t *numbers = room_for(n, sizeof *numbers);
+    for (size_t j = 0; j <= n; j++) starts[j] = (int)m->starts[j];
+    for (size_t q = 0; q < m->rows_len; q++) rows[q] = (int)m->rows[q] - 1;
+    if (n && amd_order((int)n, starts, rows, found, NULL, NULL) < 0) stop("-o amd", WRONG, "AMD gives no ordering");
+    for (size_t k = 0; k < n; k++) numbers[k] = (uint32_t)found[k];
+    number_from_1("-o amd", numbers, n);
+    return numbers;
+#else
+    (void)m;
+    stop("-o amd", WRONG, "AMD (of SuiteSparse) was not found when farm was built");
+#endif
+}
+
+static uint32_t *by_metis(const mm_pattern *m) {
+#ifdef FARM_METIS
+    size_t n = (size_t)m->n;
+    idx_t count = (idx_t)n, *starts = room_for(n + 2, sizeof *starts), *mates = room_for(2 * m->rows_len, sizeof *mates);
+    idx_t *found = room_for(n, sizeof *found), *inverse = room_for(n, sizeof *inverse), options[METIS_NOPTIONS];
+    uint32_t *numbers = room_for(n, sizeof *numbers);
+    /* starts[j + 1] counts the mates of column j (from 0), then is where its next mate goes, then where they end */
+    for (size_t j = 0; j < n; j++) for (uint64_t q = m->starts[j]; q < m->starts[j + 1]; q++) { starts[j + 2]++; starts[m->rows[q] + 1]++; }
+    for (size_t j = 0; j <= n; j++) starts[j + 1] += starts[j];
+    for (size_t j = 0; j < n; j++) for (uint64_t q = m->starts[j]; q < m->starts[j + 1]; q++) {
+        mates[starts[j + 1]++] = (idx_t)m->rows[q] - 1;
+        mates[starts[m->rows[q]]++] = (idx_t)j;
+    }
+    for (size_t k = 0; k < n; k++) found[k] = (idx_t)k;
+    METIS_SetDefaultOptions(options);
+    options[METIS_OPTION_SEED] = 1;     /* the same order every time */
+    if (m->rows_len && METIS_NodeND(&count, starts, mates, NULL, options, found, inverse) != METIS_OK)
+        stop("-o metis", WRONG, "METIS gives no ordering");
+    for (size_t k = 0; k < n; k++) numbers[k] = (uint32_t)found[k];
+    number_from_1("-o metis", numbers, n);
+    return numbers;
+#else
+    (void)m;
+    stop("-o metis", WRONG, "METIS was not found when farm was built");
+#endif
+}
+
+/* Makes held.job of held.matrix; the permutation, or NULL. */
+static uint32_t *make_job(const Call *c) {
+    uint32_t *numbers = NULL;
+    mm_fault fault;
+    if (c->perm) {
+        numbers = room_for((size_t)held.matrix.n, sizeof *numbers);
+        read_or_stop(c->perm, mm_read_permutation(c->perm, held.matrix.n, numbers, &fault), &fault);
+    } else if (c->order && !strcmp(c->order, "amd")) numbers = by_amd(&held.matrix);
+    else if (c->order && !strcmp(c->order, "metis")) numbers = by_metis(&held.matrix);
+    if (numbers) read_or_stop(c->file[0], mm_permute(&held.matrix, numbers, &held.job, &fault), &fault);
+    else { held.job = held.matrix; memset(&held.matrix, 0, sizeof held.matrix); }
+    return numbers;
+}
+
+/* ---- the library */
+
+typedef struct { uint32_t *parents, *order, *pops, *rows; uint64_t *starts, *work, place, count; size_t rows_len; } Lent;
+
+#define JOB held.job.n, held.job.starts, (size_t)held.job.n + 1, held.job.rows, held.job.rows_len, c->mark, c->limit
+#define LENT s.parents, n, s.order, n, s.pops, n, s.starts, n + 1, s.rows, s.rows_len, s.work, LS_WORK(n)
+
+static Lent lend(size_t n) {
+    return (Lent){.parents = room_for(n, 4), .order = room_for(n, 4), .pops = room_for(n, 4), .rows = room_for(0, 4),
+                  .starts = room_for(n + 1, 8), .work = room_for(LS_WORK(n), 8)};
+}
+
+static void lend_rows(Lent *s) { s->rows_len = (size_t)s->count; s->rows = room_for(s->rows_len, 4); }
+
+/* Checks a plan for held.job, runs it at its peak, and prints the answer; the exit status. That a plan which passes the check also runs is proved. */
+static int print_check(const Call *c, const uint8_t *plan, size_t plan_len) {
+    size_t n = (size_t)held.job.n;
+    Lent s = lend(n);
+    uint64_t number = ls_check_plan(JOB, plan, plan_len, LENT, &s.place, &s.count);
+    if (number == LS_ROWS_NEEDED) { lend_rows(&s); number = ls_check_plan(JOB, plan, plan_len, LENT, &s.place, &s.count); }
+    uint64_t peak = s.count;
+    if (number == LS_DONE) {
+        uint32_t *stack = room_for(n, 4);
+        number = ls_run(n, s.starts, n + 1, s.rows, s.rows_len, s.order, n, s.pops, n, peak, stack, n, &s.place, &s.count);
+    }
+    if (number == LS_DONE) printf("done, peak %" PRIu64 "\n", peak); else puts(refusal(number, s.place, s.count).text);
+    return number == LS_DONE ? DONE : REFUSED;
+}
+
+/* ---- files */
+
+static uint8_t *load(const char *path, size_t *count) {
+    uint8_t *bytes = NULL;
+    size_t room = 0, got;
+    FILE *f = fopen(path, "rb");
+    if (!f) stop(path, WRONG, "cannot be opened: %s", strerror(errno));
+    *count = 0;
+    do {
+        if (*count == room) {
+            int longer = room >= LARGEST_FILE;
+            uint8_t *more = longer ? NULL : realloc(bytes, room = room ? 2 * room : 1 << 16);
+            if (!more) { free(bytes); fclose(f); stop(path, WRONG, longer ? "no key and no plan is so long" : "out of memory"); }
+            bytes = more;
+        }
+        got = fread(bytes + *count, 1, room - *count, f);
+        *count += got;
+    } while (got);
+    int error = ferror(f) ? errno : 0;
+    fclose(f);
+    hold(bytes);
+    if (error) stop(path, WRONG, "cannot be read: %s", strerror(error));
+    return bytes;
+}
+
+static int is_matrix_name(const char *path) {
+    size_t length = strlen(path);
+    if (length < 4) return 0;
+    path += length - 4;
+    return path[0] == '.' && (path[1] == 'm' || path[1] == 'M') && (path[2] == 't' || path[2] == 'T') && (path[3] == 'x' || path[3] == 'X');
+}
+
+/* The name of an output: the matrix's without .mtx, with the suffix, in the folder if one is given. */
+static char *named(const Call *c, const char *suffix) {
+    const char *path = c->file[0], *slash = strrchr(path, '/'), *base = slash ? slash + 1 : path;
+    size_t length = strlen(base), before = c->folder ? strlen(c->folder) : (size_t)(base - path);
+    if (is_matrix_name(base) && length > 4) length -= 4;
+    char *name = room_for(before + length + strlen(suffix) + 2, 1);
+    memcpy(name, c->folder ? c->folder : path, before);
+    if (c->folder && before && name[before - 1] != '/') name[before++] = '/';
+    memcpy(name + before, base, length);
+    strcpy(name + before + length, suffix);
+    return name;
+}
+
+/* Writes bytes beside the name that they shall have. */
+static const char *write_part(const Call *c, const char *suffix, const void *bytes, size_t count) {
+    char *name = named(c, suffix), *part = room_for(strlen(name) + 60, 1);
+    struct stat was;
+    if (!stat(name, &was) && S_ISDIR(was.st_mode)) stop(name, WRONG, "cannot be written: it is a folder");
+    int file = -1;
+    for (int k = 0; k < 100; k++) {     /* a part that another run has, or left behind, stays as it is */
+        sprintf(part, "%s.part-%ld-%d", name, (long)getpid(), k);
+        file = open(part, O_WRONLY | O_CREAT | O_EXCL, 0666);
+        if (file >= 0 || errno != EEXIST) break;
+    }
+    if (file < 0) stop(part, WRONG, "cannot be written: %s", strerror(errno));
+    held.output[held.outputs].name = name;
+    held.output[held.outputs++].part = part;
+    for (size_t done = 0; done < count;) {
+        ssize_t wrote = write(file, (const char *)bytes + done, count - done);
+        if (wrote < 0 && errno == EINTR) continue;
+        if (wrote < 0) { int error = errno; close(file); stop(name, WRONG, "cannot be written: %s", strerror(error)); }
+        done += (size_t)wrote;
+    }
+    if (close(file)) stop(name, WRONG, "cannot be written: %s", strerror(errno));
+    return name;
+}
+
+/* Gives the written files their names. */
+static void finish_parts(void) {
+    for (size_t k = 0; k < held.outputs; k++) {
+        if (rename(held.output[k].part, held.output[k].name))
+            stop(held.output[k].name, WRONG, "cannot be replaced: %s; %zu of %zu files are new", strerror(errno), k, held.outputs);
+        held.output[k].part = NULL;
+    }
+}
+
+/* ---- farm plan */
+
+static int plan_command(int argc, char **argv) {
+    Call call = read_call(argc, argv, "mlpod", 1, "farm plan FILE.mtx [-m MARK] [-l LIMIT] [-p PERM | -o amd|metis|natural] [-d DIR]"), *c = &call;
+    if (c->order && strcmp(c->order, "amd") && strcmp(c->order, "metis") && strcmp(c->order, "natural"))
+        stop("-o", WRONG, "'%.60s' is not amd, metis or natural", c->order);
+    if (c->order && c->perm) stop(NULL, WRONG, "give -p or -o, not both");
+    read_matrix(c->file[0]);
+    uint32_t *numbers = make_job(c);
+    size_t n = (size_t)held.job.n;
+    Lent s = lend(n);
+
+    /* lend no rows: the answer says how many are needed; so too for the bytes */
+    uint64_t number = ls_analyse(JOB, LENT, &s.place, &s.count), peak;
+    if (number == LS_ROWS_NEEDED) { lend_rows(&s); number = ls_analyse(JOB, LENT, &s.place, &s.count); }
+    if (number) stop(c->file[0], REFUSED, "%s", refusal(number, s.place, s.count).text);
+    peak = s.count;
+    number = ls_write_key(JOB, NULL, 0, &s.place, &s.count);
+    size_t key_len = number == LS_BYTES_NEEDED ? (size_t)s.count : 0, plan_len = 0;
+    uint8_t *key = room_for(key_len, 1), *plan = NULL;
+    if (number == LS_BYTES_NEEDED) number = ls_write_key(JOB, key, key_len, &s.place, &s.count);
+    if (!number) {
+        number = ls_write_plan(JOB, LENT, NULL, 0, &s.place, &s.count);
+        if (number == LS_BYTES_NEEDED) {
+            plan_len = (size_t)s.count;
+            plan = room_for(plan_len, 1);
+            number = ls_write_plan(JOB, LENT, plan, plan_len, &s.place, &s.count);
+        }
+    }
+    if (number) stop(c->file[0], REFUSED, "%s", refusal(number, s.place, s.count).text);
+
+    char *text = NULL;
+    size_t text_len = 0;
+    if (numbers) {
+        text = room_for(8 * n, 1);
+        for (size_t k = 0; k < n; k++) text_len += (size_t)sprintf(text + text_len, "%" PRIu32 "\n", numbers[k]);
+    }
+    const char *perm_name = numbers ? write_part(c, ".perm", text, text_len) : named(c, ".perm");
+    const char *key_name = write_part(c, ".key", key, key_len), *plan_name = write_part(c, ".plan", plan, plan_len);
+    finish_parts();
+
+    struct stat was;
+    if (!numbers && !stat(perm_name, &was)) tell(perm_name, 0, "this file is not of this plan, which has no permutation");
+    printf("columns       %zu\npattern rows  %zu\nfactor rows   %zu\npeak          %" PRIu64 " entries\n", n, held.job.rows_len, s.rows_len, peak);
+    printf("key           %zu bytes, %s\nplan          %zu bytes, %s\n", key_len, key_name, plan_len, plan_name);
+    if (numbers) printf("permutation   %zu numbers, %s\n", n, perm_name);
+    return DONE;
+}
+
+/* ---- farm check */
+
+/* The next number of a key: groups of seven bits, the lowest first, the last without the high bit. */
+static uint64_t key_number(const uint8_t *key, size_t key_len, size_t *at) {
+    uint64_t value = 0;
+    for (int shift = 0; *at < key_len && shift < 63; shift += 7) {
+        uint8_t byte = key[(*at)++];
+        value |= (uint64_t)(byte & 127) << shift;
+        if (byte < 128) break;
+    }
+    return value;
+}
+
+/* Makes held.job, mark and limit of a key that the solver's call could read. To see that they are right, writes their key: no other job has it. */
+static void job_of_key(Call *c, const uint8_t *key, size_t key_len) {
+    size_t at = 0, row = 0;
+    uint64_t place, count, number;
+    key_number(key, key_len, &at);      /* the edition */
+    uint64_t n = key_number(key, key_len, &at);
+    c->mark = key_number(key, key_len, &at);
+    c->limit = key_number(key, key_len, &at);
+    if (n > 4096) stop(c->file[0], WRONG, "farm cannot read this key");
+    held.job.starts = calloc((size_t)n + 1, 8);
+    held.job.rows = malloc(key_len * 4 + 4);
+    if (!held.job.starts || !held.job.rows) stop(NULL, WRONG, "out of memory");
+    held.job.n = n;
+    for (uint64_t j = 1; j <= n; j++) {
+        uint64_t rows = key_number(key, key_len, &at), last = j;
+        for (; rows && at < key_len; rows--) held.job.rows[row++] = (uint32_t)(last += key_number(key, key_len, &at));
+        held.job.starts[j] = row;
+    }
+    held.job.rows_len = row;
+    uint8_t *again = room_for(key_len, 1);
+    number = ls_write_key(JOB, again, key_len, &place, &count);
+    if (number || count != key_len || memcmp(key, again, key_len)) stop(c->file[0], WRONG, "farm cannot read this key");
+}
+
+static int check_command(int argc, char **argv) {
+    Call call = read_call(argc, argv, "mlp", 2, "farm check KEY-or-FILE.mtx PLAN [-m MARK] [-l LIMIT] [-p PERM]"), *c = &call;
+    size_t key_len, plan_len;
+    int matrix = is_matrix_name(c->file[0]);
+    if (!matrix && (c->marked || c->limited || c->perm)) stop(c->file[0], WRONG, "-m, -l and -p are for a .mtx file: a key has them in itself");
+    if (matrix) { read_matrix(c->file[0]); make_job(c); }
+    uint8_t *key = matrix ? NULL : load(c->file[0], &key_len), *plan = load(c->file[1], &plan_len);
+    if (!matrix) {
+        uint64_t answer = check(key, key_len, plan, plan_len), number = answer >> 32;
+        if (number && number != LS_SIZES_EXCEEDED) { puts(refusal(number, answer & UINT32_MAX, 0).text); return REFUSED; }
+        job_of_key(c, key, key_len);    /* the solver's call tells no peak, and takes no large job */
+    }
+    return print_check(c, plan, plan_len);
+}
+
+int main(int argc, char **argv) {
+    int status;
+    if (argc < 2) stop(NULL, WRONG, "usage: farm plan FILE.mtx [...], farm check KEY-or-FILE.mtx PLAN [...], farm --help");
+    if (!strcmp(argv[1], "--help") || !strcmp(argv[1], "-h")) { fputs(HELP, stdout); status = DONE; }
+    else if (!strcmp(argv[1], "plan")) status = plan_command(argc, argv);
+    else if (!strcmp(argv[1], "check")) status = check_command(argc, argv);
+    else stop(argv[1], WRONG, "no such command; there are plan, check and --help");
+    if (fflush(stdout) || ferror(stdout)) stop(NULL, WRONG, "the answer cannot be printed: %s", strerror(errno));
+    leave(status);
+}
