@@ -15,7 +15,7 @@ const char *ls_words(uint64_t number) {
     case 7:
         return "a slice is shorter than its fixed length: parents, order and pops n each, factor starts n + 1, work 8n + 8; in a run columns, pops and "
                "stack list n each; the listing's output 24,576 bytes";
-    case 8: return "the factor rows do not fit (in the check: the rows of the plan's lists)";
+    case 8: return "the factor rows do not fit (in the check: the rows of the plan's lists); or more than 4,096 factor rows (for the call: rows of the plan's lists)";
     case 9: return "the peak is above the job's limit";
     case 10: return "the byte slice is too short for the key or the plan";
     case 11: return "the plan does not begin with this job's key";
@@ -35,7 +35,7 @@ const char *ls_words(uint64_t number) {
     case 25:
         return "a line is missing, has no newline, or is not decimals (no leading zero, at most 13 digits) with one space between; line 1 does not hold two "
                "or three of them; a row line does not list as many rows as it says; or text follows the last line";
-    case 26: return "more than 8,192 bytes of text; or more than 256 columns, or more than 2,048 pattern rows up to this line (for the call: in the key)";
+    case 26: return "more than 8,192 bytes of text; or more than 256 columns; or more than 2,048 pattern rows up to this line (for the call: in the key)";
     case 27: return "the key is not the whole key of a job that passes 1 to 6";
     case LS_NO_MEMORY: return "no memory could be had";
     default: return "no refusal has this number";
