@@ -1,8 +1,9 @@
-/* farm: plans a Matrix Market file, and checks plans. Not proved; what it hands to the proved library is judged there, and `farm check` asks only the
-   library. It reads everything first, writes at the end, and says what is wrong in one line. HELP below says how it is called. */
+/* farm: plans a Matrix Market file, checks plans, and draws them. Not proved; what it hands to the proved library is judged there, and `farm check`
+   asks only the library. It reads everything first, writes at the end, and says what is wrong in one line. HELP below says how it is called. */
 #define _POSIX_C_SOURCE 200809L
 #include "../include/loomsaffron.h"
 #include "matrix_market.h"
+#include "pictures.h"
 #include <errno.h>
 #include <fcntl.h>
 #include <inttypes.h>
@@ -23,11 +24,14 @@ static const char HELP[] =
     "usage: farm plan FILE.mtx [-m MARK] [-l LIMIT] [-p PERM | -o amd|metis|natural] [-d DIR]\n"
     "       farm check KEY PLAN\n"
     "       farm check FILE.mtx PLAN [-m MARK] [-l LIMIT] [-p PERM]\n"
+    "       farm show FILE.mtx [-m MARK] [-p PERM | -o amd|metis|natural] [-d DIR]\n"
     "\n"
     "plan   writes FILE.key and FILE.plan beside FILE.mtx or in DIR, and FILE.perm if a permutation\n"
     "       was used. Files that are there already are replaced only if all went well.\n"
     "check  checks PLAN and runs it at its peak, and prints 'done, peak N', or 'refused NUMBER at\n"
     "       PLACE' and why. A name that ends in .mtx is a matrix: give the -m, -l and -p of its plan.\n"
+    "show   draws FILE-tree.svg (the elimination tree with front sizes), FILE-room.svg (the room in use\n"
+    "       over the steps, for each mark) and FILE-fill.svg (the pattern, and the factor with its fill).\n"
     "\n"
     "-m     the sibling mark: 0 (if not given), 1 or 2\n"
     "-l     the room limit in entries, at most 2^40 (if not given)\n"
@@ -260,6 +264,12 @@ static uint32_t *by_metis(const mm_pattern *m) {
 #endif
 }
 
+static void test_order(const Call *c) {
+    if (c->order && strcmp(c->order, "amd") && strcmp(c->order, "metis") && strcmp(c->order, "natural"))
+        stop("-o", WRONG, "'%.60s' is not amd, metis or natural", c->order);
+    if (c->order && c->perm) stop(NULL, WRONG, "give -p or -o, not both");
+}
+
 /* Makes held.job of held.matrix; the permutation, or NULL. */
 static uint32_t *make_job(const Call *c) {
     uint32_t *numbers = NULL;
@@ -287,6 +297,17 @@ static Lent lend(size_t n) {
 }
 
 static void lend_rows(Lent *s) { s->rows_len = (size_t)s->count; s->rows = room_for(s->rows_len, 4); }
+
+/* Analyses held.job into the slices, which may lend no rows yet: the answer says how many are needed. The peak. */
+static uint64_t analyse(const Call *c, Lent *lent) {
+    size_t n = (size_t)held.job.n;
+    Lent s = *lent;
+    uint64_t number = ls_analyse(JOB, LENT, &s.place, &s.count);
+    if (number == LS_ROWS_NEEDED) { lend_rows(&s); number = ls_analyse(JOB, LENT, &s.place, &s.count); }
+    if (number) stop(c->file[0], REFUSED, "%s", refusal(number, s.place, s.count).text);
+    *lent = s;
+    return s.count;
+}
 
 /* Checks a plan for held.job, runs it at its peak, and prints the answer; the exit status. That a plan which passes the check also runs is proved. */
 static int print_check(const Call *c, const uint8_t *plan, size_t plan_len) {
@@ -385,19 +406,14 @@ static void finish_parts(void) {
 
 static int plan_command(int argc, char **argv) {
     Call call = read_call(argc, argv, "mlpod", 1, "farm plan FILE.mtx [-m MARK] [-l LIMIT] [-p PERM | -o amd|metis|natural] [-d DIR]"), *c = &call;
-    if (c->order && strcmp(c->order, "amd") && strcmp(c->order, "metis") && strcmp(c->order, "natural"))
-        stop("-o", WRONG, "'%.60s' is not amd, metis or natural", c->order);
-    if (c->order && c->perm) stop(NULL, WRONG, "give -p or -o, not both");
+    test_order(c);
     read_matrix(c->file[0]);
     uint32_t *numbers = make_job(c);
     size_t n = (size_t)held.job.n;
     Lent s = lend(n);
+    uint64_t peak = analyse(c, &s), number;
 
-    /* lend no rows: the answer says how many are needed; so too for the bytes */
-    uint64_t number = ls_analyse(JOB, LENT, &s.place, &s.count), peak;
-    if (number == LS_ROWS_NEEDED) { lend_rows(&s); number = ls_analyse(JOB, LENT, &s.place, &s.count); }
-    if (number) stop(c->file[0], REFUSED, "%s", refusal(number, s.place, s.count).text);
-    peak = s.count;
+    /* lend no bytes: the answer says how many are needed */
     number = ls_write_key(JOB, NULL, 0, &s.place, &s.count);
     size_t key_len = number == LS_BYTES_NEEDED ? (size_t)s.count : 0, plan_len = 0;
     uint8_t *key = room_for(key_len, 1), *plan = NULL;
@@ -427,6 +443,92 @@ static int plan_command(int argc, char **argv) {
     printf("columns       %zu\npattern rows  %zu\nfactor rows   %zu\npeak          %" PRIu64 " entries\n", n, held.job.rows_len, s.rows_len, peak);
     printf("key           %zu bytes, %s\nplan          %zu bytes, %s\n", key_len, key_name, plan_len, plan_name);
     if (numbers) printf("permutation   %zu numbers, %s\n", n, perm_name);
+    return DONE;
+}
+
+/* ---- farm show */
+
+static uint64_t triangle(uint64_t rows) { return rows * (rows + 1) / 2; }
+
+/* The room in use at each step and what is held after it, by the rules, from the library's lists; the greatest room. */
+static uint64_t measure_room(const Lent *s, size_t n, uint64_t *in_use, uint64_t *held_after) {
+    uint64_t *stack = room_for(n, 8), entries = 0, greatest = 0;
+    size_t height = 0;
+    for (size_t k = 0; k < n; k++) {
+        uint32_t j = s->order[k];
+        uint64_t rows = s->starts[j] - s->starts[j - 1];
+        in_use[k] = entries - (s->pops[k] ? stack[height - 1] : 0) + triangle(rows + 1);   /* the front lies over the last child's update */
+        for (uint32_t pops = s->pops[k]; pops; pops--) entries -= stack[--height];
+        if (s->parents[j - 1]) entries += stack[height++] = triangle(rows);
+        held_after[k] = entries;
+        if (in_use[k] > greatest) greatest = in_use[k];
+    }
+    return greatest;
+}
+
+/* Analyses held.job with each mark: p takes what each mark's steps need, and the lists of the mark that was asked for. */
+static Lent measure_marks(const Call *c, pictures_plan *p) {
+    size_t n = (size_t)held.job.n;
+    Lent asked = lend(n);
+    analyse(c, &asked);     /* first, so that an unknown mark is refused */
+    for (uint64_t mark = 0; mark < 3; mark++) {
+        Call one = *c;
+        Lent s = asked;
+        uint64_t *in_use = room_for(n, 8), *held_after = room_for(n, 8);
+        one.mark = mark;
+        if (mark != c->mark) {
+            s.order = room_for(n, 4);
+            s.pops = room_for(n, 4);
+        }
+        p->peak[mark] = analyse(&one, &s);
+        if (measure_room(&s, n, in_use, held_after) != p->peak[mark]) stop(NULL, WRONG, "the room that would be drawn has not the library's peak");
+        p->in_use[mark] = in_use;
+        p->held[mark] = held_after;
+    }
+    return asked;
+}
+
+/* Draws one picture, to be written with the others. */
+static const char *draw(const Call *c, const pictures_plan *p, const char *suffix, int (*picture)(FILE *, const pictures_plan *)) {
+    char *text = NULL;
+    size_t length = 0;
+    FILE *f = open_memstream(&text, &length);
+    int whole = f && picture(f, p) && !ferror(f);
+    if (f && fclose(f)) whole = 0;
+    if (!whole) { free(text); stop(NULL, WRONG, "out of memory"); }
+    return write_part(c, suffix, hold(text), length);
+}
+
+/* The name of the matrix, without folder and .mtx. */
+static const char *title_of(const Call *c) {
+    Call here = *c;
+    here.folder = ".";
+    return named(&here, "") + 2;
+}
+
+static const char *order_words(const Call *c) {
+    if (c->perm) return "in a given order";
+    return !c->order || *c->order == 'n' ? "as in the file" : *c->order == 'a' ? "ordered by AMD" : "ordered by METIS";
+}
+
+static int show_command(int argc, char **argv) {
+    Call call = read_call(argc, argv, "mpod", 1, "farm show FILE.mtx [-m MARK] [-p PERM | -o amd|metis|natural] [-d DIR]"), *c = &call;
+    test_order(c);
+    read_matrix(c->file[0]);
+    make_job(c);
+    pictures_plan p = {.name = title_of(c), .n = held.job.n, .mark = c->mark, .starts = held.job.starts, .rows = held.job.rows};
+    p.ordering = order_words(c);
+    Lent s = measure_marks(c, &p);
+    p.fstarts = s.starts;
+    p.frows = s.rows;
+    p.parents = s.parents;
+    p.order = s.order;
+    const char *tree = draw(c, &p, "-tree.svg", picture_tree), *room = draw(c, &p, "-room.svg", picture_room);
+    const char *fill = draw(c, &p, "-fill.svg", picture_fill);
+    finish_parts();
+    printf("tree          %s: %zu columns, mark %" PRIu64 "\n", tree, (size_t)p.n, p.mark);
+    printf("room          %s: peaks %" PRIu64 ", %" PRIu64 " and %" PRIu64 " with marks 0, 1 and 2\n", room, p.peak[0], p.peak[1], p.peak[2]);
+    printf("fill          %s: %zu pattern rows, %" PRIu64 " rows of fill\n", fill, held.job.rows_len, p.fstarts[p.n] - held.job.rows_len);
     return DONE;
 }
 
@@ -484,11 +586,12 @@ static int check_command(int argc, char **argv) {
 
 int main(int argc, char **argv) {
     int status;
-    if (argc < 2) stop(NULL, WRONG, "usage: farm plan FILE.mtx [...], farm check KEY-or-FILE.mtx PLAN [...], farm --help");
+    if (argc < 2) stop(NULL, WRONG, "usage: farm plan FILE.mtx [...], farm check KEY-or-FILE.mtx PLAN [...], farm show FILE.mtx [...], farm --help");
     if (!strcmp(argv[1], "--help") || !strcmp(argv[1], "-h")) { fputs(HELP, stdout); status = DONE; }
     else if (!strcmp(argv[1], "plan")) status = plan_command(argc, argv);
     else if (!strcmp(argv[1], "check")) status = check_command(argc, argv);
-    else stop(argv[1], WRONG, "no such command; there are plan, check and --help");
+    else if (!strcmp(argv[1], "show")) status = show_command(argc, argv);
+    else stop(argv[1], WRONG, "no such command; there are plan, check, show and --help");
     if (fflush(stdout) || ferror(stdout)) stop(NULL, WRONG, "the answer cannot be printed: %s", strerror(errno));
     leave(status);
 }

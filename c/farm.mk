@@ -16,8 +16,8 @@ endif
 FARM_CFLAGS := -std=c11 -O2 -Wall -Wextra -Wpedantic
 FARM_SANITIZE := -std=c11 -g -O1 -Wall -Wextra -Wpedantic -fsanitize=address,undefined -fno-sanitize-recover=all
 FARM_LIBRARY := $(FARM_ROOT)target/staticlib/libc_api.a $(FARM_ROOT)target/staticlib/libsolver.a
-FARM_SOURCE := $(FARM)farm.c $(FARM)matrix_market.c
-FARM_NEEDS := $(FARM_SOURCE) $(FARM)matrix_market.h $(FARM_ROOT)include/loomsaffron.h $(FARM)farm.mk
+FARM_SOURCE := $(addprefix $(FARM),farm.c matrix_market.c picture_tree.c picture_room.c picture_fill.c svg.c)
+FARM_NEEDS := $(FARM_SOURCE) $(addprefix $(FARM),matrix_market.h pictures.h svg.h farm.mk) $(FARM_ROOT)include/loomsaffron.h
 
 # What to link with, if pkg-config knows it or a small program with the header can be linked; else nothing.
 # $(call farm-find,PKG-CONFIG NAME,HEADER,A CALL,FLAGS TO TRY)
