@@ -567,14 +567,10 @@ static Lent measure_marks(const Call *c, pictures_plan *p) {
 }
 
 /* Draws one picture, to be written with the others. */
-static const char *draw(const Call *c, const pictures_plan *p, const char *suffix, int (*picture)(FILE *, const pictures_plan *)) {
-    char *text = NULL;
-    size_t length = 0;
-    FILE *f = open_memstream(&text, &length);
-    int whole = f && picture(f, p) && !ferror(f);
-    if (f && fclose(f)) whole = 0;
-    if (!whole) { free(text); stop(NULL, WRONG, "out of memory"); }
-    return write_part(c, suffix, hold(text), length);
+static const char *draw(const Call *c, const pictures_plan *p, const char *suffix, int (*picture)(svg_page *, const pictures_plan *)) {
+    svg_page page = {0};
+    if (!picture(&page, p)) { free(page.text); stop(NULL, WRONG, "out of memory"); }
+    return write_part(c, suffix, hold(page.text), page.length);
 }
 
 /* The name of the matrix, without folder and .mtx. */

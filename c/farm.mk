@@ -1,6 +1,6 @@
 # The rules of farm, to be included by the Makefile here, or by itself: make -f c/farm.mk
 #   farm-all    proves the library where needed, and builds c/farm
-#   farm-test   tries the reader and the tool, built with the sanitizers
+#   farm-test   tries the reader, the tool, its pictures and imports, built with the sanitizers
 #   farm-clean
 # AMD and CHOLMOD (of SuiteSparse) and METIS are used if they are found; WITHOUT_AMD=1, WITHOUT_METIS=1, WITHOUT_CHOLMOD=1
 # leave them out; FARM_EXTRA= takes further flags for the search and the link, such as -I and -L.
@@ -40,6 +40,7 @@ farm-all: $(FARM)farm
 # The sanitizers are not for the other machine's code: there, only the reader is tried.
 farm-test: $(if $(FARM_LDFLAGS),,$(FARM)farm-tried)
 	python3 $(FARM)test_matrix_market.py $^
+	$(if $^,python3 $(FARM)test_show_import.py $^ $(if $(FARM_CHOLMOD),-DFARM_CHOLMOD $(FARM_EXTRA) $(FARM_CHOLMOD)))
 farm-clean:
 	rm -f $(FARM)farm $(FARM)farm-tried
 

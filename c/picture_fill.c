@@ -1,7 +1,7 @@
 /* The pattern, and beside it the factor: what of it is pattern and what is fill. A large matrix is drawn in cells of many places each. */
 #include "pictures.h"
-#include "svg.h"
 #include <inttypes.h>
+#include <stdio.h>
 #include <stdlib.h>
 
 enum { MOST_CELLS = 200, SHADES = 4, SIDE = 400, WIDEST = 40, LEFT = 76, TOP = 92, GAP = 90, NARROWEST = 270 };
@@ -64,48 +64,48 @@ static void classify(Cells *c) {
 }
 
 /* One path for all cells of a class; neighbours in a row are one stretch. */
-static void draw_class(FILE *f, const Cells *c, int class) {
+static void draw_class(svg_page *f, const Cells *c, int class) {
     int any = 0;
     for (uint64_t row = 0; row < c->count; row++)
         for (uint64_t k = 0, end; k < c->count; k = end) {
             const uint8_t *line = c->class + row * c->count;
             for (end = k + 1; end < c->count && line[end] == line[k]; end++) {}
             if (line[k] != class) continue;
-            if (!any++) fprintf(f, "<path fill=\"%s\" d=\"", COLOUR[class]);
-            fprintf(f, "M%" PRIu64 " %" PRIu64 "h%" PRIu64 "v1h-%" PRIu64 "z", k, row, end - k, end - k);
+            if (!any++) svg_put(f, "<path fill=\"%s\" d=\"", COLOUR[class]);
+            svg_put(f, "M%" PRIu64 " %" PRIu64 "h%" PRIu64 "v1h-%" PRIu64 "z", k, row, end - k, end - k);
         }
-    if (any) fputs("\"/>\n", f);
+    if (any) svg_put(f, "\"/>\n");
 }
 
 /* White lines between cells that are large enough for them. */
-static void draw_lines(FILE *f, const Cells *c, double left) {
+static void draw_lines(svg_page *f, const Cells *c, double left) {
     if (c->size < 6) return;
     double side = (double)c->count * c->size;
-    fputs("<path stroke=\"#fff\" d=\"", f);
+    svg_put(f, "<path stroke=\"#fff\" d=\"");
     for (uint64_t k = 1; k < c->count; k++)
-        fprintf(f, "M%.1f %dv%.1fM%.1f %.1fh%.1f", left + (double)k * c->size, TOP, side, left, TOP + (double)k * c->size, side);
-    fputs("\"/>\n", f);
+        svg_put(f, "M%.1f %dv%.1fM%.1f %.1fh%.1f", left + (double)k * c->size, TOP, side, left, TOP + (double)k * c->size, side);
+    svg_put(f, "\"/>\n");
 }
 
-static void draw_cells(FILE *f, const Cells *c, uint64_t n, double left, const char *rows) {
+static void draw_cells(svg_page *f, const Cells *c, uint64_t n, double left, const char *rows) {
     double side = (double)n / (double)c->each * c->size;
     /* an svg inside cuts off what the last cells have beyond n */
-    fprintf(f, "<svg x=\"%g\" y=\"%d\" width=\"%.2f\" height=\"%.2f\" viewBox=\"0 0 %g %g\" shape-rendering=\"crispEdges\">\n", left, TOP, side, side,
+    svg_put(f, "<svg x=\"%g\" y=\"%d\" width=\"%.2f\" height=\"%.2f\" viewBox=\"0 0 %g %g\" shape-rendering=\"crispEdges\">\n", left, TOP, side, side,
             side / c->size, side / c->size);
     for (int class = 1; class <= 2 * SHADES; class++) draw_class(f, c, class);
-    fputs("</svg>\n", f);
+    svg_put(f, "</svg>\n");
     draw_lines(f, c, left);
-    fprintf(f, "<rect x=\"%g\" y=\"%d\" width=\"%.2f\" height=\"%.2f\" fill=\"none\" stroke=\"#222\"/>\n", left, TOP, side, side);
+    svg_put(f, "<rect x=\"%g\" y=\"%d\" width=\"%.2f\" height=\"%.2f\" fill=\"none\" stroke=\"#222\"/>\n", left, TOP, side, side);
     svg_axis_below(f, (svg_axis){n, left, side / (double)n}, TOP + side, side < 200 ? 10 : n <= 20 ? 20 : 8, "column");
     svg_axis_left(f, (svg_axis){n, TOP, side / (double)n}, left, n <= 20 ? 20 : 10, rows);
 }
 
-static void swatch(FILE *f, double x, double y, const char *colour, const char *words) {
-    fprintf(f, "<rect x=\"%g\" y=\"%g\" width=\"18\" height=\"12\" fill=\"%s\"/>\n", x, y, colour);
+static void swatch(svg_page *f, double x, double y, const char *colour, const char *words) {
+    svg_put(f, "<rect x=\"%g\" y=\"%g\" width=\"18\" height=\"12\" fill=\"%s\"/>\n", x, y, colour);
     svg_words(f, x + 23, y + 10, "", "%s", words);
 }
 
-static void legend(FILE *f, const Cells *c, double y) {
+static void legend(svg_page *f, const Cells *c, double y) {
     if (c->each == 1) {
         swatch(f, 20, y, COLOUR[PATTERN + 2], "pattern, and the diagonal");
         swatch(f, 230, y, COLOUR[FILL + 1], "fill");
@@ -121,7 +121,7 @@ static void legend(FILE *f, const Cells *c, double y) {
     svg_words(f, 540, y + 30, "fill=\"#555\"", "a cell is %" PRIu64 " by %" PRIu64 " places.", c->each, c->each);
 }
 
-static void draw_both(FILE *f, Cells *c, const pictures_plan *p, double right) {
+static void draw_both(svg_page *f, Cells *c, const pictures_plan *p, double right) {
     uint64_t rows = p->starts[p->n], factor = p->fstarts[p->n];
     svg_words(f, LEFT, TOP - 14, HEAD, "pattern: %s row%s below the diagonal", svg_grouped(rows).text, rows == 1 ? "" : "s");
     svg_words(f, right, TOP - 14, HEAD, "factor: %s row%s below the diagonal", svg_grouped(factor).text, factor == 1 ? "" : "s");
@@ -134,7 +134,7 @@ static void draw_both(FILE *f, Cells *c, const pictures_plan *p, double right) {
     draw_cells(f, c, p->n, right, "row");
 }
 
-int picture_fill(FILE *f, const pictures_plan *p) {
+int picture_fill(svg_page *f, const pictures_plan *p) {
     Cells c = {0};
     char words[200];
     int taken = take(&c, p->n);
@@ -149,5 +149,5 @@ int picture_fill(FILE *f, const pictures_plan *p) {
         svg_end(f);
     }
     release(&c);
-    return taken;
+    return taken && !f->failed;
 }

@@ -1,8 +1,8 @@
 /* The elimination tree. A small tree is drawn as boxes, a column each. A large one is drawn by subtree size: the plan does each subtree in
    consecutive steps with its top last, so a subtree is a stretch of the steps, and its children are stretches below it. */
 #include "pictures.h"
-#include "svg.h"
 #include <inttypes.h>
+#include <stdio.h>
 #include <stdlib.h>
 #include <string.h>
 
@@ -73,13 +73,13 @@ static int class_of(const Tree *t, uint64_t front) {
     return class;
 }
 
-static void legend(FILE *f, const Tree *t, double x, double y) {
+static void legend(svg_page *f, const Tree *t, double x, double y) {
     svg_words(f, x, y + 10, "", "rows of the %sfront:", t->boxes ? "" : "greatest ");
     x += t->boxes ? 125 : 185;
     for (int k = 0; k < CLASSES; k++) {
         uint64_t from = k ? class_end(t, k - 1) + 1 : 1, to = class_end(t, k);
         if (from > to) continue;
-        fprintf(f, "<rect x=\"%.1f\" y=\"%.1f\" width=\"18\" height=\"12\" fill=\"%s\" stroke=\"#666\" stroke-width=\"0.5\"/>\n", x, y, SHADE[k]);
+        svg_put(f, "<rect x=\"%.1f\" y=\"%.1f\" width=\"18\" height=\"12\" fill=\"%s\" stroke=\"#666\" stroke-width=\"0.5\"/>\n", x, y, SHADE[k]);
         svg_words(f, x + 23, y + 10, "", from == to ? "%s" : "%s–%s", svg_grouped(from).text, svg_grouped(to).text);
         x += from == to ? 58 : to < 1000 ? 94 : 116;
     }
@@ -103,19 +103,19 @@ static void place_boxes(Tree *t) {
     }
 }
 
-static void draw_boxes(FILE *f, Tree *t, double left) {
+static void draw_boxes(svg_page *f, Tree *t, double left) {
     place_boxes(t);
     for (uint64_t j = 1; j <= t->p->n; j++) {
         uint64_t above = parent(t, j);
-        if (above) fprintf(f, "<path d=\"M%.1f %.1fL%.1f %.1f\" stroke=\"#888\"/>\n", left + t->middle[j] * UNIT, TOP + (double)t->level[j] * PITCH,
+        if (above) svg_put(f, "<path d=\"M%.1f %.1fL%.1f %.1f\" stroke=\"#888\"/>\n", left + t->middle[j] * UNIT, TOP + (double)t->level[j] * PITCH,
                            left + t->middle[above] * UNIT, TOP + (double)t->level[above] * PITCH + TALL);
     }
     for (uint64_t j = 1; j <= t->p->n; j++) {
         double x = left + t->middle[j] * UNIT, y = TOP + (double)t->level[j] * PITCH;
         int class = class_of(t, t->front[j]);
         char ink[80];
-        fprintf(f, "<rect x=\"%.1f\" y=\"%.1f\" width=\"%g\" height=\"%g\" rx=\"5\" ", x - BOX / 2, y, BOX, TALL);
-        fprintf(f, "fill=\"%s\" stroke=\"#666\"/>\n", SHADE[class]);
+        svg_put(f, "<rect x=\"%.1f\" y=\"%.1f\" width=\"%g\" height=\"%g\" rx=\"5\" ", x - BOX / 2, y, BOX, TALL);
+        svg_put(f, "fill=\"%s\" stroke=\"#666\"/>\n", SHADE[class]);
         snprintf(ink, sizeof ink, "text-anchor=\"middle\" font-size=\"14\" font-weight=\"bold\" fill=\"%s\"", INK[class]);
         svg_words(f, x, y + 16, ink, "%" PRIu64, j);
         snprintf(ink, sizeof ink, "text-anchor=\"middle\" font-size=\"11\" fill=\"%s\"", INK[class]);
@@ -193,13 +193,13 @@ static size_t make_blocks(Tree *t, Block *block) {
     return blocks;
 }
 
-static void draw_block(FILE *f, const Tree *t, Block b, double high) {
+static void draw_block(svg_page *f, const Tree *t, Block b, double high) {
     double each = WIDE / (double)t->p->n, wide = (double)(b.last - b.first + 1) * each;
     double x = LEFT + (double)(b.first - 1) * each, y = TOP + (double)b.level * high;
     svg_number number = svg_grouped(b.front);
     int class = class_of(t, b.front);
-    fprintf(f, "<path d=\"M%.1f %.1fh%.2fv%.1fh%.2fz\" fill=\"%s\"/>\n", x, y, wide, high, -wide, SHADE[class]);
-    if (b.group) fprintf(f, "<path d=\"M%.1f %.1fh%.2fv%.1fh%.2fz\" fill=\"url(#hatch)\"/>\n", x, y, wide, high, -wide);
+    svg_put(f, "<path d=\"M%.1f %.1fh%.2fv%.1fh%.2fz\" fill=\"%s\"/>\n", x, y, wide, high, -wide, SHADE[class]);
+    if (b.group) svg_put(f, "<path d=\"M%.1f %.1fh%.2fv%.1fh%.2fz\" fill=\"url(#hatch)\"/>\n", x, y, wide, high, -wide);
     if (high >= 12 && wide >= 7 * (double)strlen(number.text) + 4 && !b.group) {
         char ink[80];
         snprintf(ink, sizeof ink, "stroke=\"none\" text-anchor=\"middle\" font-size=\"11\" fill=\"%s\"", INK[class]);
@@ -207,14 +207,14 @@ static void draw_block(FILE *f, const Tree *t, Block b, double high) {
     }
 }
 
-static void draw_blocks(FILE *f, const Tree *t, const Block *block, size_t blocks, double high) {
+static void draw_blocks(svg_page *f, const Tree *t, const Block *block, size_t blocks, double high) {
     double down = (double)t->levels * high;
-    fputs("<defs><pattern id=\"hatch\" width=\"4\" height=\"4\" patternUnits=\"userSpaceOnUse\">"
-          "<path d=\"M0 4L4 0\" stroke=\"#fff\" stroke-width=\"1.4\"/><path d=\"M0 4L4 0\" stroke=\"#777\" stroke-width=\"0.5\"/></pattern></defs>\n", f);
-    fputs("<g stroke=\"#fff\" stroke-width=\"0.4\">\n", f);
+    svg_put(f, "<defs><pattern id=\"hatch\" width=\"4\" height=\"4\" patternUnits=\"userSpaceOnUse\">"
+          "<path d=\"M0 4L4 0\" stroke=\"#fff\" stroke-width=\"1.4\"/><path d=\"M0 4L4 0\" stroke=\"#777\" stroke-width=\"0.5\"/></pattern></defs>\n");
+    svg_put(f, "<g stroke=\"#fff\" stroke-width=\"0.4\">\n");
     for (size_t k = 0; k < blocks; k++) draw_block(f, t, block[k], high);
-    fputs("</g>\n", f);
-    fprintf(f, "<path d=\"M%.1f %.1fv%.1fh%.1f\" fill=\"none\" stroke=\"#222\"/>\n", LEFT, TOP, down, WIDE);
+    svg_put(f, "</g>\n");
+    svg_put(f, "<path d=\"M%.1f %.1fv%.1fh%.1f\" fill=\"none\" stroke=\"#222\"/>\n", LEFT, TOP, down, WIDE);
     svg_axis_below(f, (svg_axis){t->p->n, LEFT, WIDE / (double)t->p->n}, TOP + down, 9, "step of the plan");
     svg_axis_left(f, (svg_axis){t->levels, TOP, high}, LEFT, 12, "level");
 }
@@ -226,7 +226,7 @@ static void heading(char *words, size_t room, const Tree *t) {
              t->p->ordering, t->p->mark, svg_grouped(t->levels).text, svg_grouped(t->greatest).text);
 }
 
-static void small_tree(FILE *f, Tree *t) {
+static void small_tree(svg_page *f, Tree *t) {
     char words[200];
     double wide = (double)t->leaves * UNIT, page = wide + 60 < 640 ? 640 : wide + 60, below = TOP + (double)t->levels * PITCH;
     heading(words, sizeof words, t);
@@ -240,7 +240,7 @@ static void small_tree(FILE *f, Tree *t) {
     svg_end(f);
 }
 
-static void large_tree(FILE *f, Tree *t, Block *block) {
+static void large_tree(svg_page *f, Tree *t, Block *block) {
     char words[200];
     heading(words, sizeof words, t);
     size_t blocks = make_blocks(t, block);
@@ -256,7 +256,7 @@ static void large_tree(FILE *f, Tree *t, Block *block) {
     svg_end(f);
 }
 
-int picture_tree(FILE *f, const pictures_plan *p) {
+int picture_tree(svg_page *f, const pictures_plan *p) {
     Tree t = {.p = p};
     int taken = take(&t, (size_t)p->n + 1);
     Block *block = calloc((size_t)p->n + 1, sizeof *block);
@@ -267,5 +267,5 @@ int picture_tree(FILE *f, const pictures_plan *p) {
     }
     release(&t);
     free(block);
-    return taken && block != NULL;
+    return taken && block && !f->failed;
 }

@@ -2,8 +2,7 @@
 #ifndef PICTURES_H
 #define PICTURES_H
 
-#include <stdint.h>
-#include <stdio.h>
+#include "svg.h"
 
 /* A job, its analysis with one mark, and what the steps of each of the three marks take. Columns and rows are numbered from 1, as the library has
    them; column j is at j - 1 of a list. */
@@ -17,9 +16,9 @@ typedef struct {
     uint64_t peak[3];
 } pictures_plan;
 
-/* Each writes one picture to f and answers 1, or 0 if it could take no memory. Whether f took all is for the caller to see. */
-int picture_tree(FILE *f, const pictures_plan *p);  /* the elimination tree with front sizes */
-int picture_room(FILE *f, const pictures_plan *p);  /* the room in use over the steps, a panel for each mark */
-int picture_fill(FILE *f, const pictures_plan *p);  /* the pattern, and the factor with its fill */
+/* Each writes one picture to a page and answers 1, or 0 if it could take no memory: then what the page holds is no picture. */
+int picture_tree(svg_page *f, const pictures_plan *p);  /* the elimination tree with front sizes */
+int picture_room(svg_page *f, const pictures_plan *p);  /* the room in use over the steps, a panel for each mark */
+int picture_fill(svg_page *f, const pictures_plan *p);  /* the pattern, and the factor with its fill */
 
 #endif

@@ -1,9 +1,37 @@
 #include "svg.h"
 #include <inttypes.h>
 #include <stdarg.h>
-#include <string.h>
+#include <stdio.h>
+#include <stdlib.h>
 
 enum { LONGEST_NAME = 48 };     /* letters of a name in a title: a longer one would run over the page */
+
+/* Makes the room for so many more bytes and the 0 behind them. */
+static int has_room(svg_page *f, size_t more) {
+    size_t room = f->room ? f->room : 1 << 14;
+    while (room - f->length <= more) room *= 2;
+    if (!f->failed && room != f->room) {
+        char *text = realloc(f->text, room);
+        if (text) { f->text = text; f->room = room; } else f->failed = 1;
+    }
+    return !f->failed;
+}
+
+static void put_list(svg_page *f, const char *form, va_list list) {
+    va_list again;
+    va_copy(again, list);
+    int count = vsnprintf(NULL, 0, form, again);
+    va_end(again);
+    if (count < 0) f->failed = 1;
+    else if (has_room(f, (size_t)count)) f->length += (size_t)vsnprintf(f->text + f->length, (size_t)count + 1, form, list);
+}
+
+void svg_put(svg_page *f, const char *form, ...) {
+    va_list more;
+    va_start(more, form);
+    put_list(f, form, more);
+    va_end(more);
+}
 
 svg_number svg_grouped(uint64_t value) {
     char digits[24];
@@ -31,40 +59,40 @@ static size_t letter(const unsigned char *c) {
     return length == 4 && point >= 0x10000 && point < 0x110000 ? 4 : 0;
 }
 
-static void put_name(FILE *f, const char *name) {
+static void put_name(svg_page *f, const char *name) {
     const unsigned char *c = (const unsigned char *)name;
     for (int letters = 0; *c; letters++) {
-        if (letters == LONGEST_NAME) { fputs("…", f); return; }
+        if (letters == LONGEST_NAME) { svg_put(f, "…"); return; }
         size_t length = letter(c);
-        if (*c == '<') fputs("&lt;", f);
-        else if (*c == '&') fputs("&amp;", f);
-        else if (*c == '>') fputs("&gt;", f);
-        else if (length) fwrite(c, 1, length, f);
-        else fputc('?', f);
+        if (*c == '<') svg_put(f, "&lt;");
+        else if (*c == '&') svg_put(f, "&amp;");
+        else if (*c == '>') svg_put(f, "&gt;");
+        else if (length) svg_put(f, "%.*s", (int)length, (const char *)c);
+        else svg_put(f, "?");
         c += length ? length : 1;
     }
 }
 
-void svg_begin(FILE *f, double width, double height, const char *name, const char *title, const char *below) {
-    fputs("<?xml version=\"1.0\" encoding=\"UTF-8\"?>\n", f);
-    fprintf(f, "<svg xmlns=\"http://www.w3.org/2000/svg\" viewBox=\"0 0 %g %g\" width=\"%g\" height=\"%g\" ", width, height, width, height);
-    fputs("font-family=\"Helvetica, Arial, sans-serif\" font-size=\"12\" fill=\"#222\">\n<title>", f);
+void svg_begin(svg_page *f, double width, double height, const char *name, const char *title, const char *below) {
+    svg_put(f, "<?xml version=\"1.0\" encoding=\"UTF-8\"?>\n");
+    svg_put(f, "<svg xmlns=\"http://www.w3.org/2000/svg\" viewBox=\"0 0 %g %g\" width=\"%g\" height=\"%g\" ", width, height, width, height);
+    svg_put(f, "font-family=\"Helvetica, Arial, sans-serif\" font-size=\"12\" fill=\"#222\">\n<title>");
     put_name(f, name);
-    fprintf(f, ": %s</title>\n<rect width=\"%g\" height=\"%g\" fill=\"#fff\"/>\n", title, width, height);
-    fputs("<text x=\"20\" y=\"28\" font-size=\"18\" font-weight=\"bold\">", f);
+    svg_put(f, ": %s</title>\n<rect width=\"%g\" height=\"%g\" fill=\"#fff\"/>\n", title, width, height);
+    svg_put(f, "<text x=\"20\" y=\"28\" font-size=\"18\" font-weight=\"bold\">");
     put_name(f, name);
-    fprintf(f, ": %s</text>\n<text x=\"20\" y=\"48\" font-size=\"13\" fill=\"#555\">%s</text>\n", title, below);
+    svg_put(f, ": %s</text>\n<text x=\"20\" y=\"48\" font-size=\"13\" fill=\"#555\">%s</text>\n", title, below);
 }
 
-void svg_end(FILE *f) { fputs("</svg>\n", f); }
+void svg_end(svg_page *f) { svg_put(f, "</svg>\n"); }
 
-void svg_words(FILE *f, double x, double y, const char *attributes, const char *form, ...) {
+void svg_words(svg_page *f, double x, double y, const char *attributes, const char *form, ...) {
     va_list more;
-    fprintf(f, "<text x=\"%.1f\" y=\"%.1f\"%s%s>", x, y, *attributes ? " " : "", attributes);
+    svg_put(f, "<text x=\"%.1f\" y=\"%.1f\"%s%s>", x, y, *attributes ? " " : "", attributes);
     va_start(more, form);
-    vfprintf(f, form, more);
+    put_list(f, form, more);
     va_end(more);
-    fputs("</text>\n", f);
+    svg_put(f, "</text>\n");
 }
 
 uint64_t svg_step(uint64_t range, uint64_t most) {
@@ -80,23 +108,23 @@ static uint64_t next_mark(uint64_t place, uint64_t step, uint64_t n) {
     return next >= n || (n - next) * 5 < step * 3 ? n : next;
 }
 
-void svg_axis_below(FILE *f, svg_axis a, double y, uint64_t most, const char *name) {
+void svg_axis_below(svg_page *f, svg_axis a, double y, uint64_t most, const char *name) {
     uint64_t step = svg_step(a.n, most);
     for (uint64_t k = 1; k <= a.n; k = next_mark(k, step, a.n)) {
         double x = a.start + ((double)k - 0.5) * a.each;
-        fprintf(f, "<path d=\"M%.1f %.1fv4\" stroke=\"#222\"/>\n", x, y);
+        svg_put(f, "<path d=\"M%.1f %.1fv4\" stroke=\"#222\"/>\n", x, y);
         svg_words(f, x, y + 16, "font-size=\"11\" text-anchor=\"middle\"", "%s", svg_grouped(k).text);
     }
     svg_words(f, a.start + (double)a.n * a.each / 2, y + 32, "text-anchor=\"middle\"", "%s", name);
 }
 
-void svg_axis_left(FILE *f, svg_axis a, double x, uint64_t most, const char *name) {
+void svg_axis_left(svg_page *f, svg_axis a, double x, uint64_t most, const char *name) {
     uint64_t step = svg_step(a.n, most);
     for (uint64_t k = 1; k <= a.n; k = next_mark(k, step, a.n)) {
         double y = a.start + ((double)k - 0.5) * a.each;
-        fprintf(f, "<path d=\"M%.1f %.1fh-4\" stroke=\"#222\"/>\n", x, y);
+        svg_put(f, "<path d=\"M%.1f %.1fh-4\" stroke=\"#222\"/>\n", x, y);
         svg_words(f, x - 7, y + 4, "font-size=\"11\" text-anchor=\"end\"", "%s", svg_grouped(k).text);
     }
     double middle = a.start + (double)a.n * a.each / 2;
-    fprintf(f, "<text transform=\"translate(%.1f %.1f) rotate(-90)\" text-anchor=\"middle\">%s</text>\n", x - 48, middle, name);
+    svg_put(f, "<text transform=\"translate(%.1f %.1f) rotate(-90)\" text-anchor=\"middle\">%s</text>\n", x - 48, middle, name);
 }
