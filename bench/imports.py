@@ -1,8 +1,8 @@
 """What the check says of CHOLMOD's analyses, as `farm import` writes them, and of the same analyses spoilt: a table in Markdown.
 usage: bench/imports.py FARM JOB...     FARM: c/farm, built with CHOLMOD; JOB: job texts, as in real/ and as fetch_real.sh leaves them
 
-Each job is analysed in its own numbering (up to 500 columns) or in those of AMD and METIS (above). Exits with 1 if an analysis is refused, or a spoilt
-one is not refused with the number and at the place that it must be.
+Each job is analysed in its own numbering (up to 500 columns) or in those of AMD and METIS (above). Exits with 1 if an analysis is refused, or if a
+spoilt one is not refused with the number and at the place that it must be.
 """
 import os
 import re
@@ -12,6 +12,7 @@ import tempfile
 
 sys.path.append(os.path.join(os.path.dirname(os.path.abspath(__file__)), "..", "tests"))
 from damage import Plan, as_bytes, job_of, key_numbers, read_plan    # noqa: E402
+from matrix import columns_of, write_matrix                          # noqa: E402
 
 
 def row_left_out(plan):
@@ -49,19 +50,6 @@ def run(*words):
     return subprocess.run(words, capture_output=True, text=True)
 
 
-def columns_of(path):
-    with open(path) as f:
-        lines = f.read().splitlines()
-    return [[int(x) for x in l.split()[1:]] for l in lines[1:int(lines[0].split()[0]) + 1]]
-
-
-def write_matrix(path, columns):
-    n = len(columns)
-    with open(path, "w") as f:
-        f.write(f"%%MatrixMarket matrix coordinate pattern symmetric\n{n} {n} {sum(map(len, columns))}\n")
-        f.writelines(f"{i} {j}\n" for j, rows in enumerate(columns, 1) for i in rows)
-
-
 def in_order(columns, numbers):
     """The rows of each column after a permutation."""
     place = {old: new for new, old in enumerate(numbers, 1)}
@@ -82,7 +70,8 @@ def judged(farm, folder, key, plan):
 
 def line(farm, folder, columns, order):
     """The cells of a line of the table, or the words of a refusal."""
-    write_matrix(f"{folder}/a.mtx", columns)
+    with open(f"{folder}/a.mtx", "w") as f:
+        write_matrix(f, columns)
     ran = run(farm, "import", f"{folder}/a.mtx", "-o", order)
     if ran.returncode:
         return ran.stderr.strip()

@@ -1,6 +1,6 @@
-/* farm: plans a Matrix Market file, checks plans, draws them, and makes plans of CHOLMOD's analyses. Not proved; what it hands to the proved library is
-   judged there, and `farm check` asks only the library. It reads everything first, writes at the end, and says what is wrong in one line. HELP below
-   says how it is called. */
+/* farm: plans a Matrix Market file, checks plans, draws them, and makes plans of CHOLMOD's analyses. Not proved; what it hands to the proved library
+   is judged there, and `farm check` asks only the library. It reads everything first, writes at the end, and says what is wrong in one line. HELP
+   below says how it is called. */
 #define _POSIX_C_SOURCE 200809L
 #include "../include/loomsaffron.h"
 #include "cholmod_analysis.h"
@@ -648,7 +648,9 @@ static int check_command(int argc, char **argv) {
     int matrix = is_matrix_name(c->file[0]);
     if (!matrix && (c->marked || c->limited || c->perm)) stop(c->file[0], WRONG, "-m, -l and -p are for a .mtx file: a key has them in itself");
     if (matrix) { read_matrix(c->file[0]); make_job(c, order_asked(c)); }
-    Bytes key = matrix ? (Bytes){0} : load(c->file[0]), plan = load(c->file[1]);
+    Bytes key = {0}, plan;
+    if (!matrix) key = load(c->file[0]);
+    plan = load(c->file[1]);
     if (!matrix) {
         uint64_t answer = check(key.first, key.count, plan.first, plan.count), number = answer >> 32;
         if (number && number != LS_SIZES_EXCEEDED) { puts(refusal(number, answer & UINT32_MAX, 0).text); return REFUSED; }
@@ -661,7 +663,7 @@ static int check_command(int argc, char **argv) {
 
 int main(int argc, char **argv) {
     int status;
-    if (argc < 2) stop(NULL, WRONG, "usage: farm plan FILE.mtx [...], farm check KEY-or-FILE.mtx PLAN [...], farm show FILE.mtx [...], farm import FILE.mtx [...], farm --help");
+    if (argc < 2) stop(NULL, WRONG, "usage: farm plan|show|import FILE.mtx [...], farm check KEY-or-FILE.mtx PLAN [...], farm --help");
     if (!strcmp(argv[1], "--help") || !strcmp(argv[1], "-h")) { fputs(HELP, stdout); status = DONE; }
     else if (!strcmp(argv[1], "plan")) status = plan_command(argc, argv);
     else if (!strcmp(argv[1], "check")) status = check_command(argc, argv);

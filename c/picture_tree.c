@@ -210,7 +210,8 @@ static void draw_block(svg_page *f, const Tree *t, Block b, double high) {
 static void draw_blocks(svg_page *f, const Tree *t, const Block *block, size_t blocks, double high) {
     double down = (double)t->levels * high;
     svg_put(f, "<defs><pattern id=\"hatch\" width=\"4\" height=\"4\" patternUnits=\"userSpaceOnUse\">"
-          "<path d=\"M0 4L4 0\" stroke=\"#fff\" stroke-width=\"1.4\"/><path d=\"M0 4L4 0\" stroke=\"#777\" stroke-width=\"0.5\"/></pattern></defs>\n");
+               "<path d=\"M0 4L4 0\" stroke=\"#fff\" stroke-width=\"1.4\"/>"
+               "<path d=\"M0 4L4 0\" stroke=\"#777\" stroke-width=\"0.5\"/></pattern></defs>\n");
     svg_put(f, "<g stroke=\"#fff\" stroke-width=\"0.4\">\n");
     for (size_t k = 0; k < blocks; k++) draw_block(f, t, block[k], high);
     svg_put(f, "</g>\n");
@@ -244,12 +245,12 @@ static void large_tree(svg_page *f, Tree *t, Block *block) {
     char words[200];
     heading(words, sizeof words, t);
     size_t blocks = make_blocks(t, block);
-    double high = HIGH / (double)t->levels > 26 ? 26 : HIGH / (double)t->levels, below = TOP + high * (double)t->levels + 48;
+    double fits = HIGH / (double)t->levels, high = fits > 26 ? 26 : fits, below = TOP + high * (double)t->levels + 48;
     svg_begin(f, LEFT + WIDE + 30, below + 82, t->p->name, "elimination tree", words);
     draw_blocks(f, t, block, blocks, high);
     legend(f, t, 20, below);
     svg_words(f, 20, below + 34, NOTE, "A block is a run of columns, each the only child of the next; its number is its greatest front.");
-    svg_words(f, 20, below + 50, NOTE, "Its width is its subtree: the blocks below it are its children, and its own columns come last, at its right end.");
+    svg_words(f, 20, below + 50, NOTE, "Its width is its subtree: below it are its children, and its own columns come last, at its right end.");
     if (small_size(t) > 1)
         svg_words(f, 20, below + 66, NOTE, "Subtrees of fewer than %" PRIu64 " columns are drawn together (hatched), or left out where they are few.",
                   small_size(t));

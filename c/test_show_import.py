@@ -2,8 +2,8 @@
 usage: test_show_import.py [-s SEED] FARM [FLAG...]      FLAG: what cholmod_analysis.c is built with, such as -DFARM_CHOLMOD -lcholmod
 
 show: every picture is well-formed, of a sensible size, and says what a second reading of the rules (../tests/damage.py, calls.py) says of the same
-matrix: fronts, peaks, fill. import: the plan that is written is CHOLMOD's, the second reading passes it, and spoilt ones are refused by number and place;
-skipped, with a line that says so, if farm was built without CHOLMOD. Both: bad files and calls are answered in one line, and leave no files.
+matrix: fronts, peaks, fill. import: the plan that is written is CHOLMOD's, the second reading passes it, and spoilt ones are refused by number and
+place; skipped, with a line that says so, if farm was built without CHOLMOD. Both: bad files and calls are answered in one line, and leave no files.
 """
 import argparse
 import os
@@ -95,7 +95,8 @@ def see_small(f, columns, mark):
     depth = {0: 0}
     for j in range(n, 0, -1):
         depth[j] = depth[parents[j - 1]] + 1
-    see(any(f"depth {max(depth.values())}, greatest front {max(fronts, default=0)}" in w for w in drawn["tree"].words), "heading", drawn["tree"].words)
+    heading = f"depth {max(depth.values())}, greatest front {max(fronts, default=0)}"
+    see(any(heading in w for w in drawn["tree"].words), "heading", drawn["tree"].words)
     if counts.count(0) <= 16 and max(depth.values()) <= 16:
         got = sorted(int(w[6:]) for w in drawn["tree"].words if re.fullmatch(r"front \d+", w))
         see(got == sorted(fronts), "fronts", columns, got)
@@ -135,7 +136,8 @@ def see_large(f, rng):
             see(any(words in w for w in shown(f, "mesh", *options)["tree"].words), "order", options)
 
 
-NAMES = [("a & b <c>", "a & b <c>"), ("träger", "träger"), ("x" * 90, "x" * 48 + "…"), ("'\"", "'\""), (b"bad\xff\xc0name", "bad??name"), ("tab\there", "tab?here")]
+NAMES = [("a & b <c>", "a & b <c>"), ("träger", "träger"), ("x" * 90, "x" * 48 + "…"), ("'\"", "'\""), (b"bad\xff\xc0name", "bad??name"),
+         ("tab\there", "tab?here")]
 
 
 def test_names(program):
@@ -213,7 +215,8 @@ int main(void) {
         order[j] = (uint32_t)j + 1;
         room[j] = 3 - 2 * (unsigned)(j % 2);
     }
-    pictures_plan p = {"memory", "as in the file", N, 0, starts, starts, rows, rows, parents, order, {room, room, room}, {room, room, room}, {3, 3, 3}};
+    pictures_plan p = {"memory", "as in the file", N, 0, starts, starts, rows, rows, parents, order,
+                       {room, room, room}, {room, room, room}, {3, 3, 3}};
     mm_pattern m = {.n = N, .starts = starts, .rows = rows, .rows_len = N / 2};
     printf("%ld %ld %ld %ld\n", draw(picture_tree, &p), draw(picture_room, &p), draw(picture_fill, &p), analyse(&m));
     return 0;
@@ -238,9 +241,10 @@ def test_memory(flags):
 # ---- both commands: what is bad
 
 WRONG_CALLS = [
-    ("", "the matrix is missing"), ("a.mtx b.mtx", "too many"), ("a.mtx -x", "no such option"), ("a.mtx -m", "nothing follows"), ("a.mtx -m one", "no whole number"),
-    ("a.mtx -m 1.0", "no whole number"), ("a.mtx -m -1", "no whole number"), ("a.mtx -m 1 -m 1", "twice"), ("a.mtx -o rcm", "not amd, metis or natural"),
-    ("a.mtx -o natural -p p", "not both"), ("a.mtx -p p", "p: cannot be opened"), ("a.mtx -p a.mtx", "no whole number"), ("a.mtx -d nowhere", "cannot be written"),
+    ("", "the matrix is missing"), ("a.mtx b.mtx", "too many"), ("a.mtx -x", "no such option"), ("a.mtx -m", "nothing follows"),
+    ("a.mtx -m one", "no whole number"), ("a.mtx -m 1.0", "no whole number"), ("a.mtx -m -1", "no whole number"), ("a.mtx -m 1 -m 1", "twice"),
+    ("a.mtx -o rcm", "not amd, metis or natural"), ("a.mtx -o natural -p p", "not both"), ("a.mtx -p p", "p: cannot be opened"),
+    ("a.mtx -p a.mtx", "no whole number"), ("a.mtx -d nowhere", "cannot be written"),
     ("a.mtx -d ''", "a folder is wanted"), ("a.mtx -d a.mtx", "cannot be written"), ("b.mtx", "cannot be opened"), (".", "cannot be read"),
 ]
 
@@ -262,7 +266,8 @@ def test_bad(program, command, outputs):
     f.sees("a folder in the way", [command, "a.mtx"], 2, "", rf"farm: {re.escape(outputs[-1])}: cannot be written: [^\n]+\n")
     see(f.names() == sorted(["a.mtx", outputs[0], outputs[-1]]) and f.bytes(outputs[0]) == b"old", "a folder in the way", f.names())
     os.rmdir(f"{f.folder}/{outputs[-1]}")
-    see(f.run(command, "a.mtx")[0] == 0 and f.names() == sorted(["a.mtx", *outputs]) and f.bytes(outputs[0]) != b"old", command, "replaces", f.names())
+    status = f.run(command, "a.mtx")[0]
+    see(status == 0 and f.names() == sorted(["a.mtx", *outputs]) and f.bytes(outputs[0]) != b"old", command, "replaces", f.names())
 
 
 # ---- import
@@ -287,8 +292,8 @@ def see_import(f, columns, mark, limit):
     see(f.bytes("a-cholmod.key") == key, "key", n)
     answer = check(job, list(data), lent(n))[0]
     see(answer[0] == 0, "the second reading", columns, answer)
-    f.sees("check", ["check", "a-cholmod.key", "a-cholmod.plan"], 0, rf"done, peak {answer[2]}\n", "")
-    f.sees("check", ["check", "a.mtx", "a-cholmod.plan", "-m", str(mark), "-l", str(limit), "-p", "a-cholmod.perm"], 0, rf"done, peak {answer[2]}\n", "")
+    for words in (["a-cholmod.key", "a-cholmod.plan"], ["a.mtx", "a-cholmod.plan", "-m", str(mark), "-l", str(limit), "-p", "a-cholmod.perm"]):
+        f.sees("check", ["check", *words], 0, rf"done, peak {answer[2]}\n", "")
     for name, spoil in SPOILS:
         spoilt = spoil(Plan(*read_plan(n, list(key), list(data))))
         if spoilt:
