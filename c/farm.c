@@ -317,7 +317,7 @@ static uint64_t analyse(const Call *c, Lent *lent) {
     return s.count;
 }
 
-/* Checks a plan for held.job and runs it at its peak; the number, with s.count the peak if done. That a plan which passes the check also runs is
+/* Checks a plan for held.job and runs it at its peak; the number, and if done the peak as count. That a plan which passes the check also runs is
    proved. */
 static uint64_t judge(const Call *c, Bytes plan, uint64_t *place, uint64_t *count) {
     size_t n = (size_t)held.job.n;

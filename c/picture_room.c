@@ -5,7 +5,7 @@
 
 enum { MARKS = 3, WIDE = 270, HIGH = 260, GAP = 42, LEFT = 96, TOP = 100 };
 static const char *const RULE[MARKS] = {"ascending numbers", "descending W − t", "descending t"};
-static const char IN_USE[] = "#a9cfe8", HELD[] = "#4a86bd", PEAK[] = "#b2182b";
+static const char IN_USE[] = "#a9cfe8", HELD[] = "#4a86bd", PEAK[] = "#b2182b", NOTE[] = "fill=\"#555\"";
 
 /* The greatest of the values of the k-th of `bars` equal stretches of the steps. */
 static uint64_t greatest_in(const uint64_t *values, uint64_t n, uint64_t k, uint64_t bars) {
@@ -61,22 +61,30 @@ static void legend(svg_page *f, const pictures_plan *p, double y) {
             LEFT, y, IN_USE, LEFT + 290, y, HELD);
     svg_words(f, LEFT + 23, y + 10, "", "in use at the step: stack and front");
     svg_words(f, LEFT + 313, y + 10, "", "held on the stack after the step");
+    svg_words(f, LEFT, y + 32, NOTE, "The mark orders siblings: W is the peak of a sibling's subtree done alone, t the entries of its update.");
     if (p->n > WIDE)
-        svg_words(f, LEFT, y + 32, "fill=\"#555\"", "A point across shows the greatest of up to %" PRIu64 " steps.", (p->n + WIDE - 1) / WIDE);
+        svg_words(f, LEFT, y + 48, NOTE, "A point across shows the greatest of up to %" PRIu64 " steps.", (p->n + WIDE - 1) / WIDE);
+}
+
+/* The marks that need the least room, in words. */
+static const char *least_marks(const pictures_plan *p, uint64_t least) {
+    static const char *const WORDS[8] = {"", "mark 0", "mark 1", "marks 0 and 1", "mark 2", "marks 0 and 2", "marks 1 and 2", "each mark"};
+    int which = 0;
+    for (int k = 0; k < MARKS; k++) which |= (p->peak[k] == least) << k;
+    return WORDS[which];
 }
 
 int picture_room(svg_page *f, const pictures_plan *p) {
     char words[200];
-    uint64_t most = 0;
-    int least = 0;
+    uint64_t most = 0, least = p->peak[0];
     for (int k = 0; k < MARKS; k++) {
         if (p->peak[k] > most) most = p->peak[k];
-        if (p->peak[k] < p->peak[least]) least = k;
+        if (p->peak[k] < least) least = p->peak[k];
     }
     double scale = most ? (HIGH - 22) / (double)most : 1;   /* 22 points above the highest peak are for its words */
-    snprintf(words, sizeof words, "%s column%s %s; the least peak is %s, with mark %d", svg_grouped(p->n).text, p->n == 1 ? "" : "s", p->ordering,
-             svg_grouped(p->peak[least]).text, least);
-    svg_begin(f, LEFT + MARKS * WIDE + (MARKS - 1) * GAP + 24, TOP + HIGH + 96, p->name, "room in use over the steps", words);
+    snprintf(words, sizeof words, "%s column%s %s; the least peak is %s, with %s", svg_grouped(p->n).text, p->n == 1 ? "" : "s", p->ordering,
+             svg_grouped(least).text, least_marks(p, least));
+    svg_begin(f, LEFT + MARKS * WIDE + (MARKS - 1) * GAP + 24, TOP + HIGH + 112, p->name, "room in use over the steps", words);
     if (p->n) {
         draw_scale(f, most, scale);
         for (int k = 0; k < MARKS; k++) draw_panel(f, p, k, scale);

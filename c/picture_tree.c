@@ -250,7 +250,7 @@ static void large_tree(svg_page *f, Tree *t, Block *block) {
     draw_blocks(f, t, block, blocks, high);
     legend(f, t, 20, below);
     svg_words(f, 20, below + 34, NOTE, "A block is a run of columns, each the only child of the next; its number is its greatest front.");
-    svg_words(f, 20, below + 50, NOTE, "Its width is its subtree: below it are its children, and its own columns come last, at its right end.");
+    svg_words(f, 20, below + 50, NOTE, "It is as wide as its subtree: its children lie below it, and its own columns come last, at its right end.");
     if (small_size(t) > 1)
         svg_words(f, 20, below + 66, NOTE, "Subtrees of fewer than %" PRIu64 " columns are drawn together (hatched), or left out where they are few.",
                   small_size(t));

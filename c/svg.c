@@ -105,7 +105,7 @@ uint64_t svg_step(uint64_t range, uint64_t most) {
 static uint64_t next_mark(uint64_t place, uint64_t step, uint64_t n) {
     uint64_t next = (place / step + 1) * step;
     if (place >= n) return n + 1;
-    return next >= n || (n - next) * 5 < step * 3 ? n : next;
+    return next >= n || (n - next) * 4 < step * 3 ? n : next;
 }
 
 void svg_axis_below(svg_page *f, svg_axis a, double y, uint64_t most, const char *name) {

@@ -50,17 +50,22 @@ class Picture:
         see(self.root.tag == SVG + "svg" and box[:2] == [0, 0] and box[2] >= 300 and 100 <= box[3] <= 1200, what, "page", box)
         see(len(data) <= HEAVIEST, what, "bytes", len(data))
         see(not re.search(rb"nan|inf[^o]|-?\d{7,}\.", data), what, "a number that is none")
-        for t in self.root.iter(SVG + "text"):
-            self.fits(t, box, what)
+        areas = [(self.area(t), t) for t in self.root.iter(SVG + "text")]
+        for k, ((left, top, right, bottom), t) in enumerate(areas):
+            on = left >= 0 and right <= box[2] + 1 and top >= 0 and bottom <= box[3]
+            free = all(right <= a[0] or a[2] <= left or bottom <= a[1] or a[3] <= top for a, _ in areas[:k])
+            see(on and free, what, "words off the page, or over others", t.attrib, "".join(t.itertext()))
 
-    def fits(self, t, box, what):
-        """Words lie on the page; a letter is taken as 0.6 of the size of the type."""
-        if t.get("x") is None:
-            return
-        x, y, size = float(t.get("x")), float(t.get("y")), float(t.get("font-size", 12))
+    @staticmethod
+    def area(t):
+        """Left, top, right and bottom of words; a letter is taken as 0.6 of the size of the type, as in a wide one."""
+        size = float(t.get("font-size", 12))
         wide = 0.6 * size * len("".join(t.itertext()))
-        left = x - {"middle": wide / 2, "end": wide}.get(t.get("text-anchor"), 0)
-        see(left >= -1 and left + wide <= box[2] + 1 and size <= y <= box[3], what, "words off the page", t.attrib, "".join(t.itertext()))
+        if t.get("x") is None:      # turned, around its middle
+            x, y = map(float, re.match(r"translate\((\S+) (\S+)\) rotate\(-90\)", t.get("transform")).groups())
+            return x - 0.75 * size, y - wide / 2, x, y + wide / 2
+        left = float(t.get("x")) - {"middle": wide / 2, "end": wide}.get(t.get("text-anchor"), 0)
+        return left, float(t.get("y")) - 0.75 * size, left + wide, float(t.get("y"))
 
     def places(self, inner, colour):
         """The places (row, column) that the inner picture's path of this colour covers."""
@@ -136,6 +141,15 @@ def see_large(f, rng):
             see(any(words in w for w in shown(f, "mesh", *options)["tree"].words), "order", options)
 
 
+def see_permuted(f, rng):
+    """What is drawn is the matrix in the order that was asked for."""
+    numbers = rng.sample(range(1, 11), 10)
+    f.file("a.mtx", as_matrix(TEN))
+    f.file("order.mtx", " ".join(map(str, numbers)).encode())
+    drawn = shown(f, "a", "-p", "order.mtx")["fill"].places(0, "#3a7fbf")
+    see(drawn == {(i, j) for j, rows in enumerate(permuted(TEN, numbers), 1) for i in rows} | {(j, j) for j in range(1, 11)}, "order", numbers)
+
+
 NAMES = [("a & b <c>", "a & b <c>"), ("träger", "träger"), ("x" * 90, "x" * 48 + "…"), ("'\"", "'\""), (b"bad\xff\xc0name", "bad??name"),
          ("tab\there", "tab?here")]
 
@@ -163,6 +177,7 @@ def test_show(program, rng):
         n = rng.choice([3, 5, 9, 10, 20, 40])
         see_small(f, matrix(rng, n, rng.choice([0.5, 1, 2, 4]) / n)[0], k % 3)
     see_large(f, rng)
+    see_permuted(f, rng)
     see(all(re.fullmatch(r"[a-z0-9]+(\.mtx|-(tree|room|fill)\.svg)", name) for name in f.names()), "no other files", f.names())
     test_names(program)
 
