@@ -1,8 +1,11 @@
-/* farm: plans a Matrix Market file, and checks plans. Not proved; what it hands to the proved library is judged there, and `farm check` asks only the
-   library. It reads everything first, writes at the end, and says what is wrong in one line. HELP below says how it is called. */
+/* farm: plans a Matrix Market file, checks plans, draws them, and makes plans of CHOLMOD's analyses. Not proved; what it hands to the proved library
+   is judged there, and `farm check` asks only the library. It reads everything first, writes at the end, and says what is wrong in one line. HELP
+   below says how it is called. */
 #define _POSIX_C_SOURCE 200809L
 #include "../include/loomsaffron.h"
+#include "cholmod_analysis.h"
 #include "matrix_market.h"
+#include "pictures.h"
 #include <errno.h>
 #include <fcntl.h>
 #include <inttypes.h>
@@ -23,11 +26,17 @@ static const char HELP[] =
     "usage: farm plan FILE.mtx [-m MARK] [-l LIMIT] [-p PERM | -o amd|metis|natural] [-d DIR]\n"
     "       farm check KEY PLAN\n"
     "       farm check FILE.mtx PLAN [-m MARK] [-l LIMIT] [-p PERM]\n"
+    "       farm show FILE.mtx [-m MARK] [-p PERM | -o amd|metis|natural] [-d DIR]\n"
+    "       farm import FILE.mtx [-m MARK] [-l LIMIT] [-p PERM | -o amd|metis|natural] [-d DIR]\n"
     "\n"
     "plan   writes FILE.key and FILE.plan beside FILE.mtx or in DIR, and FILE.perm if a permutation\n"
     "       was used. Files that are there already are replaced only if all went well.\n"
     "check  checks PLAN and runs it at its peak, and prints 'done, peak N', or 'refused NUMBER at\n"
     "       PLACE' and why. A name that ends in .mtx is a matrix: give the -m, -l and -p of its plan.\n"
+    "show   draws FILE-tree.svg (the elimination tree with front sizes), FILE-room.svg (the room in use\n"
+    "       over the steps, for each mark) and FILE-fill.svg (the pattern, and the factor with its fill).\n"
+    "import has CHOLMOD analyse the matrix, writes what it says as a plan, and checks and runs that. If\n"
+    "       it passes, FILE-cholmod.key, .plan and .perm are written: CHOLMOD's order is a permutation.\n"
     "\n"
     "-m     the sibling mark: 0 (if not given), 1 or 2\n"
     "-l     the room limit in entries, at most 2^40 (if not given)\n"
@@ -141,7 +150,7 @@ static Words refusal(uint64_t number, uint64_t place, uint64_t count) {
 /* ---- how it was called */
 
 typedef struct {
-    const char *file[2], *perm, *order, *folder;
+    const char *file[2], *perm, *order, *folder, *tag;
     int files, marked, limited;
     uint64_t mark, limit;
 } Call;
@@ -158,7 +167,7 @@ static uint64_t number_of(const char *option, const char *word) {
 }
 
 static Call read_call(int argc, char **argv, const char *options, int files, const char *usage) {
-    Call c = {.mark = 0, .limit = (uint64_t)1 << 40};
+    Call c = {.mark = 0, .limit = (uint64_t)1 << 40, .tag = ""};
     int only_files = 0;
     for (int k = 2; k < argc; k++) {
         const char *word = argv[k];
@@ -205,16 +214,12 @@ static void read_matrix(const char *path) {
     if (m->unended) tell(path, m->unended, "the last line has no line end; if the file was cut off, this entry may be wrong");
 }
 
-#if defined FARM_AMD || defined FARM_METIS
-/* The numbers of an ordering, which come from 0; stops unless each is there once. */
-static void number_from_1(const char *who, uint32_t *numbers, size_t n) {
-    uint8_t *seen = room_for(n, 1);
-    for (size_t k = 0; k < n; k++) {
-        if (numbers[k] >= n || seen[numbers[k]]++) stop(who, WRONG, "the ordering is no permutation");
-        numbers[k]++;
-    }
+/* Stops unless each of 1 to n is there once. */
+static void test_numbers(const char *who, const uint32_t *numbers, size_t n) {
+    uint8_t *seen = room_for(n + 1, 1);
+    for (size_t k = 0; k < n; k++)
+        if (numbers[k] < 1 || numbers[k] > n || seen[numbers[k]]++) stop(who, WRONG, "the ordering is no permutation");
 }
-#endif
 
 static uint32_t *by_amd(const mm_pattern *m) {
 #ifdef FARM_AMD
@@ -224,8 +229,8 @@ static uint32_t *by_amd(const mm_pattern *m) {
     for (size_t j = 0; j <= n; j++) starts[j] = (int)m->starts[j];
     for (size_t q = 0; q < m->rows_len; q++) rows[q] = (int)m->rows[q] - 1;
     if (n && amd_order((int)n, starts, rows, found, NULL, NULL) < 0) stop("-o amd", WRONG, "AMD gives no ordering");
-    for (size_t k = 0; k < n; k++) numbers[k] = (uint32_t)found[k];
-    number_from_1("-o amd", numbers, n);
+    for (size_t k = 0; k < n; k++) numbers[k] = (uint32_t)found[k] + 1;
+    test_numbers("-o amd", numbers, n);
     return numbers;
 #else
     (void)m;
@@ -251,8 +256,8 @@ static uint32_t *by_metis(const mm_pattern *m) {
     options[METIS_OPTION_SEED] = 1;     /* the same order every time */
     if (m->rows_len && METIS_NodeND(&count, starts, mates, NULL, options, found, inverse) != METIS_OK)
         stop("-o metis", WRONG, "METIS gives no ordering");
-    for (size_t k = 0; k < n; k++) numbers[k] = (uint32_t)found[k];
-    number_from_1("-o metis", numbers, n);
+    for (size_t k = 0; k < n; k++) numbers[k] = (uint32_t)found[k] + 1;
+    test_numbers("-o metis", numbers, n);
     return numbers;
 #else
     (void)m;
@@ -260,8 +265,14 @@ static uint32_t *by_metis(const mm_pattern *m) {
 #endif
 }
 
-/* Makes held.job of held.matrix; the permutation, or NULL. */
-static uint32_t *make_job(const Call *c) {
+static void test_order(const Call *c) {
+    if (c->order && strcmp(c->order, "amd") && strcmp(c->order, "metis") && strcmp(c->order, "natural"))
+        stop("-o", WRONG, "'%.60s' is not amd, metis or natural", c->order);
+    if (c->order && c->perm) stop(NULL, WRONG, "give -p or -o, not both");
+}
+
+/* The order of the columns of held.matrix, as it was asked for: a permutation, or NULL for the file's own. */
+static uint32_t *order_asked(const Call *c) {
     uint32_t *numbers = NULL;
     mm_fault fault;
     if (c->perm) {
@@ -269,9 +280,14 @@ static uint32_t *make_job(const Call *c) {
         read_or_stop(c->perm, mm_read_permutation(c->perm, held.matrix.n, numbers, &fault), &fault);
     } else if (c->order && !strcmp(c->order, "amd")) numbers = by_amd(&held.matrix);
     else if (c->order && !strcmp(c->order, "metis")) numbers = by_metis(&held.matrix);
+    return numbers;
+}
+
+/* Makes held.job of held.matrix with its columns in this order, or as they are. */
+static void make_job(const Call *c, const uint32_t *numbers) {
+    mm_fault fault;
     if (numbers) read_or_stop(c->file[0], mm_permute(&held.matrix, numbers, &held.job, &fault), &fault);
     else { held.job = held.matrix; memset(&held.matrix, 0, sizeof held.matrix); }
-    return numbers;
 }
 
 /* ---- the library */
@@ -281,6 +297,8 @@ typedef struct { uint32_t *parents, *order, *pops, *rows; uint64_t *starts, *wor
 #define JOB held.job.n, held.job.starts, (size_t)held.job.n + 1, held.job.rows, held.job.rows_len, c->mark, c->limit
 #define LENT s.parents, n, s.order, n, s.pops, n, s.starts, n + 1, s.rows, s.rows_len, s.work, LS_WORK(n)
 
+typedef struct { uint8_t *first; size_t count; } Bytes;
+
 static Lent lend(size_t n) {
     return (Lent){.parents = room_for(n, 4), .order = room_for(n, 4), .pops = room_for(n, 4), .rows = room_for(0, 4),
                   .starts = room_for(n + 1, 8), .work = room_for(LS_WORK(n), 8)};
@@ -288,44 +306,95 @@ static Lent lend(size_t n) {
 
 static void lend_rows(Lent *s) { s->rows_len = (size_t)s->count; s->rows = room_for(s->rows_len, 4); }
 
-/* Checks a plan for held.job, runs it at its peak, and prints the answer; the exit status. That a plan which passes the check also runs is proved. */
-static int print_check(const Call *c, const uint8_t *plan, size_t plan_len) {
+/* Analyses held.job into the slices, which may lend no rows yet: the answer says how many are needed. The peak. */
+static uint64_t analyse(const Call *c, Lent *lent) {
+    size_t n = (size_t)held.job.n;
+    Lent s = *lent;
+    uint64_t number = ls_analyse(JOB, LENT, &s.place, &s.count);
+    if (number == LS_ROWS_NEEDED) { lend_rows(&s); number = ls_analyse(JOB, LENT, &s.place, &s.count); }
+    if (number) stop(c->file[0], REFUSED, "%s", refusal(number, s.place, s.count).text);
+    *lent = s;
+    return s.count;
+}
+
+/* Checks a plan for held.job and runs it at its peak; the number, and if done the peak as count. That a plan which passes the check also runs is
+   proved. */
+static uint64_t judge(const Call *c, Bytes plan, uint64_t *place, uint64_t *count) {
     size_t n = (size_t)held.job.n;
     Lent s = lend(n);
-    uint64_t number = ls_check_plan(JOB, plan, plan_len, LENT, &s.place, &s.count);
-    if (number == LS_ROWS_NEEDED) { lend_rows(&s); number = ls_check_plan(JOB, plan, plan_len, LENT, &s.place, &s.count); }
-    uint64_t peak = s.count;
-    if (number == LS_DONE) {
-        uint32_t *stack = room_for(n, 4);
-        number = ls_run(n, s.starts, n + 1, s.rows, s.rows_len, s.order, n, s.pops, n, peak, stack, n, &s.place, &s.count);
+    uint64_t number = ls_check_plan(JOB, plan.first, plan.count, LENT, &s.place, &s.count);
+    if (number == LS_ROWS_NEEDED) { lend_rows(&s); number = ls_check_plan(JOB, plan.first, plan.count, LENT, &s.place, &s.count); }
+    *place = s.place;
+    *count = s.count;
+    if (number != LS_DONE) return number;
+    uint32_t *stack = room_for(n, 4);
+    return ls_run(n, s.starts, n + 1, s.rows, s.rows_len, s.order, n, s.pops, n, s.count, stack, n, place, count);
+}
+
+/* The key of held.job. */
+static Bytes key_of_job(const Call *c) {
+    uint64_t place, count, number = ls_write_key(JOB, NULL, 0, &place, &count);     /* lend no bytes: the answer says how many are needed */
+    Bytes key = {.count = number == LS_BYTES_NEEDED ? (size_t)count : 0};
+    key.first = room_for(key.count, 1);
+    if (number == LS_BYTES_NEEDED) number = ls_write_key(JOB, key.first, key.count, &place, &count);
+    if (number) stop(c->file[0], REFUSED, "%s", refusal(number, place, count).text);
+    return key;
+}
+
+/* The plan of held.job, in the slices of its analysis. */
+static Bytes plan_of_job(const Call *c, Lent s) {
+    size_t n = (size_t)held.job.n;
+    Bytes plan = {0};
+    uint64_t number = ls_write_plan(JOB, LENT, NULL, 0, &s.place, &s.count);
+    if (number == LS_BYTES_NEEDED) {
+        plan.count = (size_t)s.count;
+        plan.first = room_for(plan.count, 1);
+        number = ls_write_plan(JOB, LENT, plan.first, plan.count, &s.place, &s.count);
     }
-    if (number == LS_DONE) printf("done, peak %" PRIu64 "\n", peak); else puts(refusal(number, s.place, s.count).text);
-    return number == LS_DONE ? DONE : REFUSED;
+    if (number) stop(c->file[0], REFUSED, "%s", refusal(number, s.place, s.count).text);
+    return plan;
+}
+
+static uint64_t triangle(uint64_t rows) { return rows * (rows + 1) / 2; }
+
+/* The room in use at each step and what is held after it, by the rules, from lists and steps; the greatest room. */
+static uint64_t measure_room(const Lent *s, size_t n, uint64_t *in_use, uint64_t *held_after) {
+    uint64_t *stack = room_for(n, 8), entries = 0, greatest = 0;
+    size_t height = 0;
+    for (size_t k = 0; k < n; k++) {
+        uint32_t j = s->order[k];
+        uint64_t rows = s->starts[j] - s->starts[j - 1];
+        in_use[k] = entries - (s->pops[k] ? stack[height - 1] : 0) + triangle(rows + 1);   /* the front lies over the last child's update */
+        for (uint32_t pops = s->pops[k]; pops; pops--) entries -= stack[--height];
+        if (s->parents[j - 1]) entries += stack[height++] = triangle(rows);
+        held_after[k] = entries;
+        if (in_use[k] > greatest) greatest = in_use[k];
+    }
+    return greatest;
 }
 
 /* ---- files */
 
-static uint8_t *load(const char *path, size_t *count) {
-    uint8_t *bytes = NULL;
+static Bytes load(const char *path) {
+    Bytes b = {0};
     size_t room = 0, got;
     FILE *f = fopen(path, "rb");
     if (!f) stop(path, WRONG, "cannot be opened: %s", strerror(errno));
-    *count = 0;
     do {
-        if (*count == room) {
+        if (b.count == room) {
             int longer = room >= LARGEST_FILE;
-            uint8_t *more = longer ? NULL : realloc(bytes, room = room ? 2 * room : 1 << 16);
-            if (!more) { free(bytes); fclose(f); stop(path, WRONG, longer ? "no key and no plan is so long" : "out of memory"); }
-            bytes = more;
+            uint8_t *more = longer ? NULL : realloc(b.first, room = room ? 2 * room : 1 << 16);
+            if (!more) { free(b.first); fclose(f); stop(path, WRONG, longer ? "no key and no plan is so long" : "out of memory"); }
+            b.first = more;
         }
-        got = fread(bytes + *count, 1, room - *count, f);
-        *count += got;
+        got = fread(b.first + b.count, 1, room - b.count, f);
+        b.count += got;
     } while (got);
     int error = ferror(f) ? errno : 0;
     fclose(f);
-    hold(bytes);
+    hold(b.first);
     if (error) stop(path, WRONG, "cannot be read: %s", strerror(error));
-    return bytes;
+    return b;
 }
 
 static int is_matrix_name(const char *path) {
@@ -335,16 +404,17 @@ static int is_matrix_name(const char *path) {
     return path[0] == '.' && (path[1] == 'm' || path[1] == 'M') && (path[2] == 't' || path[2] == 'T') && (path[3] == 'x' || path[3] == 'X');
 }
 
-/* The name of an output: the matrix's without .mtx, with the suffix, in the folder if one is given. */
+/* The name of an output: the matrix's without .mtx, with the call's tag and the suffix, in the folder if one is given. */
 static char *named(const Call *c, const char *suffix) {
     const char *path = c->file[0], *slash = strrchr(path, '/'), *base = slash ? slash + 1 : path;
     size_t length = strlen(base), before = c->folder ? strlen(c->folder) : (size_t)(base - path);
     if (is_matrix_name(base) && length > 4) length -= 4;
-    char *name = room_for(before + length + strlen(suffix) + 2, 1);
+    char *name = room_for(before + length + strlen(c->tag) + strlen(suffix) + 2, 1);
     memcpy(name, c->folder ? c->folder : path, before);
     if (c->folder && before && name[before - 1] != '/') name[before++] = '/';
     memcpy(name + before, base, length);
-    strcpy(name + before + length, suffix);
+    strcpy(name + before + length, c->tag);
+    strcat(name, suffix);
     return name;
 }
 
@@ -381,52 +451,158 @@ static void finish_parts(void) {
     }
 }
 
-/* ---- farm plan */
-
-static int plan_command(int argc, char **argv) {
-    Call call = read_call(argc, argv, "mlpod", 1, "farm plan FILE.mtx [-m MARK] [-l LIMIT] [-p PERM | -o amd|metis|natural] [-d DIR]"), *c = &call;
-    if (c->order && strcmp(c->order, "amd") && strcmp(c->order, "metis") && strcmp(c->order, "natural"))
-        stop("-o", WRONG, "'%.60s' is not amd, metis or natural", c->order);
-    if (c->order && c->perm) stop(NULL, WRONG, "give -p or -o, not both");
-    read_matrix(c->file[0]);
-    uint32_t *numbers = make_job(c);
-    size_t n = (size_t)held.job.n;
-    Lent s = lend(n);
-
-    /* lend no rows: the answer says how many are needed; so too for the bytes */
-    uint64_t number = ls_analyse(JOB, LENT, &s.place, &s.count), peak;
-    if (number == LS_ROWS_NEEDED) { lend_rows(&s); number = ls_analyse(JOB, LENT, &s.place, &s.count); }
-    if (number) stop(c->file[0], REFUSED, "%s", refusal(number, s.place, s.count).text);
-    peak = s.count;
-    number = ls_write_key(JOB, NULL, 0, &s.place, &s.count);
-    size_t key_len = number == LS_BYTES_NEEDED ? (size_t)s.count : 0, plan_len = 0;
-    uint8_t *key = room_for(key_len, 1), *plan = NULL;
-    if (number == LS_BYTES_NEEDED) number = ls_write_key(JOB, key, key_len, &s.place, &s.count);
-    if (!number) {
-        number = ls_write_plan(JOB, LENT, NULL, 0, &s.place, &s.count);
-        if (number == LS_BYTES_NEEDED) {
-            plan_len = (size_t)s.count;
-            plan = room_for(plan_len, 1);
-            number = ls_write_plan(JOB, LENT, plan, plan_len, &s.place, &s.count);
-        }
-    }
-    if (number) stop(c->file[0], REFUSED, "%s", refusal(number, s.place, s.count).text);
-
-    char *text = NULL;
-    size_t text_len = 0;
-    if (numbers) {
-        text = room_for(8 * n, 1);
-        for (size_t k = 0; k < n; k++) text_len += (size_t)sprintf(text + text_len, "%" PRIu32 "\n", numbers[k]);
-    }
+/* Stores key, plan and permutation (or none) of held.job, and says so. */
+static void store(const Call *c, Bytes key, Bytes plan, const uint32_t *numbers, size_t factor_rows, uint64_t peak) {
+    size_t n = (size_t)held.job.n, text_len = 0;
+    char *text = room_for(8 * n, 1);
+    for (size_t k = 0; k < n && numbers; k++) text_len += (size_t)sprintf(text + text_len, "%" PRIu32 "\n", numbers[k]);
     const char *perm_name = numbers ? write_part(c, ".perm", text, text_len) : named(c, ".perm");
-    const char *key_name = write_part(c, ".key", key, key_len), *plan_name = write_part(c, ".plan", plan, plan_len);
+    const char *key_name = write_part(c, ".key", key.first, key.count), *plan_name = write_part(c, ".plan", plan.first, plan.count);
     finish_parts();
 
     struct stat was;
     if (!numbers && !stat(perm_name, &was)) tell(perm_name, 0, "this file is not of this plan, which has no permutation");
-    printf("columns       %zu\npattern rows  %zu\nfactor rows   %zu\npeak          %" PRIu64 " entries\n", n, held.job.rows_len, s.rows_len, peak);
-    printf("key           %zu bytes, %s\nplan          %zu bytes, %s\n", key_len, key_name, plan_len, plan_name);
+    printf("columns       %zu\npattern rows  %zu\nfactor rows   %zu\npeak          %" PRIu64 " entries\n", n, held.job.rows_len, factor_rows, peak);
+    printf("key           %zu bytes, %s\nplan          %zu bytes, %s\n", key.count, key_name, plan.count, plan_name);
     if (numbers) printf("permutation   %zu numbers, %s\n", n, perm_name);
+}
+
+/* ---- farm plan */
+
+static int plan_command(int argc, char **argv) {
+    Call call = read_call(argc, argv, "mlpod", 1, "farm plan FILE.mtx [-m MARK] [-l LIMIT] [-p PERM | -o amd|metis|natural] [-d DIR]"), *c = &call;
+    test_order(c);
+    read_matrix(c->file[0]);
+    uint32_t *numbers = order_asked(c);
+    make_job(c, numbers);
+    Lent s = lend((size_t)held.job.n);
+    uint64_t peak = analyse(c, &s);
+    Bytes key = key_of_job(c), plan = plan_of_job(c, s);
+    store(c, key, plan, numbers, s.rows_len, peak);
+    return DONE;
+}
+
+/* ---- farm import */
+
+/* A number in groups of seven bits, the lowest first, the high bit on all but the last; the place behind it. Without bytes it only counts. */
+static size_t put_number(uint8_t *bytes, size_t at, uint64_t value) {
+    for (; value > 127; value >>= 7, at++) if (bytes) bytes[at] = (uint8_t)(value | 128);
+    if (bytes) bytes[at] = (uint8_t)value;
+    return at + 1;
+}
+
+/* The bytes of a plan behind its key: steps, lists, peak; the place behind them. */
+static size_t put_plan(uint8_t *bytes, size_t at, const Lent *s, size_t n, uint64_t peak) {
+    for (size_t k = 0; k < n; k++) at = put_number(bytes, put_number(bytes, at, s->order[k]), s->pops[k]);
+    for (size_t j = 1; j <= n; j++) {
+        uint64_t last = j;
+        at = put_number(bytes, at, s->starts[j] - s->starts[j - 1]);
+        for (uint64_t q = s->starts[j - 1]; q < s->starts[j]; last = s->rows[q++]) at = put_number(bytes, at, s->rows[q] - last);
+    }
+    return put_number(bytes, at, peak);
+}
+
+/* CHOLMOD's analysis of held.matrix as slices: step k does column k of its own order, which is left in numbers. */
+static Lent by_cholmod(const Call *c, uint32_t **numbers) {
+    cholmod_lists lists;
+    size_t n = (size_t)held.matrix.n;
+    const char *wrong = cholmod_lists_of(&held.matrix, order_asked(c), &lists);
+    if (wrong) stop(c->file[0], WRONG, "%s", wrong);
+    *numbers = hold(lists.numbers);
+    Lent s = {.parents = hold(lists.parents), .starts = hold(lists.starts), .rows = hold(lists.rows), .rows_len = (size_t)lists.starts[n]};
+    test_numbers(c->file[0], *numbers, n);
+    s.order = room_for(n, 4);
+    s.pops = room_for(n + 1, 4);
+    for (size_t j = 1; j <= n; j++) {
+        s.order[j - 1] = (uint32_t)j;
+        if (s.parents[j - 1]) s.pops[s.parents[j - 1] - 1]++;
+    }
+    return s;
+}
+
+/* Writes what CHOLMOD says as a plan, with no other judgement than the library's. */
+static int import_command(int argc, char **argv) {
+    Call call = read_call(argc, argv, "mlpod", 1, "farm import FILE.mtx [-m MARK] [-l LIMIT] [-p PERM | -o amd|metis|natural] [-d DIR]"), *c = &call;
+    uint32_t *numbers;
+    uint64_t place, count, number;
+    test_order(c);
+    read_matrix(c->file[0]);
+    Lent s = by_cholmod(c, &numbers);
+    make_job(c, numbers);
+    size_t n = (size_t)held.job.n;
+    uint64_t peak = measure_room(&s, n, room_for(n, 8), room_for(n, 8));
+    Bytes key = key_of_job(c), plan = {.count = put_plan(NULL, key.count, &s, n, peak)};
+    plan.first = room_for(plan.count, 1);
+    memcpy(plan.first, key.first, key.count);
+    put_plan(plan.first, key.count, &s, n, peak);
+    if ((number = judge(c, plan, &place, &count))) stop(c->file[0], REFUSED, "CHOLMOD's analysis is %s", refusal(number, place, count).text);
+    c->tag = "-cholmod";
+    store(c, key, plan, numbers, s.rows_len, peak);
+    printf("check         done, peak %" PRIu64 "\n", count);
+    return DONE;
+}
+
+/* ---- farm show */
+
+/* Analyses held.job with each mark: p takes what each mark's steps need, and the lists of the mark that was asked for. */
+static Lent measure_marks(const Call *c, pictures_plan *p) {
+    size_t n = (size_t)held.job.n;
+    Lent asked = lend(n);
+    analyse(c, &asked);     /* first, so that an unknown mark is refused */
+    for (uint64_t mark = 0; mark < 3; mark++) {
+        Call one = *c;
+        Lent s = asked;
+        uint64_t *in_use = room_for(n, 8), *held_after = room_for(n, 8);
+        one.mark = mark;
+        if (mark != c->mark) {
+            s.order = room_for(n, 4);
+            s.pops = room_for(n, 4);
+        }
+        p->peak[mark] = analyse(&one, &s);
+        if (measure_room(&s, n, in_use, held_after) != p->peak[mark]) stop(NULL, WRONG, "the room that would be drawn has not the library's peak");
+        p->in_use[mark] = in_use;
+        p->held[mark] = held_after;
+    }
+    return asked;
+}
+
+/* Draws one picture, to be written with the others. */
+static const char *draw(const Call *c, const pictures_plan *p, const char *suffix, int (*picture)(svg_page *, const pictures_plan *)) {
+    svg_page page = {0};
+    if (!picture(&page, p)) { free(page.text); stop(NULL, WRONG, "out of memory"); }
+    return write_part(c, suffix, hold(page.text), page.length);
+}
+
+/* The name of the matrix, without folder and .mtx. */
+static const char *title_of(const Call *c) {
+    Call here = *c;
+    here.folder = ".";
+    return named(&here, "") + 2;
+}
+
+static const char *order_words(const Call *c) {
+    if (c->perm) return "in a given order";
+    return !c->order || *c->order == 'n' ? "as in the file" : *c->order == 'a' ? "ordered by AMD" : "ordered by METIS";
+}
+
+static int show_command(int argc, char **argv) {
+    Call call = read_call(argc, argv, "mpod", 1, "farm show FILE.mtx [-m MARK] [-p PERM | -o amd|metis|natural] [-d DIR]"), *c = &call;
+    test_order(c);
+    read_matrix(c->file[0]);
+    make_job(c, order_asked(c));
+    pictures_plan p = {.name = title_of(c), .n = held.job.n, .mark = c->mark, .starts = held.job.starts, .rows = held.job.rows};
+    p.ordering = order_words(c);
+    Lent s = measure_marks(c, &p);
+    p.fstarts = s.starts;
+    p.frows = s.rows;
+    p.parents = s.parents;
+    p.order = s.order;
+    const char *tree = draw(c, &p, "-tree.svg", picture_tree), *room = draw(c, &p, "-room.svg", picture_room);
+    const char *fill = draw(c, &p, "-fill.svg", picture_fill);
+    finish_parts();
+    printf("tree          %s: %zu columns, mark %" PRIu64 "\n", tree, (size_t)p.n, p.mark);
+    printf("room          %s: peaks %" PRIu64 ", %" PRIu64 " and %" PRIu64 " with marks 0, 1 and 2\n", room, p.peak[0], p.peak[1], p.peak[2]);
+    printf("fill          %s: %zu pattern rows, %" PRIu64 " rows of fill\n", fill, held.job.rows_len, p.fstarts[p.n] - held.job.rows_len);
     return DONE;
 }
 
@@ -469,26 +645,31 @@ static void job_of_key(Call *c, const uint8_t *key, size_t key_len) {
 
 static int check_command(int argc, char **argv) {
     Call call = read_call(argc, argv, "mlp", 2, "farm check KEY-or-FILE.mtx PLAN [-m MARK] [-l LIMIT] [-p PERM]"), *c = &call;
-    size_t key_len, plan_len;
     int matrix = is_matrix_name(c->file[0]);
     if (!matrix && (c->marked || c->limited || c->perm)) stop(c->file[0], WRONG, "-m, -l and -p are for a .mtx file: a key has them in itself");
-    if (matrix) { read_matrix(c->file[0]); make_job(c); }
-    uint8_t *key = matrix ? NULL : load(c->file[0], &key_len), *plan = load(c->file[1], &plan_len);
+    if (matrix) { read_matrix(c->file[0]); make_job(c, order_asked(c)); }
+    Bytes key = {0}, plan;
+    if (!matrix) key = load(c->file[0]);
+    plan = load(c->file[1]);
     if (!matrix) {
-        uint64_t answer = check(key, key_len, plan, plan_len), number = answer >> 32;
+        uint64_t answer = check(key.first, key.count, plan.first, plan.count), number = answer >> 32;
         if (number && number != LS_SIZES_EXCEEDED) { puts(refusal(number, answer & UINT32_MAX, 0).text); return REFUSED; }
-        job_of_key(c, key, key_len);    /* the solver's call tells no peak, and takes no large job */
+        job_of_key(c, key.first, key.count);    /* the solver's call tells no peak, and takes no large job */
     }
-    return print_check(c, plan, plan_len);
+    uint64_t place, count, number = judge(c, plan, &place, &count);
+    if (number == LS_DONE) printf("done, peak %" PRIu64 "\n", count); else puts(refusal(number, place, count).text);
+    return number == LS_DONE ? DONE : REFUSED;
 }
 
 int main(int argc, char **argv) {
     int status;
-    if (argc < 2) stop(NULL, WRONG, "usage: farm plan FILE.mtx [...], farm check KEY-or-FILE.mtx PLAN [...], farm --help");
+    if (argc < 2) stop(NULL, WRONG, "usage: farm plan|show|import FILE.mtx [...], farm check KEY-or-FILE.mtx PLAN [...], farm --help");
     if (!strcmp(argv[1], "--help") || !strcmp(argv[1], "-h")) { fputs(HELP, stdout); status = DONE; }
     else if (!strcmp(argv[1], "plan")) status = plan_command(argc, argv);
     else if (!strcmp(argv[1], "check")) status = check_command(argc, argv);
-    else stop(argv[1], WRONG, "no such command; there are plan, check and --help");
+    else if (!strcmp(argv[1], "show")) status = show_command(argc, argv);
+    else if (!strcmp(argv[1], "import")) status = import_command(argc, argv);
+    else stop(argv[1], WRONG, "no such command; there are plan, check, show, import and --help");
     if (fflush(stdout) || ferror(stdout)) stop(NULL, WRONG, "the answer cannot be printed: %s", strerror(errno));
     leave(status);
 }

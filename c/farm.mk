@@ -1,9 +1,9 @@
 # The rules of farm, to be included by the Makefile here, or by itself: make -f c/farm.mk
 #   farm-all    proves the library where needed, and builds c/farm
-#   farm-test   tries the reader and the tool, built with the sanitizers
+#   farm-test   tries the reader, the tool, its pictures and imports, built with the sanitizers
 #   farm-clean
-# AMD (of SuiteSparse) and METIS are used if they are found; WITHOUT_AMD=1, WITHOUT_METIS=1 leave them out; FARM_EXTRA=
-# takes further flags for the search and the link, such as -I and -L.
+# AMD and CHOLMOD (of SuiteSparse) and METIS are used if they are found; WITHOUT_AMD=1, WITHOUT_METIS=1, WITHOUT_CHOLMOD=1
+# leave them out; FARM_EXTRA= takes further flags for the search and the link, such as -I and -L.
 FARM := $(dir $(lastword $(MAKEFILE_LIST)))
 FARM_ROOT := $(FARM)../
 FARM_MACHINE := $(shell uname -m)
@@ -16,8 +16,8 @@ endif
 FARM_CFLAGS := -std=c11 -O2 -Wall -Wextra -Wpedantic
 FARM_SANITIZE := -std=c11 -g -O1 -Wall -Wextra -Wpedantic -fsanitize=address,undefined -fno-sanitize-recover=all
 FARM_LIBRARY := $(FARM_ROOT)target/staticlib/libc_api.a $(FARM_ROOT)target/staticlib/libsolver.a
-FARM_SOURCE := $(FARM)farm.c $(FARM)matrix_market.c
-FARM_NEEDS := $(FARM_SOURCE) $(FARM)matrix_market.h $(FARM_ROOT)include/loomsaffron.h $(FARM)farm.mk
+FARM_SOURCE := $(addprefix $(FARM),farm.c matrix_market.c cholmod_analysis.c picture_tree.c picture_room.c picture_fill.c svg.c)
+FARM_NEEDS := $(FARM_SOURCE) $(addprefix $(FARM),matrix_market.h cholmod_analysis.h pictures.h svg.h farm.mk) $(FARM_ROOT)include/loomsaffron.h
 
 # What to link with, if pkg-config knows it or a small program with the header can be linked; else nothing.
 # $(call farm-find,PKG-CONFIG NAME,HEADER,A CALL,FLAGS TO TRY)
@@ -30,13 +30,17 @@ endif
 ifndef WITHOUT_METIS
 FARM_METIS := $(call farm-find,metis,metis.h,METIS_NodeND,-lmetis)
 endif
-FARM_ORDERS := $(if $(FARM_AMD),-DFARM_AMD) $(if $(FARM_METIS),-DFARM_METIS)
-FARM_LINK := $(FARM_LIBRARY) $(FARM_LDFLAGS) $(FARM_EXTRA) $(FARM_AMD) $(FARM_METIS)
+ifndef WITHOUT_CHOLMOD
+FARM_CHOLMOD := $(call farm-find,CHOLMOD,cholmod.h,cholmod_analyze_p,-I/usr/include/suitesparse -lcholmod)
+endif
+FARM_ORDERS := $(if $(FARM_AMD),-DFARM_AMD) $(if $(FARM_METIS),-DFARM_METIS) $(if $(FARM_CHOLMOD),-DFARM_CHOLMOD)
+FARM_LINK := $(FARM_LIBRARY) $(FARM_LDFLAGS) $(FARM_EXTRA) $(FARM_CHOLMOD) $(FARM_AMD) $(FARM_METIS)
 
 farm-all: $(FARM)farm
 # The sanitizers are not for the other machine's code: there, only the reader is tried.
 farm-test: $(if $(FARM_LDFLAGS),,$(FARM)farm-tried)
 	python3 $(FARM)test_matrix_market.py $^
+	$(if $^,python3 $(FARM)test_show_import.py $^ $(if $(FARM_CHOLMOD),-DFARM_CHOLMOD $(FARM_EXTRA) $(FARM_CHOLMOD)))
 farm-clean:
 	rm -f $(FARM)farm $(FARM)farm-tried
 

@@ -20,6 +20,14 @@ doors="$doors ls_run ls_words ls_write_key ls_write_plan"
 found=$(nm -g --defined-only "$lib" | awk 'NF == 3 { print $3 }' | LC_ALL=C sort | tr '\n' ' ')
 [ "$found" = "$doors " ] || fail "the archive defines $found, not $doors"
 
+# The installed tool plans a file, checks the plan and draws it.
+printf '%%%%MatrixMarket matrix coordinate pattern symmetric\n3 3 2\n2 1\n3 1\n' >"$stage/three.mtx"
+(cd "$stage" && farm=opt/loomsaffron/bin/farm && $farm plan three.mtx >said && $farm show three.mtx >>said && $farm check three.key three.plan >>said) ||
+    fail "the installed farm goes wrong"
+[ "$(tail -n 1 "$stage/said")" = "done, peak 6" ] || fail "the installed farm says: $(cat "$stage/said")"
+for picture in tree room fill; do [ -s "$stage/three-$picture.svg" ] || fail "the installed farm draws no $picture"; done
+echo "test: the installed farm"
+
 # A program of 20 lines, and a program with a function `check` of its own.
 cat >"$stage/own.c" <<'END'
 #include <stddef.h>
