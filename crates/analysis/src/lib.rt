@@ -1,12 +1,12 @@
 // The entry point of the analysis of a job.
 use papers::Answer;
 use papers::JobHead;
-ghost use Rattle.papers.specs.Job.{jobOf};
 ghost use Rattle.papers.specs.Refusals.{EndsAs};
+ghost use Rattle.papers.specs.Job.{jobOf};
 ghost use Rattle.papers.specs.Analysis.{analysed};
-ghost use Rattle.lent.specs.Six.{six};
+ghost use Rattle.lent.specs.Six.{sixSlices};
 
-// Analyses a job. Tests 1 to 6, then 7, 8 and 9. When done, the slices hold parents, order, pops, factor starts and factor rows, then
+// Analyses a job. Tests 1 to 7, then 8 and 9. When done, the slices hold parents, order, pops, factor starts and factor rows, then
 // zeros, and the count is the peak. Clears the slices after 8 and 9.
 pub fn analyse(
     head: JobHead,
@@ -21,26 +21,24 @@ pub fn analyse(
 ) -> Answer
     ensures { λ r. ⌜
         EndsAs r
-        (six (now (parents .exit)) (now (order .exit)) (now (pops .exit)) (now (fstarts .exit)) (now (frows .exit)) (now (work .exit)))
+        (sixSlices (now (parents .exit)) (now (order .exit)) (now (pops .exit)) (now (fstarts .exit)) (now (frows .exit)) (now (work .exit)))
         (analysed (jobOf head (now (starts .entry)) (now (rows .entry)))
-        (six (now (parents .entry)) (now (order .entry)) (now (pops .entry)) (now (fstarts .entry)) (now (frows .entry))
+        (sixSlices (now (parents .entry)) (now (order .entry)) (now (pops .entry)) (now (fstarts .entry)) (now (frows .entry))
         (now (work .entry))))
         ⌝ }
 {
-    let fault = job::first_fault(head, starts, rows);
-    if fault.number != 0 {
-        return fault;
-    }
-    let n = head.n as usize;
-    if lent::too_short(
-        n,
+    let fault = lent::early_fault(
+        head,
+        starts,
+        rows,
         parents.len(),
         order.len(),
         pops.len(),
         fstarts.len(),
         work.len(),
-    ) {
-        return basics::answered(7, 0, 0);
+    );
+    if fault.number != 0 {
+        return fault;
     }
     let answer = lent_plan::planned(
         head,

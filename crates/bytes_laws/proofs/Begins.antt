@@ -13,29 +13,28 @@ use lib.Seq.{take-at, length-take-le, getD-take, ext-getD}
 use borrow.Author.Tests.{leb-true, le-leb, eqb-true, eq-eqb, not-false}
 use Rattle.papers.specs.Bounds.{maxGroups}
 use Rattle.papers.specs.Lists.{least}
-use Rattle.papers.specs.Numbers.{encode}
+use Rattle.papers.specs.Refusals.{passed, refusedAt}
+use Rattle.papers.specs.Numbers.{encode, got, differsAt, Agrees, Bytes}
 use Rattle.papers.specs.Key.{keyOf}
-use Rattle.papers.specs.Plan.{Plan, planNumbers, planBytes, got}
-use Rattle.papers.specs.Refusals.{zeroed, passed, refusedAt}
-use Rattle.papers.specs.Check.{CheckCall, keyDiffers, keyTest, planRead}
-use Rattle.papers.specs.Conditions.{Agrees}
+use Rattle.papers.specs.Plan.{Plan, planNumbers, planBytes, planRead, Fit, AreOf}
+use Rattle.papers.specs.Check.{CheckCall, otherKey}
 use Rattle.list_laws.proofs.Tests.{Test, passes, fails, test, true-false}
 use Rattle.list_laws.proofs.Leasts.{least-zero-iff}
 use Rattle.bytes_laws.proofs.Fields.{spans-end, spans-to-end}
-use Rattle.bytes_laws.proofs.Plans.{Fit, plan-back, plan-only}
+use Rattle.bytes_laws.proofs.Plans.{plan-back, plan-only}
 
 -- byte p does not differ exactly when it is the key's byte
-agrees-iff : (key plan : List ℕ) (p : ℕ) → (keyDiffers key plan p ≡ false) ↔ Agrees key plan p
-unfolding keyDiffers
+agrees-iff : (key plan : List ℕ) (p : ℕ) → (differsAt key plan p ≡ false) ↔ Agrees key plan p
+unfolding differsAt
 agrees-iff key plan p = (there (test (leb p (length plan))), back)
   where
-    there : Test (leb p (length plan)) → keyDiffers key plan p ≡ false → Agrees key plan p
+    there : Test (leb p (length plan)) → differsAt key plan p ≡ false → Agrees key plan p
     there (passes l) e =
-        (leb-true p (length plan) l, eqb-true (getD key (p - 1) 0) (getD plan (p - 1) 0) (not-false _ (rw (l, keyDiffers) at e)))
-    there (fails l) e = absurd (true-false refl (rw (l, keyDiffers) at e))
+        (leb-true p (length plan) l, eqb-true (getD key (p - 1) 0) (getD plan (p - 1) 0) (not-false _ (rw (l, differsAt) at e)))
+    there (fails l) e = absurd (true-false refl (rw (l, differsAt) at e))
 
-    back : Agrees key plan p → keyDiffers key plan p ≡ false
-    back a = rw (le-leb p (length plan) (a .0), eq-eqb (getD key (p - 1) 0) (getD plan (p - 1) 0) (a .1), keyDiffers)
+    back : Agrees key plan p → differsAt key plan p ≡ false
+    back a = rw (le-leb p (length plan) (a .0), eq-eqb (getD key (p - 1) 0) (getD plan (p - 1) 0) (a .1), differsAt)
 
 -- every byte of the key agrees exactly when the plan begins with the key
 begins-iff : (key plan : List ℕ) → ((p : ℕ) → 1 ≤ p → p ≤ length key → Agrees key plan p) ↔ (take (length key) plan ≡ key)
@@ -63,47 +62,45 @@ begins-iff key plan = (there, back)
       ap (λ (k : List ℕ). getD k (p - 1) 0) (sym e) ∙ getD-take (length key) plan (p - 1) 0 (omega arith),
     )
 
-at-passed-iff : (number p count : ℕ) → (refusedAt number p count zeroed ≡ passed) ↔ (p ≡ 0)
+at-passed-iff : (number p count : ℕ) → (refusedAt number p count ≡ passed) ↔ (p ≡ 0)
 unfolding refusedAt
 at-passed-iff number zero count = (λ e. refl, λ e. refl)
 at-passed-iff number (suc p) count = (λ e. absurd (let z : _≡_ {A = ℕ} 0 1 = cc in omega arith), λ e. absurd (omega arith))
 
 -- 11 passes exactly when the plan begins with the job's key
-pub key-passed-iff : (call : CheckCall) → (keyTest call ≡ passed) ↔ (take (length (keyOf (call .job))) (call .plan) ≡ keyOf (call .job))
-unfolding keyTest
+pub key-passed-iff : (call : CheckCall) → (otherKey .test call ≡ passed) ↔ (take (length (keyOf (call .job))) (call .plan) ≡ keyOf (call .job))
 key-passed-iff call =
     let key = keyOf (call .job) in
-    let none = at-passed-iff 11 (least (keyDiffers key (call .plan)) (length key)) 0 in
-    let each = least-zero-iff (keyDiffers key (call .plan)) (length key) in
+    let none = at-passed-iff 11 (least (differsAt key (call .plan)) (length key)) 0 in
+    let each = least-zero-iff (differsAt key (call .plan)) (length key) in
     let begins = begins-iff key (call .plan) in (
       λ e. begins .0 (λ p l u. agrees-iff key (call .plan) p .0 (each .0 (none .0 e) p l u)),
       λ e. none .1 (each .1 (λ p l u. agrees-iff key (call .plan) p .1 (begins .1 e p l u))),
     )
 
--- bytes pass 11 to 15 and encode a plan exactly when they are the bytes of that plan, whose numbers are in their ranges
-pub plan-bytes-iff : (call : CheckCall) (plan : Plan) (at : ℕ) → call .job .n < 2 ^ (7 * maxGroups) → ((i : ℕ) → getD (call .plan) i 0 < 256)
-    → ((keyTest call ≡ passed) × (planRead call ≡ got plan at)) ↔ (Fit (call .job .n) plan × (call .plan ≡ planBytes (call .job) plan) ×
-    (at ≡ length (call .plan)))
+-- the bytes of a plan pass 11 and are read as that plan, up to their end
+pub plan-bytes-read : (call : CheckCall) (plan : Plan) → call .job .n < 2 ^ (7 * maxGroups) → AreOf (call .job) (call .plan) plan
+    → (otherKey .test call ≡ passed) × (planRead (call .job) (call .plan) ≡ got plan (length (call .plan)))
+unfolding planRead planBytes
+plan-bytes-read call plan fits (fit, whole) =
+    let key = keyOf (call .job) in
+    let own = encode (planNumbers plan) in (
+      key-passed-iff call .1 (ap (take (length key)) whole ∙ take-at key own (length key) refl),
+      plan-back (call .job .n) fits (call .plan) plan (length key) fit (spans-end (call .plan) key own whole),
+    )
+
+-- bytes pass 11 and are read as a plan exactly when they are the bytes of that plan
+pub plan-bytes-iff : (call : CheckCall) (plan : Plan) (at : ℕ) → call .job .n < 2 ^ (7 * maxGroups) → Bytes (call .plan)
+    → ((otherKey .test call ≡ passed) × (planRead (call .job) (call .plan) ≡ got plan at))
+    ↔ (AreOf (call .job) (call .plan) plan × (at ≡ length (call .plan)))
 unfolding planRead planBytes
 plan-bytes-iff call plan at fits bytes = (
-  λ h.
-      let (e, fit, a) = plan-only (call .job .n) (call .plan) bytes plan (length key) at (h .1) in (
-        fit,
-        sym (take-append-drop (length key) (call .plan)) ∙ ap (λ (l : List ℕ). l ++ drop (length key) (call .plan)) (passed-iff .0 (h .0)) ∙ ap
-            (λ (l : List ℕ). key ++ l) (spans-to-end own a (omega arith)),
-        e,
-      ),
-  λ h. (
-    passed-iff .1 (ap (take (length key)) (h .1) ∙ take-at key own (length key) refl),
-    plan-back (call .job .n) fits (call .plan) plan (length key) (h .0) (spans-end (call .plan) key own (h .1)) ∙ ap (got plan) (sym (h .2)),
-  ),
+  λ (begins, read).
+      let key = keyOf (call .job) in
+      let own = encode (planNumbers plan) in
+      let (e, fit, a) = plan-only (call .job .n) (call .plan) bytes plan (length key) at read in
+      let beginning = ap (λ (l : List ℕ). l ++ drop (length key) (call .plan)) (key-passed-iff call .0 begins) in
+      let rest = ap (λ (l : List ℕ). key ++ l) (spans-to-end own a (omega arith)) in
+      ((fit, sym (take-append-drop (length key) (call .plan)) ∙ beginning ∙ rest), e),
+  λ (are-of, e). let (begins, read) = plan-bytes-read call plan fits are-of in (begins, read ∙ ap (got plan) (sym e)),
 )
-  where
-    key : List ℕ
-    key = keyOf (call .job)
-
-    own : List ℕ
-    own = encode (planNumbers plan)
-
-    passed-iff : (keyTest call ≡ passed) ↔ (take (length key) (call .plan) ≡ key)
-    passed-iff = key-passed-iff call

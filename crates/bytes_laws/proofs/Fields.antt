@@ -11,8 +11,7 @@ use lib.ListN.{length, getD, drop, length-append, drop-of-length-le}
 use lib.Seq.{drop-at, drop-length}
 use borrow.Author.Tests.{ltb-false, le-ltb}
 use Rattle.papers.specs.Bounds.{maxGroups}
-use Rattle.papers.specs.Numbers.{bytesOf, readNumber}
-use Rattle.papers.specs.Plan.{Read, got, bad, then, onto, inField, field}
+use Rattle.papers.specs.Numbers.{bytesOf, readNumber, Read, got, bad, then, onto, inField, field, Bytes}
 use Rattle.papers.specs.declared.Number.{Number}
 use Rattle.papers.specs.declared.Number.the-variants.{Value, Ended, TooLong, NotShortest}
 use Rattle.bytes_laws.proofs.NumberReading.{stands-behind, read-back}
@@ -126,7 +125,7 @@ field-got lo hi s at v next e =
     record { number = x; low = l; high = h; on = p; inside = q }
 
 -- the bytes read are its number in shortest form
-pub field-only : (lo hi : ℕ) (s : List ℕ) (at v next : ℕ) → ((i : ℕ) → getD s i 0 < 256) → field lo hi s at ≡ got v next → Spans s at (bytesOf v) next
+pub field-only : (lo hi : ℕ) (s : List ℕ) (at v next : ℕ) → Bytes s → field lo hi s at ≡ got v next → Spans s at (bytesOf v) next
 field-only lo hi s at v next bytes e =
     let r = reads-shortest s at v next bytes (field-got lo hi s at v next e .number) in record { place = r .place; form = r .form }
 

@@ -8,22 +8,13 @@ use native.Mathlib.Omega.{arith}
 use lib.ListN.{length, getD}
 use Rattle.papers.specs.Bounds.{maxGroups}
 use Rattle.papers.specs.Lists.{_∈_, Asc}
-use Rattle.papers.specs.Numbers.{bytesOf, encode}
-use Rattle.papers.specs.Key.{gapsOf, listNumbers, listsNumbers}
-use Rattle.papers.specs.Plan.{got, field, readRows, readList, readLists}
+use Rattle.papers.specs.Numbers.{bytesOf, encode, got, field, Bytes}
+use Rattle.papers.specs.Key.{gapsOf, listNumbers, listsNumbers, readRows, readList, readLists}
+use Rattle.papers.specs.Plan.{RowsFit, ListsFit}
 use Rattle.list_laws.proofs.Ascending.{asc-length}
 use Rattle.bytes_laws.proofs.Numbers.{encode-append}
 use Rattle.bytes_laws.proofs.Fields.{got-inj, then-got, then-only, onto-got, onto-only, Spans, spans-none, spans-both}
 use Rattle.bytes_laws.proofs.Fields.{spans-cut, field-got, field-only, field-back}
-
--- rows that gaps behind row b can give: they ascend, above b and up to n
-abbrev pub RowsFit : ℕ → ℕ → List ℕ → Type 0
-RowsFit n b l = Asc b l × ((i : ℕ) → i ∈ l → i ≤ n)
-
--- the rows of the columns from j on
-abbrev pub ListsFit : ℕ → ℕ → List (List ℕ) → Type 0
-ListsFit n j [] = Unit {0}
-ListsFit n j (l ∷ ls) = RowsFit n j l × ListsFit n (suc j) ls
 
 rows-fit-tail : {n b x : ℕ} {xs : List ℕ} → RowsFit n b (x ∷ xs) → RowsFit n x xs
 rows-fit-tail f = (f .0 .1, λ i m. f .1 i (List·Memᴰ·tail m))
@@ -73,7 +64,7 @@ module _ (n : ℕ) (fits : n < 2 ^ (7 * maxGroups)) (s : List ℕ) where
 
 -- ---- lists that are read are at that place
 
-module _ (n : ℕ) (s : List ℕ) (bytes : (i : ℕ) → getD s i 0 < 256) where
+module _ (n : ℕ) (s : List ℕ) (bytes : Bytes s) where
   rows-only : (b k at : ℕ) (l : List ℕ) (next : ℕ) → readRows n b k s at ≡ got l next
       → (length l ≡ k) × RowsFit n b l × Spans s at (encode (gapsOf b l)) next
   unfolding readRows gapsOf encode

@@ -8,8 +8,7 @@ use mathlib.Core.Bool.{Bool, true, false}
 use mathlib.Core.List.{List}
 use native.Mathlib.Omega.{arith}
 use lib.ListN.{length, getD, List·getD-eq-default}
-use Rattle.papers.specs.Numbers.{over, lastGroup}
-use Rattle.papers.specs.Conditions.{Continues, groupsValue}
+use Rattle.papers.specs.Numbers.{over, lastGroup, Continues, groupsValue}
 use Rattle.papers.specs.declared.Number.{Number}
 use Rattle.papers.specs.declared.Number.the-variants.{Value, Ended, TooLong, NotShortest}
 use Rattle.list_laws.proofs.Tests.{below-or}

@@ -10,26 +10,13 @@ use lib.Dec.{ltb}
 use lib.ListN.{length, getD}
 use borrow.Author.Tests.{ltb-false, le-ltb}
 use Rattle.papers.specs.Bounds.{maxGroups, maxPeak}
-use Rattle.papers.specs.Numbers.{bytesOf, encode}
-use Rattle.papers.specs.Key.{listsNumbers}
-use Rattle.papers.specs.Plan.{Plan, stepNumbers, planNumbers, Read, got, bad, field, readStep, readSteps, readLists, atEnd, readPlan}
+use Rattle.papers.specs.Numbers.{bytesOf, encode, Read, got, bad, field, atEnd, Bytes}
+use Rattle.papers.specs.Key.{listsNumbers, readLists}
+use Rattle.papers.specs.Plan.{Plan, StepsFit, Fit, stepNumbers, planNumbers, readStep, readSteps, readPlan}
 use Rattle.bytes_laws.proofs.Numbers.{encode-append}
 use Rattle.bytes_laws.proofs.Fields.{got-inj, got-bad, then-got, then-only, onto-got, onto-only, Spans, spans-none, spans-both}
 use Rattle.bytes_laws.proofs.Fields.{spans-cut, field-got, field-only, field-back}
-use Rattle.bytes_laws.proofs.Gaps.{ListsFit, lists-back, lists-only}
-
--- each step has a column from 1 to n and pops from 0 to n - 1
-abbrev pub StepsFit : ℕ → List (ℕ × ℕ) → Type 0
-StepsFit n [] = Unit {0}
-StepsFit n (x ∷ xs) = ((1 ≤ x .0) × (x .0 ≤ n) × (x .1 ≤ n - 1)) × StepsFit n xs
-
--- every number of a plan is in its range
-pub record Fit (n : ℕ) (plan : Plan) : Type 0 where
-  pub all-steps : length (plan .steps) ≡ n
-  pub steps : StepsFit n (plan .steps)
-  pub all-lists : length (plan .lists) ≡ n
-  pub lists : ListsFit n 1 (plan .lists)
-  pub peak : plan .peak ≤ maxPeak
+use Rattle.bytes_laws.proofs.Gaps.{lists-back, lists-only}
 
 -- ---- nothing after
 
@@ -77,7 +64,7 @@ module _ (n : ℕ) (fits : n < 2 ^ (7 * maxGroups)) (s : List ℕ) where
 
 -- ---- a plan that is read is at that place
 
-module _ (n : ℕ) (s : List ℕ) (bytes : (i : ℕ) → getD s i 0 < 256) where
+module _ (n : ℕ) (s : List ℕ) (bytes : Bytes s) where
   step-only : (at : ℕ) (x : ℕ × ℕ) (next : ℕ) → readStep n s at ≡ got x next
       → ((1 ≤ x .0) × (x .0 ≤ n) × (x .1 ≤ n - 1)) × Spans s at (bytesOf (x .0) ++ bytesOf (x .1)) next
   unfolding readStep

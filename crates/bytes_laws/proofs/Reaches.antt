@@ -7,7 +7,9 @@ use mathlib.Core.List.{List, [], _∷_, _++_}
 use native.Mathlib.Omega.{arith}
 use lib.ListN.{length, length-append}
 use Rattle.papers.specs.Lists.{flat}
-use Rattle.papers.specs.Plan.{got, field, readStep, readSteps, readRows, readList, readLists}
+use Rattle.papers.specs.Numbers.{got, field}
+use Rattle.papers.specs.Key.{readRows, readList, readLists}
+use Rattle.papers.specs.Plan.{readStep, readSteps}
 use Rattle.bytes_laws.proofs.Fields.{got-inj, then-only, onto-only, field-got}
 
 -- reading from `at` reaches next over at least this many numbers

@@ -12,7 +12,7 @@ use lib.ListN.{length, getD, drop, length-append, length-drop}
 use lib.Seq.{drop-cons}
 use Rattle.list_laws.proofs.Tests.{below-or}
 use Rattle.papers.specs.Bounds.{maxGroups}
-use Rattle.papers.specs.Numbers.{groupsOf, bytesOf, over, lastGroup, readFrom, readNumber}
+use Rattle.papers.specs.Numbers.{groupsOf, bytesOf, over, lastGroup, readFrom, readNumber, Bytes}
 use Rattle.papers.specs.declared.Number.{Number}
 use Rattle.papers.specs.declared.Number.the-variants.{Value, Ended, TooLong, NotShortest}
 use Rattle.bytes_laws.proofs.Numbers.{Grouped, last, more, grouped-below, groups-small, groups-large}
@@ -92,7 +92,7 @@ only-last : (f : ℕ) (first : Bool) (s : List ℕ) (at x next : ℕ) → at < l
 only-last f first s at x next h l p q w =
     record { few = last l; shown = w; form = rw (groups-small f x l, ← q, add-one, ← p) (drop-cons s at 0 h) }
 
-module _ (s : List ℕ) (bytes : (i : ℕ) → getD s i 0 < 256) where
+module _ (s : List ℕ) (bytes : Bytes s) where
   only-more : (f : ℕ) (first : Bool) (at x next v : ℕ) → at < length s → 128 ≤ getD s at 0 → x ≡ getD s at 0 - 128 + 128 * v
       → Only f false s (at + 1) v next → Only (suc f) first s at x next
   only-more f first at x next v h b e o =
@@ -127,7 +127,7 @@ pub record ReadShortest (s : List ℕ) (at x next : ℕ) : Type 0 where
   pub place : next ≡ at + length (bytesOf x)
   pub form : drop at s ≡ bytesOf x ++ drop next s
 
-pub reads-shortest : (s : List ℕ) (at x next : ℕ) → ((i : ℕ) → getD s i 0 < 256) → readNumber s at ≡ Value x next → ReadShortest s at x next
+pub reads-shortest : (s : List ℕ) (at x next : ℕ) → Bytes s → readNumber s at ≡ Value x next → ReadShortest s at x next
 unfolding readNumber bytesOf
 reads-shortest s at x next bytes e =
     let o = reads-only s bytes (maxGroups - 1) true at x next e in

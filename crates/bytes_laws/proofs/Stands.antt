@@ -8,8 +8,7 @@ use mathlib.Core.List.{List}
 use native.Mathlib.Omega.{arith}
 use lib.ListN.{length, getD}
 use Rattle.papers.specs.Bounds.{maxGroups}
-use Rattle.papers.specs.Numbers.{over, readFrom, readNumber}
-use Rattle.papers.specs.Conditions.{Stands, ended, too-long, not-shortest, value}
+use Rattle.papers.specs.Numbers.{over, readFrom, readNumber, Stands, ended, too-long, not-shortest, value}
 use Rattle.papers.specs.declared.Number.{Number}
 use Rattle.list_laws.proofs.Tests.{true-false, below-or}
 use Rattle.bytes_laws.proofs.NumberReading.{read-end, read-long, read-last, read-more, Shown}

@@ -3,11 +3,12 @@
 ghost use mathlib.Core.Path.{_≡_};
 ghost use mathlib.Core.List.{List};
 ghost use Prim.Native.Nat.{ℕ};
-ghost use Rattle.papers.specs.Refusals.{answer, Outcome, Lent};
-ghost use Rattle.papers.specs.Analysis.{keyWritten, analysed, PlanLent, planWritten};
+ghost use Rattle.papers.specs.Refusals.{answer, Outcome};
+ghost use Rattle.papers.specs.Job.{jobOf};
+ghost use Rattle.papers.specs.Analysis.{Lent, keyWritten, analysed, PlanLent, planWritten};
 ghost use Rattle.papers.specs.Check.{checked};
 ghost use Rattle.papers.specs.Run.{ran};
-ghost use Rattle.lent.specs.Six.{six};
+ghost use Rattle.lent.specs.Six.{sixSlices};
 use papers::JobHead;
 
 // Writes the key of a job: key::write_key.
@@ -23,8 +24,8 @@ pub extern "C" fn ls_write_key(
     count: &mut u64,
 ) -> u64
     ensures { λ r. ⌜
-        _≡_ {A = Outcome (List ℕ)} (record { answer = answer r (now (place .exit)) (now (count .exit)); lent = now (bytes .exit) })
-        (keyWritten (record { n = n; starts = now (starts .entry); rows = now (rows .entry); mark = mark; limit = limit })
+        _≡_ {A = Outcome (List ℕ)} (record { answered = answer r (now (place .exit)) (now (count .exit)); lent = now (bytes .exit) })
+        (keyWritten (jobOf (record { n = n; mark = mark; limit = limit }) (now (starts .entry)) (now (rows .entry)))
         (now (bytes .entry)))
         ⌝ }
 {
@@ -54,12 +55,12 @@ pub extern "C" fn ls_analyse(
     ensures { λ r. ⌜
         _≡_ {A = Outcome Lent}
         (record {
-          answer = answer r (now (place .exit)) (now (count .exit));
-          lent = six (now (parents .exit)) (now (order .exit))
+          answered = answer r (now (place .exit)) (now (count .exit));
+          lent = sixSlices (now (parents .exit)) (now (order .exit))
               (now (pops .exit)) (now (fstarts .exit)) (now (frows .exit)) (now (work .exit));
         })
-        (analysed (record { n = n; starts = now (starts .entry); rows = now (rows .entry); mark = mark; limit = limit })
-        (six (now (parents .entry)) (now (order .entry)) (now (pops .entry)) (now (fstarts .entry)) (now (frows .entry))
+        (analysed (jobOf (record { n = n; mark = mark; limit = limit }) (now (starts .entry)) (now (rows .entry)))
+        (sixSlices (now (parents .entry)) (now (order .entry)) (now (pops .entry)) (now (fstarts .entry)) (now (frows .entry))
         (now (work .entry))))
         ⌝ }
 {
@@ -100,16 +101,16 @@ pub extern "C" fn ls_write_plan(
     ensures { λ r. ⌜
         _≡_ {A = Outcome PlanLent}
         (record {
-          answer = answer r (now (place .exit)) (now (count .exit));
+          answered = answer r (now (place .exit)) (now (count .exit));
           lent = record {
-            analysis = six (now (parents .exit)) (now (order .exit)) (now (pops .exit)) (now (fstarts .exit)) (now (frows .exit))
+            analysis = sixSlices (now (parents .exit)) (now (order .exit)) (now (pops .exit)) (now (fstarts .exit)) (now (frows .exit))
                 (now (work .exit));
             bytes = now (bytes .exit);
           };
         })
-        (planWritten (record { n = n; starts = now (starts .entry); rows = now (rows .entry); mark = mark; limit = limit })
+        (planWritten (jobOf (record { n = n; mark = mark; limit = limit }) (now (starts .entry)) (now (rows .entry)))
         (record {
-          analysis = six (now (parents .entry)) (now (order .entry)) (now (pops .entry)) (now (fstarts .entry))
+          analysis = sixSlices (now (parents .entry)) (now (order .entry)) (now (pops .entry)) (now (fstarts .entry))
               (now (frows .entry)) (now (work .entry));
           bytes = now (bytes .entry);
         }))
@@ -153,12 +154,12 @@ pub extern "C" fn ls_check_plan(
     ensures { λ r. ⌜
         _≡_ {A = Outcome Lent}
         (record {
-          answer = answer r (now (place .exit)) (now (count .exit));
-          lent = six (now (parents .exit)) (now (order .exit))
+          answered = answer r (now (place .exit)) (now (count .exit));
+          lent = sixSlices (now (parents .exit)) (now (order .exit))
               (now (pops .exit)) (now (fstarts .exit)) (now (frows .exit)) (now (work .exit));
         })
-        (checked (record { n = n; starts = now (starts .entry); rows = now (rows .entry); mark = mark; limit = limit })
-        (now (plan .entry)) (six (now (parents .entry)) (now (order .entry)) (now (pops .entry)) (now (fstarts .entry))
+        (checked (jobOf (record { n = n; mark = mark; limit = limit }) (now (starts .entry)) (now (rows .entry)))
+        (now (plan .entry)) (sixSlices (now (parents .entry)) (now (order .entry)) (now (pops .entry)) (now (fstarts .entry))
         (now (frows .entry)) (now (work .entry))))
         ⌝ }
 {
@@ -193,7 +194,7 @@ pub extern "C" fn ls_run(
     count: &mut u64,
 ) -> u64
     ensures { λ r. ⌜
-        _≡_ {A = Outcome (List ℕ)} (record { answer = answer r (now (place .exit)) (now (count .exit)); lent = now (stack .exit) })
+        _≡_ {A = Outcome (List ℕ)} (record { answered = answer r (now (place .exit)) (now (count .exit)); lent = now (stack .exit) })
         (ran (record {
           n = n;
           starts = now (fstarts .entry);

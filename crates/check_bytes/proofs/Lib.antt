@@ -1,3 +1,3 @@
 pub mod Ways
-pub mod Fronts
+pub mod AtStart
 pub mod Rules

@@ -4,8 +4,8 @@ use papers::Answer;
 use papers::JobHead;
 use read_plan::PlanReading;
 ghost use Rattle.papers.specs.Job.{jobOf};
-ghost use Rattle.lent.specs.Six.{six};
-ghost use Rattle.check_bytes.specs.Ruled.{callOf, Checkable, Ruled, Judgeable, Followed};
+ghost use Rattle.lent.specs.Six.{sixSlices};
+ghost use Rattle.check_bytes.specs.Ruled.{checkOf, Checkable, Ruled, Judgeable, Followed};
 
 // Answers the fault that reading found; else 8 if the rows do not fit; else tests 16 to 20 and 9 of the plan that was read.
 fn judge_reading(
@@ -22,7 +22,7 @@ fn judge_reading(
 ) -> Answer
     requires { ⌜
         Judgeable (jobOf head (now starts) (now rows)) reading
-        (six (now parents) (now order) (now pops) (now fstarts) (now frows) (now work))
+        (sixSlices (now parents) (now order) (now pops) (now fstarts) (now frows) (now work))
         ⌝ }
     ensures { λ r. ⌜
         Followed (jobOf head (now (starts .entry)) (now (rows .entry))) reading (now (parents .entry)) (now (order .entry))
@@ -33,13 +33,13 @@ fn judge_reading(
         PlanReading::Faulty { number, place } => {
             return basics::answered(number, place, 0);
         }
-        PlanReading::Whole { peak, rows: count } => {
-            if (frows.len() as u64) < count {
-                return basics::answered(8, 0, count);
+        PlanReading::Whole { found } => {
+            if (frows.len() as u64) < found.rows {
+                return basics::answered(8, 0, found.rows);
             }
             return check_judge::judge(
                 head,
-                peak,
+                found.peak,
                 starts,
                 rows,
                 parents,
@@ -68,12 +68,12 @@ pub fn judge_bytes(
     work: &mut [u64],
 ) -> Answer
     requires { ⌜
-        Checkable (jobOf head (now starts) (now rows)) (six (now parents) (now order) (now pops) (now fstarts) (now frows) (now work))
+        Checkable (jobOf head (now starts) (now rows)) (sixSlices (now parents) (now order) (now pops) (now fstarts) (now frows) (now work))
         ⌝ }
     ensures { λ r. ⌜
         Ruled
-        (callOf (jobOf head (now (starts .entry)) (now (rows .entry))) (now (plan .entry))
-        (six (now (parents .entry)) (now (order .entry)) (now (pops .entry)) (now (fstarts .entry)) (now (frows .entry))
+        (checkOf (jobOf head (now (starts .entry)) (now (rows .entry))) (now (plan .entry))
+        (sixSlices (now (parents .entry)) (now (order .entry)) (now (pops .entry)) (now (fstarts .entry)) (now (frows .entry))
         (now (work .entry))))
         (now (parents .exit)) (now (order .exit)) (now (pops .exit)) (now (fstarts .exit)) (now (frows .exit)) r
         ⌝ }

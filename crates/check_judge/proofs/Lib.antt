@@ -1,5 +1,5 @@
 pub mod Rulings
-pub mod Helds
+pub mod Stored
 pub mod OnTrees
 pub mod Trees
 pub mod Lists

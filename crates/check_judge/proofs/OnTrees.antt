@@ -17,15 +17,15 @@ use Rattle.order.proofs.Ties.{length-parents, parents-tie, rowed}
 use Rattle.check_steps.specs.Steps.{Within}
 use Rattle.check_subtrees.specs.Steps.{EachOnce}
 use Rattle.check_judge.specs.Judged.{OnTree}
-use Rattle.check_judge.proofs.Helds.{order-length, pops-length, in-range, within}
+use Rattle.check_judge.proofs.Stored.{order-length, pops-length, in-range, within}
 
-module _ {job : Job} {plan : Plan} {limit greatest : ℕ} {parents order pops fstarts : List ℕ} (on : OnTree job plan limit greatest parents order pops
+module _ {job : Job} {plan : Plan} {limit claimed : ℕ} {parents order pops fstarts : List ℕ} (on : OnTree job plan limit claimed parents order pops
     fstarts) where
   pub below : Below (job .n) (pattern job)
-  below = passed-below job (passes-iff job .0 (on .valid))
+  below = passed-below job (on .valid)
 
   pub columns-few : job .n ≤ maxColumns
-  columns-few = passes-iff job .0 (on .valid) .few
+  columns-few = on .valid .few
 
   pub parents-length : length parents ≡ job .n
   parents-length = ap length (on .parents-are) ∙ length-parents below
@@ -37,19 +37,19 @@ module _ {job : Job} {plan : Plan} {limit greatest : ℕ} {parents order pops fs
   tree-in = rw (on .parents-are) (rowed below columns-few .tree)
 
   pub as-long : length order ≡ length parents
-  as-long = order-length (on .held) ∙ sym parents-length
+  as-long = order-length (on .stored) ∙ sym parents-length
 
   pub pops-as-long : length pops ≡ length parents
-  pops-as-long = pops-length (on .held) ∙ sym parents-length
+  pops-as-long = pops-length (on .stored) ∙ sym parents-length
 
   pub once : Distinct (columnsIn (plan .steps))
-  once = repeat-iff job plan (on .held .fit) .0 (on .unrepeated)
+  once = repeat-iff job plan (on .stored .fit) .0 (on .unrepeated)
 
   pub each-once : EachOnce (length parents) order
-  each-once = record { range = λ j m. rw parents-length (in-range (on .held) j m); once = rw (on .held .columns) once }
+  each-once = record { range = λ j m. rw parents-length (in-range (on .stored) j m); once = rw (on .stored .columns) once }
 
   pub few : length parents ≤ maxColumns
   few = omega (arith, parents-length, columns-few)
 
   pub within-order : Within (length order) order
-  within-order = within (on .held)
+  within-order = within (on .stored)

@@ -2,7 +2,7 @@
 use papers::Answer;
 use papers::JobHead;
 ghost use Rattle.papers.specs.Job.{jobOf};
-ghost use Rattle.lent.specs.Six.{six};
+ghost use Rattle.lent.specs.Six.{sixSlices};
 ghost use Rattle.check_judge.specs.Judged.{PlanGiven, TreeGiven, TreeJudged, Judgement};
 
 // Tests 18, 19, 20 and 9 of a plan whose lists are right; parents are those of its lists. When done, the count is the peak.
@@ -26,17 +26,17 @@ fn judge_tree(
     if step != 0 {
         return basics::answered(19, step, 0);
     }
-    let greatest = room::peak(fstarts, order, pops, work);
-    if greatest != peak {
-        return basics::answered(20, 0, greatest);
+    let true_peak = room::peak(fstarts, order, pops, work).peak;
+    if true_peak != peak {
+        return basics::answered(20, 0, true_peak);
     }
-    if limit < greatest {
-        return basics::answered(9, 0, greatest);
+    if limit < true_peak {
+        return basics::answered(9, 0, true_peak);
     }
-    basics::answered(0, 0, greatest)
+    basics::answered(0, 0, true_peak)
 }
 
-// Tests 16 to 20 and 9 of a plan that was read to the front of the slices; peak is what it declares. If the plan passes, stores the job's
+// Tests 16 to 20 and 9 of a plan that was read to the start of the slices; peak is what it declares. If the plan passes, stores the job's
 // parents, and the count is the peak.
 pub fn judge(
     head: JobHead,
@@ -52,7 +52,7 @@ pub fn judge(
 ) -> Answer
     requires { ⌜
         PlanGiven (jobOf head (now starts) (now rows)) peak
-        (six (now parents) (now order) (now pops) (now fstarts) (now frows) (now work))
+        (sixSlices (now parents) (now order) (now pops) (now fstarts) (now frows) (now work))
         ⌝ }
     ensures { λ r. ⌜
         Judgement (jobOf head (now (starts .entry)) (now (rows .entry))) peak (now (parents .entry)) (now (order .entry))

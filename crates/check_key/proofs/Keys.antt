@@ -6,8 +6,8 @@ use mathlib.Core.Path.{_≡_, refl, _∙_}
 use native.Mathlib.Omega.{arith}
 use Rattle.papers.specs.Bounds.{edition}
 use Rattle.papers.specs.Job.{Job}
-use Rattle.papers.specs.Key.{keyNumbers, keyOf}
 use Rattle.papers.specs.Numbers.{encode}
+use Rattle.papers.specs.Key.{keyNumbers, keyOf}
 use Rattle.key.proofs.Written.{keyLists}
 use Rattle.check_key.specs.Matches.{matchFrom, keyMatch}
 use Rattle.check_key.specs.declared.KeyMatch.the-variants.{Begins, Differs}

@@ -2,11 +2,12 @@
 ghost use mathlib.Core.Path.{_≡_};
 ghost use mathlib.Core.List.{[], _∷_};
 ghost use lib.Seq.{slice};
+ghost use Rattle.papers.specs.Refusals.{passed, first};
+ghost use Rattle.papers.specs.Job.{jobOf, columnOf, jobRefusals};
 ghost use Rattle.papers.specs.Numbers.{bytesOf, encode};
-ghost use Rattle.papers.specs.Job.{jobOf, columnOf};
 ghost use Rattle.papers.specs.Key.{gapsOf, listNumbers, listsNumbers, listsOf, keyOf};
-ghost use Rattle.papers.specs.Refusals.{passed, first, jobTests};
-ghost use Rattle.check_key.specs.Asked.{NumberAsked, TwoAsked, ListAsked, ListsAsked};
+ghost use Rattle.job_laws.specs.Passed.{Passed};
+ghost use Rattle.check_key.specs.Asked.{NumberMatchAsked, TwoMatchAsked, ListMatchAsked, ListsMatchAsked};
 ghost use Rattle.check_key.specs.Matches.{matchFrom, keyMatch};
 use papers::JobHead;
 
@@ -19,7 +20,7 @@ pub enum KeyMatch {
 
 // Compares the bytes of x with the plan's from `at` on. In the loop the first i bytes agree.
 fn match_groups(plan: &[u8], at: usize, x: u64) -> KeyMatch
-    requires { ⌜ NumberAsked (now plan) at x ⌝ }
+    requires { ⌜ NumberMatchAsked (now plan) at x ⌝ }
     ensures { λ r. ⌜ r ≡ matchFrom (bytesOf x) (now (plan .entry)) at ⌝ }
 {
     let groups = groups::number(x);
@@ -42,7 +43,7 @@ fn match_groups(plan: &[u8], at: usize, x: u64) -> KeyMatch
 
 // The same. Most numbers have one group, which is compared without the little array.
 fn match_number(plan: &[u8], at: usize, x: u64) -> KeyMatch
-    requires { ⌜ NumberAsked (now plan) at x ⌝ }
+    requires { ⌜ NumberMatchAsked (now plan) at x ⌝ }
     ensures { λ r. ⌜ r ≡ matchFrom (bytesOf x) (now (plan .entry)) at ⌝ }
 {
     if at < plan.len() {
@@ -57,7 +58,7 @@ fn match_number(plan: &[u8], at: usize, x: u64) -> KeyMatch
 
 // Compares two numbers, one behind the other.
 fn match_two(plan: &[u8], at: usize, x: u64, y: u64) -> KeyMatch
-    requires { ⌜ TwoAsked (now plan) at x y ⌝ }
+    requires { ⌜ TwoMatchAsked (now plan) at x y ⌝ }
     ensures { λ r. ⌜ r ≡ matchFrom (encode (x ∷ y ∷ [])) (now (plan .entry)) at ⌝ }
 {
     match match_number(plan, at, x) {
@@ -73,7 +74,7 @@ fn match_two(plan: &[u8], at: usize, x: u64, y: u64) -> KeyMatch
 // Compares the gaps of the rows of column j, those at the places `from` up to `to`. In the loop the gaps before i agree, up to k; `before`
 // is the last of these rows, or j.
 fn match_gaps(plan: &[u8], at: usize, rows: &[u32], from: usize, to: usize, j: u64) -> KeyMatch
-    requires { ⌜ ListAsked (now plan) at (now rows) from to j ⌝ }
+    requires { ⌜ ListMatchAsked (now plan) at (now rows) from to j ⌝ }
     ensures { λ r. ⌜ r ≡ matchFrom (encode (gapsOf j (slice from to (now (rows .entry))))) (now (plan .entry)) at ⌝ }
 {
     let mut k = at;
@@ -97,7 +98,7 @@ fn match_gaps(plan: &[u8], at: usize, rows: &[u32], from: usize, to: usize, j: u
 
 // Compares the list of column j, its count and its gaps.
 fn match_list(plan: &[u8], at: usize, rows: &[u32], from: usize, to: usize, j: u64) -> KeyMatch
-    requires { ⌜ ListAsked (now plan) at (now rows) from to j ⌝ }
+    requires { ⌜ ListMatchAsked (now plan) at (now rows) from to j ⌝ }
     ensures { λ r. ⌜ r ≡ matchFrom (encode (listNumbers j (slice from to (now (rows .entry))))) (now (plan .entry)) at ⌝ }
 {
     match match_number(plan, at, (to - from) as u64) {
@@ -112,7 +113,7 @@ fn match_list(plan: &[u8], at: usize, rows: &[u32], from: usize, to: usize, j: u
 
 // Compares the lists of the columns 1 to n. In the loop those of the first `done` columns agree, up to k.
 fn match_lists(n: u64, starts: &[u64], rows: &[u32], plan: &[u8], at: usize) -> KeyMatch
-    requires { ⌜ ListsAsked n (now starts) (now rows) (now plan) at ⌝ }
+    requires { ⌜ ListsMatchAsked n (now starts) (now rows) (now plan) at ⌝ }
     ensures { λ r. ⌜
         r ≡ matchFrom (encode (listsNumbers 1 (listsOf n (columnOf (now (starts .entry)) (now (rows .entry)))))) (now (plan .entry)) at
         ⌝ }
@@ -143,7 +144,7 @@ fn match_lists(n: u64, starts: &[u64], rows: &[u32], plan: &[u8], at: usize) -> 
 
 // Compares the key of a job that passes its tests with the beginning of the plan.
 pub fn match_key(head: JobHead, starts: &[u64], rows: &[u32], plan: &[u8]) -> KeyMatch
-    requires { ⌜ first jobTests (jobOf head (now starts) (now rows)) ≡ passed ⌝ }
+    requires { ⌜ Passed (jobOf head (now starts) (now rows)) ⌝ }
     ensures { λ r. ⌜ r ≡ keyMatch (keyOf (jobOf head (now (starts .entry)) (now (rows .entry)))) (now (plan .entry)) ⌝ }
 {
     match match_two(plan, 0, papers::EDITION, head.n) {

@@ -11,18 +11,18 @@ use Rattle.papers.specs.Lists.{Asc, same, merge}
 use Rattle.papers.specs.Job.{Pattern, columnOf}
 use Rattle.papers.specs.Fill.{R}
 use Rattle.list_laws.proofs.Merges.{nil-merge}
-use Rattle.linked_children.specs.Children.{StoredChild, handedOn}
+use Rattle.linked_children.specs.Children.{StoredChild, handedRows}
 use Rattle.child_lists.proofs.Marks.{changed-none}
 use Rattle.child_lists.proofs.Making.{makes-join, makes-end}
 use Rattle.column_list.proofs.Gathering.{found-child}
 use Rattle.column_list.proofs.Owns.{own-asc, own-makes, own-alone, own-markable, own-change, first-child, first-linked, only-child}
-use Rattle.check_marks.specs.Marked.{MarkedAre, Comparable, Compared}
+use Rattle.check_marks.specs.Marked.{MarkedAre, ListComparable, Compared}
 use Rattle.check_marks.proofs.Marked.{marked-none, marked-more}
 use Rattle.check_marks.proofs.Judging.{list-markable}
 use Rattle.check_rows.specs.Added.{Begins, Addable, Adds}
 use Rattle.check_lists.proofs.Adding.{adds-exactly}
 
-module _ {n m : ℕ} {list starts rows fs fr w own : List ℕ} (c : Comparable n m list starts rows fs fr w)
+module _ {n m : ℕ} {list starts rows fs fr w own : List ℕ} (c : ListComparable n m list starts rows fs fr w)
     (o : own ≡ columnOf starts rows (m + 1)) where
   abbrev A : Pattern
   A = columnOf starts rows
@@ -40,7 +40,7 @@ module _ {n m : ℕ} {list starts rows fs fr w own : List ℕ} (c : Comparable n
     child-found = found-child (c .next) (getD w (m + 1) 0) (first-child (c .next) z) .stands
 
     -- one child
-    module _ {more : List ℕ} (q : getD w (n + getD w (m + 1) 0) 0 ≡ 0) (h : more ≡ handedOn fs fr (getD w (m + 1) 0)) where
+    module _ {more : List ℕ} (q : getD w (n + getD w (m + 1) 0) 0 ≡ 0) (h : more ≡ handedRows fs fr (getD w (m + 1) 0)) where
       more-asc : Asc (m + 1) more
       more-asc = rw h (own-makes (c .next) o .asc-hands (getD w (m + 1) 0) (first-child (c .next) z))
 
@@ -58,6 +58,6 @@ module _ {n m : ℕ} {list starts rows fs fr w own : List ℕ} (c : Comparable n
             let are : MarkedAre n (m + 1) w₁ own = rw (a .marks) (rw (nil-merge own) at (marked-more none own (own-markable (c .next) o))) in
             record {
               answers =
-                  a .answers ∙ adds-exactly n (m + 1) w₁ own more list are (own-asc (c .next) o) (c .ascending) (b .front) more-asc ∙ ap (same list) one-joined;
+                  a .answers ∙ adds-exactly n (m + 1) w₁ own more list are (own-asc (c .next) o) (c .ascending) (b .begins) more-asc ∙ ap (same list) one-joined;
               changed = own-change (c .next) o (a .marks);
             }

@@ -21,10 +21,10 @@ use Rattle.fill_laws.proofs.Parents.{parent-within}
 use Rattle.column_laws.specs.Tested.{Tested}
 use Rattle.column_laws.proofs.Columns.{tested-below}
 use Rattle.list_laws.proofs.UpTo.{map-upTo}
-use Rattle.column_list.specs.Stored.{Stored, Part}
+use Rattle.column_list.specs.Stored.{ListsStored, RowsBetween}
 use Rattle.structure.specs.Hanging.{hanging, Hangable}
 use Rattle.structure.proofs.Storing.{parent-is, stored-none, stored-on}
-use Rattle.check_marks.specs.Marked.{Comparable, Compared}
+use Rattle.check_marks.specs.Marked.{ListComparable, Compared}
 use Rattle.check_lists.specs.Lists.{HoldLists, wrong, FirstWrong, ListsComparable, ListsCompared}
 use Rattle.check_lists.proofs.Plans.{starts-long, first-start, plan-part, plan-list, plan-ascending, plan-within, stands-fits, stands}
 
@@ -37,7 +37,7 @@ pub record Passing (n : ℕ) (starts rows fs fr p₀ w₀ p w : List ℕ) (m : �
   pub tested : Tested n starts rows
   pub listed : HoldLists n fs fr
   pub most : m ≤ n
-  pub stored : Stored n m (columnOf starts rows) fs fr w
+  pub stored : ListsStored n m (columnOf starts rows) fs fr w
   pub none : least (wrongIn (columnOf starts rows) fs fr) m ≡ 0
   pub parents-are : p ≡ sets p₀ 0 (map (parent (columnOf starts rows)) (upTo m))
   pub long : length w ≡ length w₀
@@ -83,12 +83,12 @@ module _ {n m : ℕ} {starts rows fs fr p₀ w₀ p w : List ℕ} (s : Passing n
   -- ---- column m + 1
 
   module _ (l : m < n) where
-    pub pass-part : Part m fs fr
+    pub pass-part : RowsBetween m fs fr
     pass-part = plan-part (s .listed .are) m l
 
     module _ {list : List ℕ} (is : list ≡ columnOf fs fr (m + 1)) where
       -- its list can be compared with R(m + 1)
-      pub pass-next : Comparable n m list starts rows fs fr w
+      pub pass-next : ListComparable n m list starts rows fs fr w
       pass-next =
           record {
             next = record { tested = s .tested; column = l; stored = s .stored };

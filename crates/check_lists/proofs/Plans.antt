@@ -9,14 +9,14 @@ use lib.ListN.{length, getD, drop, set, length-take, length-drop, take-append-dr
 use lib.Seq.{getD-take, take-take, take-add, length-take-le, sets, sets-eq, set-getD}
 use Rattle.papers.specs.Lists.{_∈_, Asc, head0, flat, startsFrom}
 use Rattle.papers.specs.Job.{columnOf}
+use Rattle.job_laws.specs.Passed.{PassedLists}
 use Rattle.list_laws.specs.Parts.{part}
 use Rattle.list_laws.proofs.Stores.{length-starts}
 use Rattle.job_laws.proofs.Starts.{start-at, column-at, start-within}
-use Rattle.job_laws.proofs.Passed.{PassedLists}
 use Rattle.job_laws.proofs.Laid.{laid-column}
 use Rattle.job_laws.proofs.Readable.{laid-pass}
 use Rattle.column_laws.proofs.Columns.{column-part}
-use Rattle.column_list.specs.Stored.{Part}
+use Rattle.column_list.specs.Stored.{RowsBetween}
 use Rattle.structure.specs.Hanging.{hanging}
 use Rattle.structure.specs.Listed.{Stores}
 use Rattle.check_lists.specs.Lists.{PlanLists}
@@ -41,7 +41,7 @@ module _ {n : ℕ} {lists : List (List ℕ)} {fs fr : List ℕ} (p : PlanLists n
   ends-in k h = rw (at-start k h, ← start-at (startsFrom 0 lists) k) (start-within (laid .whole) (suc k) (omega arith) (omega arith))
 
   module _ (m : ℕ) (h : m < n) where
-    pub plan-part : Part m fs fr
+    pub plan-part : RowsBetween m fs fr
     plan-part =
         record {
           started = omega (arith, starts-long);
@@ -83,7 +83,7 @@ sets-part s e l a b =
     sym (sets-eq (part s e l) l s (omega arith) ∙ rw (q, ← take-add s (e - s) l, z) (take-append-drop e l))
 
 -- the list of column m + 1 is already at the place where it would be stored
-module _ {m : ℕ} {fs fr : List ℕ} (q : Part m fs fr) (list : List ℕ) (is : list ≡ columnOf fs fr (m + 1)) where
+module _ {m : ℕ} {fs fr : List ℕ} (q : RowsBetween m fs fr) (list : List ℕ) (is : list ≡ columnOf fs fr (m + 1)) where
   taken : list ≡ part (getD fs m 0) (getD fs (m + 1) 0) fr
   taken = is ∙ sym (column-part fs fr m)
 

@@ -6,15 +6,15 @@ use mathlib.Core.Bool.{Bool, not}
 use mathlib.Core.List.{List, [], map}
 use lib.ListN.{length, getD, take}
 use lib.Seq.{sets}
+use Rattle.papers.specs.Plan.{ListsFit}
 use Rattle.papers.specs.Bounds.{workLength}
 use Rattle.papers.specs.Lists.{same, least, upTo, flat, startsFrom}
 use Rattle.papers.specs.Job.{Pattern}
 use Rattle.papers.specs.Fill.{R}
 use Rattle.papers.specs.Tree.{parent}
-use Rattle.bytes_laws.proofs.Gaps.{ListsFit}
 use Rattle.column_laws.specs.Tested.{Tested}
 
--- the fronts of two slices hold a plan's lists, one for each of n columns, in their ranges
+-- the first places of two slices hold a plan's lists, one for each of n columns, in their ranges
 pub record PlanLists (n : ℕ) (lists : List (List ℕ)) (fstarts frows : List ℕ) : Type 0 where
   pub count : length lists ≡ n
   pub fit : ListsFit n 1 lists

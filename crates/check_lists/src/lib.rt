@@ -1,7 +1,7 @@
 // Test 17: finds the first column whose list in a plan is not R(j). It takes the columns in ascending order, so each list is compared with
 // lists that were found right before.
 ghost use Rattle.papers.specs.Job.{columnOf};
-ghost use Rattle.check_marks.specs.Marked.{Comparable, Compared};
+ghost use Rattle.check_marks.specs.Marked.{ListComparable, Compared};
 ghost use Rattle.check_lists.specs.Lists.{ListsComparable, ListsCompared};
 
 // Tests whether a list is R(m + 1), if the lists of the columns before are right. Most columns have one child, and their list is mostly the
@@ -17,7 +17,7 @@ fn is_right(
     frows: &[u32],
     work: &mut [u64],
 ) -> bool
-    requires { ⌜ Comparable n m (now list) (now starts) (now rows) (now fstarts) (now frows) (now work) ⌝ }
+    requires { ⌜ ListComparable n m (now list) (now starts) (now rows) (now fstarts) (now frows) (now work) ⌝ }
     ensures { λ r. ⌜
         Compared n m (now (list .entry)) (columnOf (now (starts .entry)) (now (rows .entry))) (now (work .entry)) (now (work .exit)) r
         ⌝ }

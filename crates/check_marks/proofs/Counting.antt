@@ -14,7 +14,7 @@ use Rattle.list_laws.proofs.Ascending.{asc-above, asc-distinct}
 use Rattle.list_laws.proofs.Merges.{nil-merge}
 use Rattle.fill_laws.proofs.Fill.{R-range}
 use Rattle.column_laws.proofs.Chains.{chain-end}
-use Rattle.linked_children.specs.Children.{StoredChild, handedOn, Siblings}
+use Rattle.linked_children.specs.Children.{StoredChild, handedRows, Siblings}
 use Rattle.linked_children.proofs.Picking.{Further, further, siblings-ext}
 use Rattle.child_lists.specs.Marks.{marked, Changed}
 use Rattle.child_lists.specs.Joining.{Makes}
@@ -38,7 +38,7 @@ pub record Counting (n m : ℕ) (A : Pattern) (fs fr w₀ w : List ℕ) (c count
   pub siblings : Siblings n c fs w left
   pub ends : (d : ℕ) → d ∈ left → getD fs d 0 ≤ length fr
   pub acc : List ℕ
-  pub makes : Makes (m + 1) (handedOn fs fr) left acc (R A (m + 1))
+  pub makes : Makes (m + 1) (handedRows fs fr) left acc (R A (m + 1))
   pub marks : MarkedAre n (m + 1) w acc
   pub counted : count ≡ length acc
   pub changed : Changed n (m + 1) w₀ w
@@ -97,7 +97,7 @@ module _ {n m : ℕ} {A : Pattern} {fs fr w₀ w : List ℕ} {c count : ℕ} (s 
     pub link : n + c < length w
     link = omega (arith, s .siblings .links, on .most)
 
-    module _ {more : List ℕ} (e : more ≡ handedOn fs fr c) where
+    module _ {more : List ℕ} (e : more ≡ handedRows fs fr c) where
       more-asc : Asc (m + 1) more
       more-asc = rw e (s .makes .asc-hands c here)
 
@@ -118,7 +118,7 @@ module _ {n m : ℕ} {A : Pattern} {fs fr w₀ w : List ℕ} {c count : ℕ} (s 
         pub falls : getD w₁ (n + c) 0 < c
         falls = rw same-link (on .falls)
 
-        joined : Makes (m + 1) (handedOn fs fr) (on .rest) (merge (s .acc) more) (R A (m + 1))
+        joined : Makes (m + 1) (handedRows fs fr) (on .rest) (merge (s .acc) more) (R A (m + 1))
         joined = rw e (makes-join (rw (on .is) at (s .makes)))
 
         pub count-turn : length w₁ ≡ length w → Counting n m A fs fr w₀ w₁ (getD w₁ (n + c) 0) (count + k)

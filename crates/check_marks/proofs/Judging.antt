@@ -19,7 +19,7 @@ use Rattle.fill_laws.proofs.Fill.{R-asc}
 use Rattle.list_laws.proofs.Every.{every-all}
 use Rattle.child_lists.specs.Marks.{isMarked, Markable}
 use Rattle.column_list.proofs.Gathering.{below}
-use Rattle.check_marks.specs.Marked.{Counted, Comparable}
+use Rattle.check_marks.specs.Marked.{Counted, ListComparable}
 
 -- two ascending lists with as many rows are equal if each row of the one is a row of the other
 pub asc-whole : (b : ℕ) (xs ys : List ℕ) → Asc b xs → Asc b ys → ((i : ℕ) → i ∈ xs → i ∈ ys) → length xs ≡ length ys → xs ≡ ys
@@ -48,7 +48,7 @@ module _ {n m : ℕ} {A : Pattern} {w₀ w : List ℕ} {count : ℕ} (c : Counte
       go (fails e) = sym e
 
 -- a list that may be the column's
-module _ {n m : ℕ} {l starts rows fs fr w₀ : List ℕ} (f : Comparable n m l starts rows fs fr w₀) where
+module _ {n m : ℕ} {l starts rows fs fr w₀ : List ℕ} (f : ListComparable n m l starts rows fs fr w₀) where
   abbrev A : Pattern
   A = columnOf starts rows
 

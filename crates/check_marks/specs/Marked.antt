@@ -9,7 +9,7 @@ use lib.ListN.{length, getD}
 use Rattle.papers.specs.Lists.{_∈_, Asc, Distinct, keep, same}
 use Rattle.papers.specs.Job.{Pattern}
 use Rattle.papers.specs.Fill.{R}
-use Rattle.child_lists.specs.Marks.{marked, isMarked, Markable, Sound, Changed}
+use Rattle.child_lists.specs.Marks.{marked, isMarked, Markable, MarkedWithin, Changed}
 use Rattle.column_list.specs.Stored.{Next}
 
 -- the rows of a list that are not marked for column j
@@ -28,7 +28,7 @@ pub record MarkedNew (n j : ℕ) (list work₀ work : List ℕ) (r : ℕ) : Type
 
 -- exactly the rows of a list are marked for column j
 pub record MarkedAre (n j : ℕ) (work l : List ℕ) : Type 0 where
-  pub sound : Sound n j work l
+  pub sound : MarkedWithin n j work l
   pub all : (i : ℕ) → i ∈ l → getD work (n + n + i) 0 ≡ j
 
 -- count is the number of rows of R(m + 1), exactly these rows are marked, and work has changed only in marks
@@ -38,7 +38,7 @@ pub record Counted (n m : ℕ) (A : Pattern) (work₀ work : List ℕ) (count : 
   pub changed : Changed n (m + 1) work₀ work
 
 -- column m + 1 comes next, and the list ascends above it, up to n
-pub record Comparable (n m : ℕ) (list starts rows fstarts frows work : List ℕ) : Type 0 where
+pub record ListComparable (n m : ℕ) (list starts rows fstarts frows work : List ℕ) : Type 0 where
   pub next : Next n m starts rows fstarts frows work
   pub ascending : Asc (m + 1) list
   pub within : (i : ℕ) → i ∈ list → i ≤ n

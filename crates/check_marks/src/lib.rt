@@ -3,7 +3,7 @@
 // n + i the mark of row i.
 ghost use Rattle.papers.specs.Job.{columnOf};
 ghost use Rattle.column_list.specs.Stored.{Next};
-ghost use Rattle.check_marks.specs.Marked.{MarkableOnce, MarkedNew, Counted, Comparable, Compared};
+ghost use Rattle.check_marks.specs.Marked.{MarkableOnce, MarkedNew, Counted, ListComparable, Compared};
 
 // Marks the rows of a list for column j, and answers how many of them were not marked before. In the loop the rows before k are marked,
 // `count` of them newly. Each mark is stored, new or not, so that no turn waits for what was read.
@@ -67,7 +67,7 @@ pub fn is_all_marked(
     frows: &[u32],
     work: &mut [u64],
 ) -> bool
-    requires { ⌜ Comparable n m (now list) (now starts) (now rows) (now fstarts) (now frows) (now work) ⌝ }
+    requires { ⌜ ListComparable n m (now list) (now starts) (now rows) (now fstarts) (now frows) (now work) ⌝ }
     ensures { λ r. ⌜
         Compared n m (now (list .entry)) (columnOf (now (starts .entry)) (now (rows .entry))) (now (work .entry)) (now (work .exit)) r
         ⌝ }

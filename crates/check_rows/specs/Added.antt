@@ -12,7 +12,7 @@ use Rattle.child_lists.specs.Marks.{marked, isMarked, Markable}
 -- a list begins with the rows of another
 pub record Begins (list more : List ℕ) : Type 0 where
   pub long : length more ≤ length list
-  pub front : take (length more) list ≡ more
+  pub begins : take (length more) list ≡ more
 
 -- tests whether as many rows of a list are marked as there are pattern rows, and all rows behind place p are marked
 abbrev pub addsOwn : ℕ → ℕ → List ℕ → ℕ → List ℕ → List ℕ → Bool

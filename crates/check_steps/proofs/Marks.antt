@@ -1,4 +1,4 @@
--- Proves that marks find a repeated column: the columns of the first steps are marked, so the next step's column is marked exactly if one of these
+-- Proves that marks find a repeatedAt column: the columns of the first steps are marked, so the next step's column is marked exactly if one of these
 -- steps named it.
 -- Assumes nothing.
 use Prim.Native.Nat.{ℕ, suc, _+_, _-_, _<_, _≤_}
@@ -13,7 +13,7 @@ use lib.ListN.{length, getD, set, take, drop, length-append, length-set, length-
 use lib.Seq.{take-suc, length-take-le, getD-set-same, getD-set-other}
 use Rattle.papers.specs.Lists.{_∈_, zeros, least}
 use Rattle.papers.specs.Order.{columnAt}
-use Rattle.papers.specs.Check.{repeated}
+use Rattle.papers.specs.Check.{repeatedAt}
 use Rattle.list_laws.proofs.Members.{member-into, member-out}
 use Rattle.list_laws.proofs.Leasts.{least-none, least-here}
 use Rattle.list_laws.proofs.Tests.{same-or}
@@ -22,18 +22,18 @@ use Rattle.check_steps.specs.Steps.{Within}
 pub record Marks (order work₀ work : List ℕ) (i : ℕ) : Type 0 where
   pub marked : (j : ℕ) → j ≤ length order → 0 < getD work j 0 → j ∈ take i order
   pub unmarked : (j : ℕ) → j ≤ length order → getD work j 0 ≡ 0 → ¬ (j ∈ take i order)
-  pub none : least (repeated order) i ≡ 0
+  pub none : least (repeatedAt order) i ≡ 0
   pub seen : i ≤ length order
   pub long : length work ≡ length work₀
   pub room : length order < length work
 
 module _ (order : List ℕ) where
-  repeats : (i : ℕ) → getD order i 0 ∈ take i order → repeated order (suc i) ≡ true
-  unfolding repeated columnAt
+  repeats : (i : ℕ) → getD order i 0 ∈ take i order → repeatedAt order (suc i) ≡ true
+  unfolding repeatedAt columnAt
   repeats i m = let e : suc i - 1 ≡ i = omega arith in rw e (member-into (getD order i 0) (take i order) m)
 
-  new : (i : ℕ) → ¬ (getD order i 0 ∈ take i order) → repeated order (suc i) ≡ false
-  unfolding repeated columnAt
+  new : (i : ℕ) → ¬ (getD order i 0 ∈ take i order) → repeatedAt order (suc i) ≡ false
+  unfolding repeatedAt columnAt
   new i m = let e : suc i - 1 ≡ i = omega arith in rw e (member-out (getD order i 0) (take i order) m)
 
   -- the first n + 1 numbers of work came back cleared
@@ -59,21 +59,21 @@ module _ (order : List ℕ) where
           (omega (arith, length-take-le (length order + 1) work (omega arith))))
 
   module _ (within : Within (length order) order) (work₀ work : List ℕ) (i : ℕ) (inv : Marks order work₀ work i) where
-    pub marks-stop : length order ≤ i → 0 ≡ least (repeated order) (length order)
+    pub marks-stop : length order ≤ i → 0 ≡ least (repeatedAt order) (length order)
     marks-stop h = let s = inv .seen in let e : i ≡ length order = omega arith in rw e at (sym (inv .none))
 
     module _ (more : i < length order) where
-      found : 0 < getD work (getD order i 0) 0 → i + 1 ≡ least (repeated order) (length order)
+      found : 0 < getD work (getD order i 0) 0 → i + 1 ≡ least (repeatedAt order) (length order)
       found p =
           let e : i + 1 ≡ suc i = omega arith in
-          e ∙ sym (least-here (repeated order) i (length order) (inv .none) (repeats i (inv .marked (getD order i 0) (within i more .1) p))
+          e ∙ sym (least-here (repeatedAt order) i (length order) (inv .none) (repeats i (inv .marked (getD order i 0) (within i more .1) p))
           (omega arith))
 
       turn : getD work (getD order i 0) 0 ≤ 0 → Marks order work₀ (set work (getD order i 0) 1) (i + 1)
       turn p = rw add-one (record {
         marked = λ j l q. rw (take-suc order i 0 more) (one j l q (same-or j (getD order i 0)));
         unmarked = λ j l q m. other j l q (List·Memᴰ·append-cases (take i order) (rw (take-suc order i 0 more) at m));
-        none = least-none (repeated order) i (inv .none) (new i (inv .unmarked (getD order i 0) (within i more .1) (omega arith)));
+        none = least-none (repeatedAt order) i (inv .none) (new i (inv .unmarked (getD order i 0) (within i more .1) (omega arith)));
         seen = omega arith;
         long = length-set work (getD order i 0) 1 ∙ inv .long;
         room = omega (arith, inv .room, length-set work (getD order i 0) 1);
@@ -100,7 +100,7 @@ module _ (order : List ℕ) where
                   last (inr d) = List·Memᴰ·not-nil d
 
       module _ (j : ℕ) (column : j ≡ getD order i 0) where
-        pub marks-found : 0 < getD work j 0 → i + 1 ≡ least (repeated order) (length order)
+        pub marks-found : 0 < getD work j 0 → i + 1 ≡ least (repeatedAt order) (length order)
         marks-found p = found (rw column at p)
 
         pub marks-turn : getD work j 0 ≤ 0 → Marks order work₀ (set work j 1) (i + 1)

@@ -15,18 +15,18 @@ abbrev pub Within : ℕ → List ℕ → Type 0
 Within n order = (k : ℕ) → k < length order → (1 ≤ getD order k 0) × (getD order k 0 ≤ n)
 
 -- place i of a list of known columns
-pub record StepIn (order : List ℕ) (i : ℕ) : Type 0 where
+pub record StepKnown (order : List ℕ) (i : ℕ) : Type 0 where
   pub columns : Within (length order) order
   pub known : i < length order
 
 -- the steps name known columns, and work has a place for the mark of each
-pub record Markable (order work : List ℕ) : Type 0 where
+pub record StepsMarkable (order work : List ℕ) : Type 0 where
   pub columns : Within (length order) order
   pub few : length order ≤ maxColumns
   pub room : length order < length work
 
 -- a tree, as many steps of known columns with their pops, and work has places for the numbers of children
-pub record Comparable (parents order pops work : List ℕ) : Type 0 where
+pub record PopsComparable (parents order pops work : List ℕ) : Type 0 where
   pub tree : TreeIn parents
   pub columns : Within (length order) order
   pub order-length : length order ≡ length parents
@@ -35,5 +35,5 @@ pub record Comparable (parents order pops work : List ℕ) : Type 0 where
   pub room : length parents + 1 < length work
 
 -- 19: the pops of step s are not the number of its column's children
-abbrev pub popsWrong : List ℕ → List ℕ → List ℕ → ℕ → Bool
-popsWrong parents order pops s = not (eqb (getD pops (s - 1) 0) (length (kidsIn parents (columnAt order s))))
+abbrev pub popsDiffer : List ℕ → List ℕ → List ℕ → ℕ → Bool
+popsDiffer parents order pops s = not (eqb (getD pops (s - 1) 0) (length (kidsIn parents (columnAt order s))))

@@ -16,7 +16,7 @@ use Rattle.order_laws.proofs.Subtrees.{subtree-is, subtree-distinct}
 use Rattle.order_laws.proofs.Ordering.{valid-distinct}
 use Rattle.order_laws.proofs.Orders.{steps-order}
 use Rattle.tree.specs.Parents.{parentIn, TreeIn, kidsIn}
-use Rattle.tree.specs.Blocks.{block}
+use Rattle.tree.specs.Blocks.{blockOf}
 use Rattle.tree.specs.Laid.{Descendants}
 use Rattle.tree.proofs.Children.{kids-lower}
 use Rattle.tree.proofs.Blocks.{block-count}
@@ -32,8 +32,8 @@ order-has {n} {order} o long j = (
 
 module _ (parents : List ℕ) (tree : TreeIn parents) (j : ℕ) (l : 1 ≤ j) (u : j ≤ length parents) where
   -- a column's block of steps names the columns of its subtree, each once
-  block-subtree : length (block (kidsIn parents) j) ≡ length (subtreeOf (parentIn parents) (length parents) j)
-  unfolding block
+  block-subtree : length (blockOf (kidsIn parents) j) ≡ length (subtreeOf (parentIn parents) (length parents) j)
+  unfolding blockOf
   block-subtree =
       let o = steps-order tree 0 (λ c. 0) j j l (omega arith) in
       let v = stepsOf 0 (λ c. 0) (kidsIn parents) j j in

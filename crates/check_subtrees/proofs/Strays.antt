@@ -10,8 +10,7 @@ use native.Mathlib.Omega.{arith}
 use lib.Dec.{eqb}
 use borrow.Author.Tests.{eqb-true, eqb-false}
 use Rattle.papers.specs.Lists.{least}
-use Rattle.papers.specs.Order.{columnAt, Together}
-use Rattle.papers.specs.Check.{scattered}
+use Rattle.papers.specs.Order.{columnAt, Together, scattered}
 use Rattle.fill_laws.proofs.Subtrees.{under-trans}
 use Rattle.list_laws.proofs.Tests.{Test, passes, fails, test, strong}
 use Rattle.list_laws.proofs.Leasts.{least-zero-iff, least-found-iff}

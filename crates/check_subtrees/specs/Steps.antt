@@ -14,15 +14,15 @@ pub record EachOnce (n : ℕ) (order : List ℕ) : Type 0 where
   pub once : Distinct order
 
 -- the number that a list holds for column c
-abbrev pub listed : List ℕ → ℕ → ℕ
-listed numbers c = getD numbers c 0
+abbrev pub numberFor : List ℕ → ℕ → ℕ
+numberFor numbers c = getD numbers c 0
 
 -- steps holds the step of each column of the order, counted from 1
-pub record StepsIn (order steps : List ℕ) : Type 0 where
-  pub each : (k : ℕ) → k < length order → listed steps (getD order k 0) ≡ k + 1
+pub record StepOfEach (order steps : List ℕ) : Type 0 where
+  pub each : (k : ℕ) → k < length order → numberFor steps (getD order k 0) ≡ k + 1
 
 -- the order names each column once, and steps has a place for each
-pub record Writable (order steps : List ℕ) : Type 0 where
+pub record StepsWritable (order steps : List ℕ) : Type 0 where
   pub each : EachOnce (length order) order
   pub long : length steps ≡ length order + 1
 

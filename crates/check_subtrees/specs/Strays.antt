@@ -9,7 +9,7 @@ use lib.Dec.{leb, eqb}
 use lib.ListN.{length}
 use Rattle.papers.specs.Bounds.{maxColumns}
 use Rattle.tree.specs.Parents.{TreeIn}
-use Rattle.check_subtrees.specs.Steps.{listed}
+use Rattle.check_subtrees.specs.Steps.{numberFor}
 
 -- 0 if c is a root or its steps are within its parent's; else the parent's step
 unfoldable pub strayStep : (ℕ → ℕ) → (ℕ → ℕ) → (ℕ → ℕ) → ℕ → ℕ
@@ -35,8 +35,8 @@ pub record Placed (parents steps below : List ℕ) : Type 0 where
   pub tree : TreeIn parents
   pub steps-length : length steps ≡ length parents + 1
   pub below-length : length below ≡ length parents + 1
-  pub steps-low : (c : ℕ) → 1 ≤ c → c ≤ length parents → listed steps c ≤ maxColumns
-  pub below-low : (c : ℕ) → 1 ≤ c → c ≤ length parents → listed below c ≤ maxColumns
+  pub steps-low : (c : ℕ) → 1 ≤ c → c ≤ length parents → numberFor steps c ≤ maxColumns
+  pub below-low : (c : ℕ) → 1 ≤ c → c ≤ length parents → numberFor below c ≤ maxColumns
 
 -- one of these columns, at place i
 pub record PlacedAt (parents steps below : List ℕ) (i : ℕ) : Type 0 where

@@ -6,15 +6,15 @@ ghost use mathlib.Core.Path.{_≡_};
 ghost use Prim.Native.Nat.{_+_};
 ghost use lib.ListN.{length};
 ghost use Rattle.papers.specs.Lists.{least};
-ghost use Rattle.papers.specs.Check.{scattered};
+ghost use Rattle.papers.specs.Order.{scattered};
 ghost use Rattle.tree.specs.Parents.{parentIn};
-ghost use Rattle.check_subtrees.specs.Steps.{listed, StepsIn, Writable, OrderGiven};
+ghost use Rattle.check_subtrees.specs.Steps.{numberFor, StepOfEach, StepsWritable, OrderGiven};
 ghost use Rattle.check_subtrees.specs.Strays.{strayStep, earlier, earliest, Placed, PlacedAt};
 
 // Writes the step of each column. In the loop the first k steps are written.
 fn write_steps(order: &[u32], steps: &mut [u64])
-    requires { ⌜ Writable (now order) (now steps) ⌝ }
-    ensures { λ _. ⌜ StepsIn (now (order .entry)) (now (steps .exit)) ⌝ }
+    requires { ⌜ StepsWritable (now order) (now steps) ⌝ }
+    ensures { λ _. ⌜ StepOfEach (now (order .entry)) (now (steps .exit)) ⌝ }
 {
     let mut k = 0;
     while k < order.len() {
@@ -27,7 +27,7 @@ fn write_steps(order: &[u32], steps: &mut [u64])
 // descendants, its parent's at top less the parent's count; the counts change sides, so that no difference falls below 0.
 fn stray_step(parents: &[u32], steps: &[u64], below: &[u64], i: usize) -> u64
     requires { ⌜ PlacedAt (now parents) (now steps) (now below) i ⌝ }
-    ensures { λ r. ⌜ r ≡ strayStep (parentIn (now (parents .entry))) (listed (now (steps .entry))) (listed (now (below .entry))) (i + 1) ⌝ }
+    ensures { λ r. ⌜ r ≡ strayStep (parentIn (now (parents .entry))) (numberFor (now (steps .entry))) (numberFor (now (below .entry))) (i + 1) ⌝ }
 {
     let p = parents[i] as usize;
     if p == 0 {
@@ -61,7 +61,7 @@ fn earlier(a: u64, b: u64) -> u64
 fn first_stray(parents: &[u32], steps: &[u64], below: &[u64]) -> u64
     requires { ⌜ Placed (now parents) (now steps) (now below) ⌝ }
     ensures { λ r. ⌜
-        r ≡ earliest (strayStep (parentIn (now (parents .entry))) (listed (now (steps .entry))) (listed (now (below .entry))))
+        r ≡ earliest (strayStep (parentIn (now (parents .entry))) (numberFor (now (steps .entry))) (numberFor (now (below .entry))))
         (length (now (parents .entry)))
         ⌝ }
 {

@@ -1,12 +1,12 @@
 // The entry point of the check of a plan's bytes for a job.
 use papers::Answer;
 use papers::JobHead;
-ghost use Rattle.papers.specs.Job.{jobOf};
 ghost use Rattle.papers.specs.Refusals.{EndsAs};
+ghost use Rattle.papers.specs.Job.{jobOf};
 ghost use Rattle.papers.specs.Check.{checked};
-ghost use Rattle.lent.specs.Six.{six};
+ghost use Rattle.lent.specs.Six.{sixSlices};
 
-// Checks a plan's bytes. Tests the job, the slices (7), the bytes (11 to 15), the rows (8), then the plan (16 to 20, 9). When done, the
+// Checks a plan's bytes. Tests 1 to 7, the bytes (11 to 15), the rows (8), then the plan (16 to 20, 9). When done, the
 // slices hold the parents and the plan's order, pops, factor starts and factor rows, then zeros, and the count is the peak.
 pub fn check_plan(
     head: JobHead,
@@ -22,26 +22,24 @@ pub fn check_plan(
 ) -> Answer
     ensures { λ r. ⌜
         EndsAs r
-        (six (now (parents .exit)) (now (order .exit)) (now (pops .exit)) (now (fstarts .exit)) (now (frows .exit)) (now (work .exit)))
+        (sixSlices (now (parents .exit)) (now (order .exit)) (now (pops .exit)) (now (fstarts .exit)) (now (frows .exit)) (now (work .exit)))
         (checked (jobOf head (now (starts .entry)) (now (rows .entry))) (now (plan .entry))
-        (six (now (parents .entry)) (now (order .entry)) (now (pops .entry)) (now (fstarts .entry)) (now (frows .entry))
+        (sixSlices (now (parents .entry)) (now (order .entry)) (now (pops .entry)) (now (fstarts .entry)) (now (frows .entry))
         (now (work .entry))))
         ⌝ }
 {
-    let fault = job::first_fault(head, starts, rows);
-    if fault.number != 0 {
-        return fault;
-    }
-    let n = head.n as usize;
-    if lent::too_short(
-        n,
+    let fault = lent::early_fault(
+        head,
+        starts,
+        rows,
         parents.len(),
         order.len(),
         pops.len(),
         fstarts.len(),
         work.len(),
-    ) {
-        return basics::answered(7, 0, 0);
+    );
+    if fault.number != 0 {
+        return fault;
     }
     let answer = check_bytes::judge_bytes(
         head,

@@ -8,8 +8,8 @@ use native.Mathlib.Omega.{arith}
 use lib.ListN.{length, take}
 use Rattle.papers.specs.Lists.{merge}
 use Rattle.joiner.specs.Join.{United}
-use Rattle.list_laws.proofs.Stores.{front-stored}
-use Rattle.child_lists.specs.Buffers.{buffer, held, Holds, Roomy}
+use Rattle.list_laws.proofs.Stores.{stored-at-start}
+use Rattle.child_lists.specs.Buffers.{buffer, listInTurn, Holds, Roomy}
 
 pub first-buffer : (t : ℕ) (x y : List ℕ) → t ≡ 0 → buffer t x y ≡ x
 unfolding buffer
@@ -28,21 +28,21 @@ module _ {t len : ℕ} {more x y : List ℕ} (r : Roomy t len more x y) where
   fits-x e = rw (second-buffer t x y e) at (r .joined-x)
 
   -- joins from x into y
-  pub joined-in-y : {k : ℕ} {y′ : List ℕ} → t ≡ 0 → United (take len x) more y y′ k → Holds (1 - t) k x y′ (merge (held t len x y) more)
+  pub joined-in-y : {k : ℕ} {y′ : List ℕ} → t ≡ 0 → United (take len x) more y y′ k → Holds (1 - t) k x y′ (merge (listInTurn t len x y) more)
   joined-in-y {k} {y′} e u =
       let z : 1 - t ≢ 0 = λ q. omega arith in
       rw (first-buffer t x y e)
       (record {
         count = u .counts;
-        list = rw (second-buffer (1 - t) x y′ z, u .joins, u .counts) (front-stored y (merge (take len x) more) (fits-y e));
+        list = rw (second-buffer (1 - t) x y′ z, u .joins, u .counts) (stored-at-start y (merge (take len x) more) (fits-y e));
       })
 
   -- joins from y into x
-  pub joined-in-x : {k : ℕ} {x′ : List ℕ} → t ≢ 0 → United (take len y) more x x′ k → Holds (1 - t) k x′ y (merge (held t len x y) more)
+  pub joined-in-x : {k : ℕ} {x′ : List ℕ} → t ≢ 0 → United (take len y) more x x′ k → Holds (1 - t) k x′ y (merge (listInTurn t len x y) more)
   joined-in-x {k} {x′} e u =
       let z : 1 - t ≡ 0 = omega arith in
       rw (second-buffer t x y e)
       (record {
         count = u .counts;
-        list = rw (first-buffer (1 - t) x′ y z, u .joins, u .counts) (front-stored x (merge (take len y) more) (fits-x e));
+        list = rw (first-buffer (1 - t) x′ y z, u .joins, u .counts) (stored-at-start x (merge (take len y) more) (fits-x e));
       })

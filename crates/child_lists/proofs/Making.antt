@@ -1,5 +1,5 @@
--- Proves how a column's list grows: one child is joined, or is skipped since it brings nothing. At the end the held list is the whole, since two
--- ascending lists with the same numbers are equal.
+-- Proves how a column's list grows: one child is joined, or is skipped since it brings nothing. At the end the list made so far is the whole, since
+-- two ascending lists with the same numbers are equal.
 -- Assumes nothing.
 use Prim.Native.Nat.{ℕ, _≤_}
 use mathlib.Core.Path.{_≡_, refl}

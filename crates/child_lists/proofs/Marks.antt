@@ -14,7 +14,7 @@ use Rattle.papers.specs.Lists.{_∈_, every}
 use Rattle.list_laws.proofs.Tests.{Compare, below, level, above, compare, below-or}
 use Rattle.list_laws.proofs.Members.{at-place}
 use Rattle.list_laws.proofs.Every.{every-nil, every-yes, every-no, every-all}
-use Rattle.child_lists.specs.Marks.{marked, isMarked, Markable, Sound, Changed}
+use Rattle.child_lists.specs.Marks.{marked, isMarked, Markable, MarkedWithin, Changed}
 
 -- what a store leaves at place p
 set-cases : (l : List ℕ) (k v p : ℕ) → (getD (set l k v) p 0 ≡ getD l p 0) ⊎ ((p ≡ k) × (getD (set l k v) p 0 ≡ v))
@@ -44,8 +44,8 @@ marked-cases n j (r ∷ rs) w p = go (marked-cases n j rs (set w (n + n + r) j) 
     go (inr e) f = inr (e .0, (e .1 .0, (List·Memᴰ·tail (e .1 .1 .0), e .1 .1 .1)))
 
 -- marking keeps marks sound, for a list that contains the old rows and the marked ones
-pub marks-sound : (n j : ℕ) (l w acc more : List ℕ) → Sound n j w acc → ((i : ℕ) → i ∈ acc → i ∈ more) → ((i : ℕ) → i ∈ l → i ∈ more)
-    → Sound n j (marked n j l w) more
+pub marks-sound : (n j : ℕ) (l w acc more : List ℕ) → MarkedWithin n j w acc → ((i : ℕ) → i ∈ acc → i ∈ more) → ((i : ℕ) → i ∈ l → i ∈ more)
+    → MarkedWithin n j (marked n j l w) more
 marks-sound n j l w acc more s f g i h e = go (marked-cases n j l w (n + n + i))
   where
     go : (getD (marked n j l w) (n + n + i) 0 ≡ getD w (n + n + i) 0) ⊎ ((getD (marked n j l w) (n + n + i) 0 ≡ j) ×
@@ -129,5 +129,5 @@ module _ (n j : ℕ) (l w : List ℕ) where
   cover-yes {k} c h = sym (every-nil (isMarked n j w)) ∙ (rw (drop-of-length-le l h) at (c .left))
 
   -- if sound marks cover a list, it brings nothing new
-  pub covered-in : (acc : List ℕ) → every (isMarked n j w) l ≡ true → Sound n j w acc → (i : ℕ) → 1 ≤ i → i ∈ l → i ∈ acc
+  pub covered-in : (acc : List ℕ) → every (isMarked n j w) l ≡ true → MarkedWithin n j w acc → (i : ℕ) → 1 ≤ i → i ∈ l → i ∈ acc
   covered-in acc e s i h m = s i h (eqb-true (getD w (n + n + i) 0) j (every-all (isMarked n j w) l .0 e i m))

@@ -10,10 +10,10 @@ use lib.ListN.{length, getD}
 use Rattle.papers.specs.Lists.{_∈_, merge, every}
 use Rattle.list_laws.proofs.Ascending.{asc-above}
 use Rattle.list_laws.proofs.Merges.{merge-left, merge-right}
-use Rattle.linked_children.specs.Children.{handedOn, StoredChild}
+use Rattle.linked_children.specs.Children.{handedRows, StoredChild}
 use Rattle.linked_children.proofs.Picking.{Further, further, siblings-ext}
 use Rattle.child_lists.specs.Marks.{marked, isMarked, Markable, Changed}
-use Rattle.child_lists.specs.Buffers.{held, Holds, Roomy}
+use Rattle.child_lists.specs.Buffers.{listInTurn, Holds, Roomy}
 use Rattle.child_lists.specs.Joining.{Makes}
 use Rattle.child_lists.proofs.Marks.{marks-sound, changed-more, changed-marked, covered-in}
 use Rattle.child_lists.proofs.Making.{makes-join, makes-skip, makes-few}
@@ -38,14 +38,14 @@ module _ {n j c len : ℕ} {fs fr w₀ x₀ y₀ w x y : List ℕ} {d turn count
   pub link-first : n + d < length w₀
   link-first = rw (← s .long-w) link
 
-  positive : (i : ℕ) → i ∈ handedOn fs fr d → 1 ≤ i
-  positive i m = omega (arith, asc-above j (handedOn fs fr d) (s .makes .asc-hands d here) m)
+  positive : (i : ℕ) → i ∈ handedRows fs fr d → 1 ≤ i
+  positive i m = omega (arith, asc-above j (handedRows fs fr d) (s .makes .asc-hands d here) m)
 
-  makes : Makes j (handedOn fs fr) (d ∷ next .rest) (held turn count x y) (s .whole)
+  makes : Makes j (handedRows fs fr) (d ∷ next .rest) (listInTurn turn count x y) (s .whole)
   makes = rw (next .is) at (s .makes)
 
   -- the rows that d hands on
-  module _ {more : List ℕ} (e : more ≡ handedOn fs fr d) where
+  module _ {more : List ℕ} (e : more ≡ handedRows fs fr d) where
     new-row : (i : ℕ) → i ∈ more → i ∈ s .whole
     new-row i m = s .makes .hands-in d i here (rw e at m)
 
@@ -61,7 +61,7 @@ module _ {n j c len : ℕ} {fs fr w₀ x₀ y₀ w x y : List ℕ} {d turn count
         let ry = s .begun .room-y in
         let lx = s .long-x in
         let ly = s .long-y in
-        record { held-x = omega arith; held-y = omega arith; joined-x = rw e (omega arith); joined-y = rw e (omega arith) }
+        record { list-x = omega arith; list-y = omega arith; joined-x = rw e (omega arith); joined-y = rw e (omega arith) }
 
     -- if all its rows are marked
     pub passes-over : true ≡ every (isMarked n j w) more → State n j c len fs fr w₀ x₀ y₀ w x y (getD w (n + d) 0) turn count
@@ -73,7 +73,7 @@ module _ {n j c len : ℕ} {fs fr w₀ x₀ y₀ w x y : List ℕ} {d turn count
           left = next .rest;
           left-in = λ k m. s .left-in k (rw (next .is) (List·Memᴰ·tail m));
           siblings = next .siblings;
-          makes = makes-skip makes (λ i m. covered-in n j more w (held turn count x y) (sym q) (s .sound) i (positive i m) (rw e m));
+          makes = makes-skip makes (λ i m. covered-in n j more w (listInTurn turn count x y) (sym q) (s .sound) i (positive i m) (rw e m));
           size = s .size;
           sound = s .sound;
           turns = s .turns;
@@ -95,7 +95,7 @@ module _ {n j c len : ℕ} {fs fr w₀ x₀ y₀ w x y : List ℕ} {d turn count
       falls-marked = rw next-link falls
 
       -- and they are joined
-      pub joins : {x′ y′ : List ℕ} {count′ : ℕ} → Holds (1 - turn) count′ x′ y′ (merge (held turn count x y) more)
+      pub joins : {x′ y′ : List ℕ} {count′ : ℕ} → Holds (1 - turn) count′ x′ y′ (merge (listInTurn turn count x y) more)
           → length x′ ≡ length x → length y′ ≡ length y → length w′ ≡ length w
           → State n j c len fs fr w₀ x₀ y₀ w′ x′ y′ (getD w′ (n + d) 0) (1 - turn) count′
       joins q lx ly lw =
@@ -108,8 +108,8 @@ module _ {n j c len : ℕ} {fs fr w₀ x₀ y₀ w x y : List ℕ} {d turn count
             siblings = rw next-link (siblings-ext w′ (next .siblings) (change .links) lw);
             makes = rw (q .list, e) (makes-join makes);
             size = ap length (q .list) ∙ sym (q .count);
-            sound = rw (q .list, f) (marks-sound n j more w (held turn count x y) (merge (held turn count x y) more) (s .sound)
-                (λ i m. merge-left (held turn count x y) more m) (λ i m. merge-right (held turn count x y) more m));
+            sound = rw (q .list, f) (marks-sound n j more w (listInTurn turn count x y) (merge (listInTurn turn count x y) more) (s .sound)
+                (λ i m. merge-left (listInTurn turn count x y) more m) (λ i m. merge-right (listInTurn turn count x y) more m));
             turns = omega arith;
             changed = changed-more w′ (s .changed) change;
             long-w = lw ∙ s .long-w;

@@ -11,18 +11,18 @@ unfoldable pub buffer : ℕ → List ℕ → List ℕ → List ℕ
 buffer zero x y = x
 buffer (suc turn) x y = y
 
--- its first len numbers
-abbrev pub held : ℕ → ℕ → List ℕ → List ℕ → List ℕ
-held turn len x y = take len (buffer turn x y)
+-- the list in it: its first len numbers
+abbrev pub listInTurn : ℕ → ℕ → List ℕ → List ℕ → List ℕ
+listInTurn turn len x y = take len (buffer turn x y)
 
 -- these numbers are the list l
 pub record Holds (turn len : ℕ) (x y l : List ℕ) : Type 0 where
   pub count : len ≡ length l
-  pub list : held turn len x y ≡ l
+  pub list : listInTurn turn len x y ≡ l
 
--- each buffer has room for the held list and for more rows joined to it
+-- each buffer has room for that list and for more rows joined to it
 pub record Roomy (turn len : ℕ) (more x y : List ℕ) : Type 0 where
-  pub held-x : len ≤ length x
-  pub held-y : len ≤ length y
-  pub joined-x : length (merge (held turn len x y) more) ≤ length x
-  pub joined-y : length (merge (held turn len x y) more) ≤ length y
+  pub list-x : len ≤ length x
+  pub list-y : len ≤ length y
+  pub joined-x : length (merge (listInTurn turn len x y) more) ≤ length x
+  pub joined-y : length (merge (listInTurn turn len x y) more) ≤ length y

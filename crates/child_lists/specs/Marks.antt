@@ -25,8 +25,8 @@ pub record Markable (n : ℕ) (l work : List ℕ) : Type 0 where
   pub long : n + n + n < length work
 
 -- every marked row is in the list
-abbrev pub Sound : ℕ → ℕ → List ℕ → List ℕ → Type 0
-Sound n j work l = (i : ℕ) → 1 ≤ i → getD work (n + n + i) 0 ≡ j → i ∈ l
+abbrev pub MarkedWithin : ℕ → ℕ → List ℕ → List ℕ → Type 0
+MarkedWithin n j work l = (i : ℕ) → 1 ≤ i → getD work (n + n + i) 0 ≡ j → i ∈ l
 
 -- work has changed only in marks, which were set to j
 pub record Changed (n j : ℕ) (work₀ work : List ℕ) : Type 0 where

@@ -4,8 +4,8 @@ ghost use mathlib.Core.Path.{_≡_};
 ghost use Prim.Native.Nat.{_-_};
 ghost use Rattle.papers.specs.Lists.{merge, every};
 ghost use Rattle.child_lists.specs.Marks.{marked, isMarked, Markable};
-ghost use Rattle.child_lists.specs.Buffers.{held, Holds, Roomy};
-ghost use Rattle.child_lists.specs.Joining.{Joining, Joined};
+ghost use Rattle.child_lists.specs.Buffers.{listInTurn, Holds, Roomy};
+ghost use Rattle.child_lists.specs.Joining.{Joining, ChildrenJoined};
 
 // Where a gathered list is: the first len rows of the first buffer if turn is 0, else of the second.
 pub struct Gathered {
@@ -45,7 +45,7 @@ pub fn covered(n: usize, j: usize, list: &[u32], work: &[u64]) -> bool
 pub fn join_rows(turn: usize, len: usize, more: &[u32], x: &mut [u32], y: &mut [u32]) -> usize
     requires { ⌜ Roomy turn len (now more) (now x) (now y) ⌝ }
     ensures { λ r. ⌜
-        Holds (1 - turn) r (now (x .exit)) (now (y .exit)) (merge (held turn len (now (x .entry)) (now (y .entry))) (now (more .entry)))
+        Holds (1 - turn) r (now (x .exit)) (now (y .exit)) (merge (listInTurn turn len (now (x .entry)) (now (y .entry))) (now (more .entry)))
         ⌝ }
 {
     if turn == 0 {
@@ -70,7 +70,7 @@ pub fn join_children(
 ) -> Gathered
     requires { ⌜ Joining n j c len (now fstarts) (now frows) (now work) (now x) (now y) ⌝ }
     ensures { λ r. ⌜
-        Joined n j c len (now (fstarts .entry)) (now (frows .entry)) (now (work .entry)) (now (x .entry)) (now (y .entry)) (r .turn)
+        ChildrenJoined n j c len (now (fstarts .entry)) (now (frows .entry)) (now (work .entry)) (now (x .entry)) (now (y .entry)) (r .turn)
         (r .len) (now (work .exit)) (now (x .exit)) (now (y .exit))
         ⌝ }
 {

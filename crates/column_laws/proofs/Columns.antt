@@ -9,11 +9,12 @@ use native.Mathlib.Numerals.{add-one}
 use lib.ListN.{length, getD}
 use Rattle.papers.specs.Lists.{_∈_}
 use Rattle.papers.specs.Job.{columnOf, Below}
+use Rattle.job_laws.specs.Passed.{PassedLists}
 use Rattle.list_laws.specs.Parts.{part}
 use Rattle.list_laws.proofs.Ascending.{asc-above}
 use Rattle.list_laws.proofs.Slices.{At, in-slice, slice-into, slice-rises}
 use Rattle.job_laws.proofs.Starts.{start-at, start-within, column-slice, part-column}
-use Rattle.job_laws.proofs.Passed.{PassedLists, lists-iff, lists-below}
+use Rattle.job_laws.proofs.Passed.{lists-iff, lists-below}
 use Rattle.column_laws.specs.Tested.{Tested}
 
 -- the rows of column m + 1 are the part between its two starts

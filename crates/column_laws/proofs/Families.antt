@@ -52,14 +52,14 @@ module _ (B : ℕ → List ℕ) where
       let s = length-more k in
       let z : length (flat (listsOf (suc k) B)) - length (flat (listsOf k B)) ≡ length (B (suc k)) = omega arith in
       let whole : take (length (flat (listsOf k B)) + length (B (suc k))) rows ≡ flat (listsOf k B) ++ B (suc k) = rw (← s, ← flat-more k)
-      (front (suc k) h) in
+      (at-start (suc k) h) in
       let split : flat (listsOf k B) ++ take (length (B (suc k))) (drop (length (flat (listsOf k B))) rows) ≡ flat (listsOf k B) ++ B (suc k) =
-      rw (take-add (length (flat (listsOf k B))) (length (B (suc k))) rows, front k (omega arith)) at whole in
+      rw (take-add (length (flat (listsOf k B))) (length (B (suc k))) rows, at-start k (omega arith)) at whole in
       rw z (sym (behind (take (length (B (suc k))) (drop (length (flat (listsOf k B))) rows))) ∙ ap (drop (length (flat (listsOf k B)))) split
       ∙ behind (B (suc k)))
     where
-      front : (i : ℕ) → i ≤ m → take (length (flat (listsOf i B))) rows ≡ flat (listsOf i B)
-      front i l =
+      at-start : (i : ℕ) → i ≤ m → take (length (flat (listsOf i B))) rows ≡ flat (listsOf i B)
+      at-start i l =
           sym (take-take (length (flat (listsOf i B))) (length (flat (listsOf m B))) rows (length-grows i m l))
           ∙ ap (take (length (flat (listsOf i B)))) e
           ∙ first-part i m l

@@ -15,22 +15,22 @@ use Rattle.list_laws.proofs.Ascending.{asc-length}
 use Rattle.list_laws.proofs.Merges.{merge-asc, merge-left, merge-right, merge-from}
 use Rattle.fill_laws.proofs.Fill.{R-range}
 use Rattle.column_laws.proofs.Columns.{starts-long, starts-rise, starts-fit}
-use Rattle.list_laws.proofs.Stores.{front-stored}
+use Rattle.list_laws.proofs.Stores.{stored-at-start}
 use Rattle.joiner.specs.Join.{United}
-use Rattle.linked_children.specs.Children.{handedOn, StoredChild, Linked, Longest}
+use Rattle.linked_children.specs.Children.{handedRows, StoredChild, Linked, Longest}
 use Rattle.linked_children.proofs.Picking.{siblings-ext}
-use Rattle.child_lists.specs.Marks.{marked, Markable, Sound, Changed}
-use Rattle.child_lists.specs.Joining.{Makes, Begun, Joining, Joined}
+use Rattle.child_lists.specs.Marks.{marked, Markable, MarkedWithin, Changed}
+use Rattle.child_lists.specs.Joining.{Makes, ListBegun, Joining, ChildrenJoined}
 use Rattle.child_lists.proofs.Marks.{marks-sound, changed-none, changed-more, changed-marked}
 use Rattle.child_lists.proofs.Buffers.{first-buffer}
 use Rattle.child_lists.proofs.Making.{makes-skip, makes-end}
 use Rattle.column_list.specs.Hung.{hung}
-use Rattle.column_list.specs.Stored.{Part, Next, Gatherable, Gathers}
+use Rattle.column_list.specs.Stored.{RowsBetween, Next, Gatherable, Gathers}
 use Rattle.column_list.proofs.Gathering.{below, found-child, chain, siblings, makes}
 use Rattle.column_list.proofs.Owns.{own-asc, own-in, own-makes, own-alone, first-linked, only-child}
 
 -- the pattern rows of the next column are a part of the slice
-pub part-of : {n m : ℕ} {starts rows fs fr w : List ℕ} → Next n m starts rows fs fr w → Part m starts rows
+pub part-of : {n m : ℕ} {starts rows fs fr w : List ℕ} → Next n m starts rows fs fr w → RowsBetween m starts rows
 part-of {m = m} g =
     let l = g .column in
     record {
@@ -46,11 +46,11 @@ module _ {n m : ℕ} {starts rows fs fr w x y : List ℕ} (g : Gatherable n m st
   few : (l : List ℕ) → Asc (m + 1) l → ((i : ℕ) → i ∈ l → i ∈ R A (m + 1)) → length l ≤ n
   few l s f = omega (arith, asc-length n (m + 1) l s (λ i t. R-range (below (g .next)) (m + 1) i (f i t) .1))
 
-  -- R(m + 1) is at the front of x
+  -- R(m + 1) is at the start of x
   holds : (l x₁ : List ℕ) → x₁ ≡ sets x 0 l → length l ≤ length x → l ≡ R A (m + 1) → Gathers n m A w w x₁ y 0 (length l)
   holds l x₁ e h q =
       record {
-        holds = record { count = ap length q; list = rw (first-buffer 0 x₁ y refl, e) (front-stored x l h ∙ q) };
+        holds = record { count = ap length q; list = rw (first-buffer 0 x₁ y refl, e) (stored-at-start x l h ∙ q) };
         changed = changed-none n (m + 1) w;
       }
 
@@ -81,7 +81,7 @@ pub record First (n m : ℕ) (starts rows fs fr w x y own more : List ℕ) : Typ
   pub some : getD w (m + 1) 0 ≢ 0
   pub child : ℕ
   pub longest : Longest n (getD w (m + 1) 0) fs w child
-  pub more-is : more ≡ handedOn fs fr child
+  pub more-is : more ≡ handedRows fs fr child
 
 module _ {n m : ℕ} {starts rows fs fr w x y own more : List ℕ} (f : First n m starts rows fs fr w x y own more) where
   abbrev g : Gatherable n m starts rows fs fr w x y
@@ -94,7 +94,7 @@ module _ {n m : ℕ} {starts rows fs fr w x y own more : List ℕ} (f : First n 
   member : f .child ∈ hung (A g) m (m + 1)
   member = f .longest .among (hung (A g) m (m + 1)) (chain (g .next)) (f .some)
 
-  begun : Makes (m + 1) (handedOn fs fr) (hung (A g) m (m + 1)) (merge own more) (R (A g) (m + 1))
+  begun : Makes (m + 1) (handedRows fs fr) (hung (A g) m (m + 1)) (merge own more) (R (A g) (m + 1))
   begun =
       let o = own-makes (g .next) (f .own-is) in
       makes (g .next) (merge own more)
@@ -110,8 +110,8 @@ module _ {n m : ℕ} {starts rows fs fr w x y own more : List ℕ} (f : First n 
 
   -- x holds the two joined
   module _ {x₁ : List ℕ} {len : ℕ} (u : United own more x x₁ len) where
-    front : take len x₁ ≡ merge own more
-    front = rw (u .joins, u .counts) (front-stored x (merge own more) first-fits)
+    at-start : take len x₁ ≡ merge own more
+    at-start = rw (u .joins, u .counts) (stored-at-start x (merge own more) first-fits)
 
     long : length x₁ ≡ length x
     long = ap length (u .joins) ∙ length-sets x 0 (merge own more)
@@ -134,18 +134,18 @@ module _ {n m : ℕ} {starts rows fs fr w x y own more : List ℕ} (f : First n 
 
     -- several children: the rows of x are marked, and the other children follow
     pub first-markable : Markable n (take len x₁) w
-    first-markable = record { most = λ i t. range i (rw front at t) .1; long = g .next .stored .work-long }
+    first-markable = record { most = λ i t. range i (rw at-start at t) .1; long = g .next .stored .work-long }
 
     module _ {w₁ : List ℕ} (k : w₁ ≡ marked n (m + 1) (take len x₁) w) (lw : length w₁ ≡ length w) where
       change : Changed n (m + 1) w w₁
-      change = rw k (changed-marked n (m + 1) (take len x₁) w (λ i t. omega (arith, range i (rw front at t) .0)))
+      change = rw k (changed-marked n (m + 1) (take len x₁) w (λ i t. omega (arith, range i (rw at-start at t) .0)))
 
-      ready : Begun n (m + 1) (getD w (m + 1) 0) len fs fr w₁ x₁ y (hung (A g) m (m + 1)) (R (A g) (m + 1))
+      ready : ListBegun n (m + 1) (getD w (m + 1) 0) len fs fr w₁ x₁ y (hung (A g) m (m + 1)) (R (A g) (m + 1))
       ready =
           record {
             siblings = siblings-ext w₁ (siblings (g .next)) (change .links) lw;
             ends = λ c t. found-child (g .next) c t .stands .ends;
-            makes = rw front begun;
+            makes = rw at-start begun;
             most = λ i t. R-range (below (g .next)) (m + 1) i t .1;
             few = first-len;
             sound = rw k (marks-sound n (m + 1) (take len x₁) w [] (take len x₁) unmarked (λ i t. absurd (List·Memᴰ·not-nil t)) (λ i t. t));
@@ -154,13 +154,13 @@ module _ {n m : ℕ} {starts rows fs fr w x y own more : List ℕ} (f : First n 
             room-work = rw lw (g .next .stored .work-long);
           }
         where
-          unmarked : Sound n (m + 1) w []
+          unmarked : MarkedWithin n (m + 1) w []
           unmarked i l e = absurd (omega (arith, g .next .stored .fresh (n + n + i) (omega arith)))
 
       pub several : Joining n (m + 1) (getD w (m + 1) 0) len fs fr w₁ x₁ y
       several = record { children = hung (A g) m (m + 1); whole = R (A g) (m + 1); begun = ready }
 
-      pub all-joined : {w₂ x₂ y₂ : List ℕ} {turn count : ℕ} → Joined n (m + 1) (getD w (m + 1) 0) len fs fr w₁ x₁ y turn count w₂ x₂ y₂
+      pub all-joined : {w₂ x₂ y₂ : List ℕ} {turn count : ℕ} → ChildrenJoined n (m + 1) (getD w (m + 1) 0) len fs fr w₁ x₁ y turn count w₂ x₂ y₂
           → Gathers n m (A g) w w₂ x₂ y₂ turn count
       all-joined {w₂} r =
           record { holds = r .list (hung (A g) m (m + 1)) (R (A g) (m + 1)) ready; changed = changed-more w₂ change (r .changed) }

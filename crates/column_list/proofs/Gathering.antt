@@ -11,28 +11,29 @@ use Rattle.papers.specs.Lists.{_∈_, Asc, head0}
 use Rattle.papers.specs.Job.{Pattern, Below, columnOf}
 use Rattle.papers.specs.Fill.{R}
 use Rattle.papers.specs.Tree.{parent}
+use Rattle.fill_laws.specs.Rows.{FromChild}
 use Rattle.list_laws.proofs.Ascending.{asc-above, drop-head}
 use Rattle.fill_laws.proofs.Fill.{R-asc}
 use Rattle.fill_laws.proofs.Parents.{child-cons, parent-above}
-use Rattle.fill_laws.proofs.Children.{FromChild, R-children}
+use Rattle.fill_laws.proofs.Children.{R-children}
 use Rattle.column_laws.specs.Chains.{Chain}
 use Rattle.column_laws.proofs.Columns.{tested-below}
 use Rattle.list_laws.proofs.Parts.{part-rest}
 use Rattle.column_laws.proofs.Chains.{desc-first}
 use Rattle.column_laws.proofs.Families.{length-more, length-grows, list-at}
-use Rattle.linked_children.specs.Children.{handedOn, StoredChild, Siblings}
+use Rattle.linked_children.specs.Children.{handedRows, StoredChild, Siblings}
 use Rattle.child_lists.specs.Joining.{Makes}
 use Rattle.column_list.specs.Hung.{hung}
-use Rattle.column_list.specs.Stored.{rowsTo, Stored, Next}
+use Rattle.column_list.specs.Stored.{rowsTo, ListsStored, Next}
 use Rattle.column_list.proofs.Hung.{hung-from, hung-into, hung-desc}
 
 -- ---- the list of a column as it is stored
 
-module _ {n m : ℕ} {A : Pattern} {fs fr w : List ℕ} (st : Stored n m A fs fr w) where
+module _ {n m : ℕ} {A : Pattern} {fs fr w : List ℕ} (st : ListsStored n m A fs fr w) where
   -- the list of a column with rows
   pub record Found (c : ℕ) : Type 0 where
     pub stands : StoredChild c fs fr
-    pub hands : handedOn fs fr c ≡ drop 1 (R A c)
+    pub hands : handedRows fs fr c ≡ drop 1 (R A c)
 
   pub found : (c : ℕ) → 1 ≤ c → c ≤ m → m < n → 0 < length (R A c) → Found c
   found zero a b mn h = absurd (omega arith)
@@ -90,7 +91,7 @@ module _ {n m : ℕ} {starts rows fs fr w : List ℕ} (g : Next n m starts rows 
 
   -- the pattern rows and what the children hand on make R(m + 1), from any list between the two on
   pub makes : (acc : List ℕ) → Asc (m + 1) acc → ((i : ℕ) → i ∈ A (m + 1) → i ∈ acc) → ((i : ℕ) → i ∈ acc → i ∈ R A (m + 1))
-      → Makes (m + 1) (handedOn fs fr) (hung A m (m + 1)) acc (R A (m + 1))
+      → Makes (m + 1) (handedRows fs fr) (hung A m (m + 1)) acc (R A (m + 1))
   makes acc s own into =
       record {
         asc = s;
@@ -118,7 +119,7 @@ module _ {n m : ℕ} {starts rows fs fr w : List ℕ} (g : Next n m starts rows 
           positive zero e = absurd (omega (arith, e, no-parent A))
           positive (suc d) e = omega arith
 
-      made : (i : ℕ) → (i ∈ A (m + 1)) ⊎ FromChild A (m + 1) i → (i ∈ acc) ⊎ ((d : ℕ) × ((d ∈ hung A m (m + 1)) × (i ∈ handedOn fs fr d)))
+      made : (i : ℕ) → (i ∈ A (m + 1)) ⊎ FromChild A (m + 1) i → (i ∈ acc) ⊎ ((d : ℕ) × ((d ∈ hung A m (m + 1)) × (i ∈ handedRows fs fr d)))
       made i (inl t) = inl (own i t)
       made i (inr c) =
           let t = hung-child (c .child) (c .child-of) in

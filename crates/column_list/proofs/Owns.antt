@@ -13,7 +13,7 @@ use Rattle.papers.specs.Fill.{R}
 use Rattle.list_laws.proofs.Ascending.{asc-above}
 use Rattle.fill_laws.proofs.Fill.{R-pattern}
 use Rattle.column_laws.proofs.Chains.{chain-end, chain-on}
-use Rattle.linked_children.specs.Children.{handedOn}
+use Rattle.linked_children.specs.Children.{handedRows}
 use Rattle.child_lists.specs.Marks.{marked, Markable, Changed}
 use Rattle.child_lists.specs.Joining.{Makes}
 use Rattle.child_lists.proofs.Marks.{changed-marked}
@@ -33,7 +33,7 @@ module _ {n m : ℕ} {starts rows fs fr w : List ℕ} (g : Next n m starts rows 
     own-in i t = R-pattern (below g) (m + 1) i (rw o at t)
 
     -- they and what the children hand on make R(m + 1)
-    pub own-makes : Makes (m + 1) (handedOn fs fr) (hung (columnOf starts rows) m (m + 1)) own (R (columnOf starts rows) (m + 1))
+    pub own-makes : Makes (m + 1) (handedRows fs fr) (hung (columnOf starts rows) m (m + 1)) own (R (columnOf starts rows) (m + 1))
     own-makes = makes g own own-asc (λ i t. rw o t) own-in
 
     -- without a child they are R(m + 1)

@@ -6,8 +6,8 @@ use mathlib.Core.List.{List}
 use lib.ListN.{length, getD, take}
 use Rattle.papers.specs.Lists.{flat}
 use Rattle.papers.specs.Job.{Pattern, columnOf}
-use Rattle.papers.specs.Key.{listsOf}
 use Rattle.papers.specs.Fill.{R}
+use Rattle.papers.specs.Key.{listsOf}
 use Rattle.column_laws.specs.Tested.{Tested}
 use Rattle.column_laws.specs.Chains.{Chain}
 use Rattle.child_lists.specs.Marks.{Changed, Fresh}
@@ -15,7 +15,7 @@ use Rattle.child_lists.specs.Buffers.{Holds}
 use Rattle.column_list.specs.Hung.{hung}
 
 -- the rows of column m + 1 are between its two starts
-pub record Part (m : ℕ) (starts rows : List ℕ) : Type 0 where
+pub record RowsBetween (m : ℕ) (starts rows : List ℕ) : Type 0 where
   pub started : m + 1 < length starts
   pub rises : getD starts m 0 ≤ getD starts (m + 1) 0
   pub ends : getD starts (m + 1) 0 ≤ length rows
@@ -25,7 +25,7 @@ abbrev pub rowsTo : Pattern → ℕ → List ℕ
 rowsTo A m = flat (listsOf m (R A))
 
 -- the state after m columns
-pub record Stored (n m : ℕ) (A : Pattern) (fstarts frows work : List ℕ) : Type 0 where
+pub record ListsStored (n m : ℕ) (A : Pattern) (fstarts frows work : List ℕ) : Type 0 where
   pub rows-fit : length (rowsTo A m) ≤ length frows
   pub rows-are : take (length (rowsTo A m)) frows ≡ rowsTo A m
   pub starts-long : n < length fstarts
@@ -38,7 +38,7 @@ pub record Stored (n m : ℕ) (A : Pattern) (fstarts frows work : List ℕ) : Ty
 pub record Next (n m : ℕ) (starts rows fstarts frows work : List ℕ) : Type 0 where
   pub tested : Tested n starts rows
   pub column : m < n
-  pub stored : Stored n m (columnOf starts rows) fstarts frows work
+  pub stored : ListsStored n m (columnOf starts rows) fstarts frows work
 
 -- two buffers are lent for its list
 pub record Gatherable (n m : ℕ) (starts rows fstarts frows work x y : List ℕ) : Type 0 where

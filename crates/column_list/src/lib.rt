@@ -4,12 +4,12 @@ use child_lists::Gathered;
 ghost use mathlib.Core.Path.{_≡_};
 ghost use Prim.Native.Nat.{_+_};
 ghost use Rattle.papers.specs.Job.{columnOf};
-ghost use Rattle.child_lists.specs.Buffers.{held};
-ghost use Rattle.column_list.specs.Stored.{Part, Gatherable, Gathers, Buffered};
+ghost use Rattle.child_lists.specs.Buffers.{listInTurn};
+ghost use Rattle.column_list.specs.Stored.{RowsBetween, Gatherable, Gathers, Buffered};
 
 // The pattern rows of column m + 1.
 pub fn pattern_rows<'a>(m: usize, starts: &[u64], rows: &'a [u32]) -> &'a [u32]
-    requires { ⌜ Part m (now starts) (now rows) ⌝ }
+    requires { ⌜ RowsBetween m (now starts) (now rows) ⌝ }
     ensures { λ r. ⌜ now r ≡ columnOf (now (starts .entry)) (now (rows .entry)) (m + 1) ⌝ }
 {
     let s = starts[m] as usize;
@@ -58,7 +58,7 @@ pub fn gather<'a>(
 // The list that was gathered.
 pub fn gathered<'a>(g: Gathered, x: &'a [u32], y: &'a [u32]) -> &'a [u32]
     requires { ⌜ Buffered (g .len) (now x) (now y) ⌝ }
-    ensures { λ r. ⌜ now r ≡ held (g .turn) (g .len) (now (x .entry)) (now (y .entry)) ⌝ }
+    ensures { λ r. ⌜ now r ≡ listInTurn (g .turn) (g .len) (now (x .entry)) (now (y .entry)) ⌝ }
 {
     if g.turn == 0 {
         &x[..g.len]

@@ -12,18 +12,12 @@ use Rattle.papers.specs.Lists.{_∈_, Asc}
 use Rattle.papers.specs.Job.{Pattern, Below}
 use Rattle.papers.specs.Fill.{R}
 use Rattle.papers.specs.Tree.{parent, Under, top, up}
+use Rattle.fill_laws.specs.Rows.{FromChild}
 use Rattle.list_laws.proofs.Ascending.{asc-above, asc-ext, drop-head}
 use Rattle.fill_laws.proofs.Fill.{Earlier, R-asc, R-pattern, R-cases}
 use Rattle.fill_laws.proofs.Parents.{child-cons, parent-above, parent-least, hands-on}
 use Rattle.fill_laws.proofs.Subtrees.{under-le, row-under}
 use Rattle.fill_laws.proofs.Joins.{joinAll, join-asc, join-acc, join-into, join-from}
-
--- a child of j that has the row i above j
-pub record FromChild (A : Pattern) (j i : ℕ) : Type 0 where
-  pub child : ℕ
-  pub child-of : parent A child ≡ j
-  pub row : i ∈ R A child
-  pub above : j < i
 
 module _ {n : ℕ} {A : Pattern} (good : Below n A) where
   climbs : (j k i : ℕ) → Under (parent A) j k → k < j → i ∈ R A k → j < i → FromChild A j i

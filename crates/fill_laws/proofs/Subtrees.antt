@@ -10,16 +10,10 @@ use Rattle.papers.specs.Lists.{_∈_}
 use Rattle.papers.specs.Job.{Pattern, Below}
 use Rattle.papers.specs.Fill.{R}
 use Rattle.papers.specs.Tree.{parent, Under, top, up}
+use Rattle.fill_laws.specs.Rows.{Reached}
 use Rattle.list_laws.proofs.Tests.{strong}
 use Rattle.fill_laws.proofs.Fill.{Earlier, R-range, R-pattern, R-cases}
 use Rattle.fill_laws.proofs.Parents.{parent-above, parent-least, hands-on}
-
--- the pattern has i at a column of the subtree of k, and k is below i
-pub record Reached (A : Pattern) (i k : ℕ) : Type 0 where
-  pub column : ℕ
-  pub given : i ∈ A column
-  pub under : Under (parent A) k column
-  pub above : k < i
 
 -- if k is in the subtree of j, then all of the subtree of k is
 pub under-trans : (par : ℕ → ℕ) (j k l : ℕ) → Under par j k → Under par k l → Under par j l

@@ -11,7 +11,7 @@ use lib.Seq.{sets}
 use Rattle.papers.specs.Bounds.{maxGroups}
 use Rattle.papers.specs.Numbers.{bytesOf, groupsOf}
 use Rattle.bytes_laws.proofs.Numbers.{Grouped, last, more, grouped, groups-small, groups-large, groups-length}
-use Rattle.groups.specs.Fits.{Fits}
+use Rattle.groups.specs.Fits.{FitsGroups}
 
 -- below 128 a number is its one byte
 pub bytes-small : (x : ℕ) → x < 128 → bytesOf x ≡ x ∷ []
@@ -36,9 +36,9 @@ pub record Left (d₀ : List ℕ) (at x : ℕ) (d : List ℕ) (v i : ℕ) : Type
   pub stored : sets d i (groupsOf groups v) ≡ sets d₀ at (bytesOf x)
   pub long : length d ≡ length d₀
 
-pub start : (d : List ℕ) (at x : ℕ) → Fits x → Left d at x d x at
+pub written-start : (d : List ℕ) (at x : ℕ) → FitsGroups x → Left d at x d x at
 unfolding bytesOf
-start d at x h = record { groups = maxGroups - 1; few = grouped (maxGroups - 1) x h; place = refl; stored = refl; long = refl }
+written-start d at x h = record { groups = maxGroups - 1; few = grouped (maxGroups - 1) x h; place = refl; stored = refl; long = refl }
 
 -- a group is left, so the next group's place is one of x's places
 pub inside : {d₀ : List ℕ} {at x : ℕ} {d : List ℕ} {v i : ℕ} → Left d₀ at x d v i → i < at + length (bytesOf x)

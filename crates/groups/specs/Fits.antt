@@ -4,5 +4,5 @@ use Prim.Native.Nat.{ℕ, _*_, _^_, _<_}
 use Rattle.papers.specs.Bounds.{maxGroups}
 
 -- x fits into the greatest number of groups
-abbrev pub Fits : ℕ → Type 0
-Fits x = x < 2 ^ (7 * maxGroups)
+abbrev pub FitsGroups : ℕ → Type 0
+FitsGroups x = x < 2 ^ (7 * maxGroups)

@@ -2,7 +2,7 @@
 ghost use mathlib.Core.Path.{_≡_};
 ghost use lib.ListN.{length};
 ghost use Rattle.papers.specs.Numbers.{bytesOf};
-ghost use Rattle.groups.specs.Fits.{Fits};
+ghost use Rattle.groups.specs.Fits.{FitsGroups};
 ghost use Rattle.groups.specs.InArray.{InArray};
 
 // The bytes of a number in a little array: the first `count` of it, then zeros.
@@ -13,7 +13,7 @@ pub struct Groups {
 
 // Counts the groups of seven bits of x: one below 128; else its bits, known from its leading zeros, divided by seven and rounded up.
 pub fn length(x: u64) -> usize
-    requires { ⌜ Fits x ⌝ }
+    requires { ⌜ FitsGroups x ⌝ }
     ensures { λ r. ⌜ r ≡ length (bytesOf x) ⌝ }
 {
     if x < 128 {
@@ -25,7 +25,7 @@ pub fn length(x: u64) -> usize
 
 // Makes the bytes of x. In the loop the groups before count are stored, and v is what is left of x.
 pub fn number(x: u64) -> Groups
-    requires { ⌜ Fits x ⌝ }
+    requires { ⌜ FitsGroups x ⌝ }
     ensures { λ r. ⌜ InArray x (r .bytes) (r .count) ⌝ }
 {
     let mut bytes = [0u8; papers::MAX_GROUPS];

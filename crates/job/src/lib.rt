@@ -2,12 +2,12 @@
 use papers::Answer;
 use papers::JobHead;
 ghost use mathlib.Core.Path.{_≡_};
-ghost use Rattle.papers.specs.Job.{jobOf};
-ghost use Rattle.papers.specs.Refusals.{answerOf, first, jobTests};
+ghost use Rattle.papers.specs.Refusals.{answerOf, first};
+ghost use Rattle.papers.specs.Job.{jobOf, jobRefusals};
 
 // Answers the first of 1 to 6 that refuses. Computes nothing from n before n is known to be within its bound.
 pub fn first_fault(head: JobHead, starts: &[u64], rows: &[u32]) -> Answer
-    ensures { λ r. ⌜ r ≡ answerOf (first jobTests (jobOf head (now (starts .entry)) (now (rows .entry)))) ⌝ }
+    ensures { λ r. ⌜ r ≡ answerOf (first jobRefusals (jobOf head (now (starts .entry)) (now (rows .entry)))) ⌝ }
 {
     if papers::MAX_COLUMNS < head.n {
         return basics::answered(1, 0, 0);

@@ -9,7 +9,7 @@ use native.Mathlib.Omega.{arith}
 use lib.Dec.{ltb}
 use borrow.Author.Tests.{ltb-true, ltb-false, lt-ltb, le-ltb}
 use Rattle.papers.specs.Lists.{least}
-use Rattle.papers.specs.Refusals.{answer, Leaves, Verdict, passed, refused, refusedAt}
+use Rattle.papers.specs.Refusals.{answer, Verdict, passed, refused, refusedAt}
 use Rattle.list_laws.proofs.Leasts.{least-none, least-here, least-zero-iff, least-found-iff}
 use Rattle.job_laws.proofs.Firsts.{refused-passed}
 
@@ -27,26 +27,26 @@ module _ (fault : ℕ → ℕ) where
       let i = least-zero-iff (faulty fault) n in
       (λ z k l h. omega (arith, ltb-false 0 (fault k) (i .0 z k l h)), λ g. i .1 (λ k l h. le-ltb 0 (fault k) (omega (arith, g k l h))))
 
-  module _ (n : ℕ) (count : ℕ → ℕ) (leaves : Leaves) where
+  module _ (n : ℕ) (count : ℕ → ℕ) where
     -- the verdict on the places 1 to n
     abbrev pub faultTest : Verdict
-    faultTest = let k = least (faulty fault) n in refusedAt (fault k) k (count k) leaves
+    faultTest = let k = least (faulty fault) n in refusedAt (fault k) k (count k)
 
     pub faults-pass : least (faulty fault) n ≡ 0 → faultTest ≡ passed
     unfolding refusedAt
     faults-pass z = rw z
 
-    at-place : (k : ℕ) → least (faulty fault) n ≡ suc k → faultTest ≡ refused (answer (fault (suc k)) (suc k) (count (suc k))) leaves
+    at-place : (k : ℕ) → least (faulty fault) n ≡ suc k → faultTest ≡ refused (answer (fault (suc k)) (suc k) (count (suc k)))
     unfolding refusedAt
     at-place k e = rw e
 
     -- the first place with a fault is named
     pub faults-refuse : (k : ℕ) → least (faulty fault) k ≡ 0 → suc k ≤ n → 0 < fault (suc k)
-        → faultTest ≡ refused (answer (fault (suc k)) (suc k) (count (suc k))) leaves
+        → faultTest ≡ refused (answer (fault (suc k)) (suc k) (count (suc k)))
     faults-refuse k z l h = at-place k (least-here (faulty fault) k n z (lt-ltb 0 (fault (suc k)) h) l)
 
     -- what holds of passing, and of the refusal of each place, holds of the verdict
-    pub faults-each : (P : Verdict → Type 0) → P passed → ((k : ℕ) → 1 ≤ k → k ≤ n → 0 < fault k → P (refused (answer (fault k) k (count k)) leaves))
+    pub faults-each : (P : Verdict → Type 0) → P passed → ((k : ℕ) → 1 ≤ k → k ≤ n → 0 < fault k → P (refused (answer (fault k) k (count k))))
         → P faultTest
     faults-each P p h = go (least (faulty fault) n) refl
       where

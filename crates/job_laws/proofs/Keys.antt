@@ -8,19 +8,19 @@ use mathlib.Core.List.{List, [], _∷_, _++_}
 use native.Mathlib.Omega.{arith}
 use lib.ListN.{length}
 use lib.Seq.{ext-getD}
+use Rattle.papers.specs.Plan.{RowsFit, ListsFit}
 use Rattle.papers.specs.Bounds.{edition, maxColumns, maxMark, maxLimit}
 use Rattle.papers.specs.Lists.{flat, startsFrom}
-use Rattle.papers.specs.Numbers.{bytesOf, encode}
-use Rattle.papers.specs.Job.{Job, Pattern, pattern}
-use Rattle.papers.specs.Key.{listsNumbers, listsOf, keyNumbers, keyOf}
-use Rattle.papers.specs.Plan.{got}
-use Rattle.papers.specs.Refusals.{passed, first, jobTests}
-use Rattle.papers.specs.Call.{readKey}
+use Rattle.papers.specs.Refusals.{passed, first}
+use Rattle.papers.specs.Job.{Job, Pattern, pattern, jobRefusals}
+use Rattle.papers.specs.Numbers.{bytesOf, encode, got}
+use Rattle.papers.specs.Key.{listsNumbers, listsOf, keyNumbers, keyOf, readKey}
+use Rattle.job_laws.specs.Passed.{Passed}
 use Rattle.bytes_laws.proofs.Fields.{got-inj, then-got, Spans, spans-cut, spans-end, field-back}
-use Rattle.bytes_laws.proofs.Gaps.{RowsFit, ListsFit, lists-back}
+use Rattle.bytes_laws.proofs.Gaps.{lists-back}
 use Rattle.bytes_laws.proofs.Plans.{end-got}
-use Rattle.job_laws.specs.Same.{Same}
-use Rattle.job_laws.proofs.Passed.{Passed, passes-iff, passed-below}
+use Rattle.job_laws.specs.Same.{SameJob}
+use Rattle.job_laws.proofs.Passed.{passes-iff, passed-below}
 use Rattle.job_laws.proofs.Laid.{lists-none, lists-more, length-lists, lists-at, rows-laid, starts-laid}
 
 -- ---- the lists of columns fit their fields
@@ -71,12 +71,12 @@ same-lists n A B h =
     ext-getD [] (listsOf n A) (listsOf n B) (omega arith) (λ k u. let q : k < n = omega arith in lists-at A n k q ∙ h (suc k) (omega arith)
     (omega arith) ∙ sym (lists-at B n k q))
 
-module _ (a b : Job) (pa : first jobTests a ≡ passed) (pb : first jobTests b ≡ passed) where
+module _ (a b : Job) (pa : Passed a) (pb : Passed b) where
   -- jobs that agree in these are the same job, with the same starts and rows
-  pub same-job : Same a b → a ≡ b
+  pub same-job : SameJob a b → a ≡ b
   same-job s =
-      let p = passes-iff a .0 pa .lists .whole in
-      let q = passes-iff b .0 pb .lists .whole in
+      let p = pa .lists .whole in
+      let q = pb .lists .whole in
       let lists : listsOf (a .n) (pattern a) ≡ listsOf (b .n) (pattern b) = same-lists (a .n) (pattern a) (pattern b) (s .rows) ∙ ap
       (λ (n : ℕ). listsOf n (pattern b)) (s .columns) in
       let starts : a .starts ≡ b .starts = sym (starts-laid p) ∙ ap (startsFrom 0) lists ∙ starts-laid q in
@@ -84,11 +84,11 @@ module _ (a b : Job) (pa : first jobTests a ≡ passed) (pb : first jobTests b �
       λ i. record { n = s .columns i; starts = starts i; rows = rows i; mark = s .marks i; limit = s .limits i }
 
   -- two jobs have the same key exactly when they agree in n, mark, limit and the pattern rows of each column
-  pub key-same-iff : (keyOf a ≡ keyOf b) ↔ Same a b
+  pub key-same-iff : (keyOf a ≡ keyOf b) ↔ SameJob a b
   key-same-iff =
-      (λ e. agree (got-inj (sym (key-back a (passes-iff a .0 pa)) ∙ ap readKey e ∙ key-back b (passes-iff b .0 pb)) .0), λ s. ap keyOf (same-job s))
+      (λ e. agree (got-inj (sym (key-back a pa) ∙ ap readKey e ∙ key-back b pb) .0), λ s. ap keyOf (same-job s))
     where
-      agree : a ≡ b → Same a b
+      agree : a ≡ b → SameJob a b
       agree e =
           record {
             columns = ap (λ (j : Job). j .n) e;

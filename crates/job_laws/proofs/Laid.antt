@@ -10,9 +10,10 @@ use lib.Seq.{slice, take-at, drop-at, take-suc, take-take, take-all, length-slic
 use Rattle.papers.specs.Lists.{upTo, flat, startsFrom}
 use Rattle.papers.specs.Job.{Pattern, start, columnOf}
 use Rattle.papers.specs.Key.{listsOf}
+use Rattle.job_laws.specs.Passed.{Starts}
 use Rattle.list_laws.proofs.UpTo.{map-upTo, length-family, family-at}
 use Rattle.list_laws.proofs.Stores.{flat-append, starts-more, length-starts}
-use Rattle.job_laws.proofs.Starts.{Starts, start-at, column-at, start-within}
+use Rattle.job_laws.proofs.Starts.{start-at, column-at, start-within}
 
 -- ---- the lists of the columns 1 to n
 
@@ -92,45 +93,45 @@ module _ {n : ℕ} {starts rows : List ℕ} (s : Starts n starts rows) where
   column-length k h = length-slice (start starts (suc k)) (start starts (suc (suc k))) rows (start-within s (suc (suc k)) (omega arith) (omega arith))
 
   -- the lists of the first k columns are the rows up to start k + 1, and their starts are the first k + 1
-  rows-front : (k : ℕ) → k ≤ n → flat (listsOf k (columnOf starts rows)) ≡ take (start starts (suc k)) rows
+  rows-first : (k : ℕ) → k ≤ n → flat (listsOf k (columnOf starts rows)) ≡ take (start starts (suc k)) rows
   unfolding columnOf flat
-  rows-front zero h = rw (lists-none (columnOf starts rows), s .from-zero)
-  rows-front (suc k) h =
+  rows-first zero h = rw (lists-none (columnOf starts rows), s .from-zero)
+  rows-first (suc k) h =
       let a = start starts (suc k) in
       let b = start starts (suc (suc k)) in
       rw (
         lists-more (columnOf starts rows) k,
         flat-append (listsOf k (columnOf starts rows)) (columnOf starts rows (suc k) ∷ []),
         append-nil (slice a b rows),
-        rows-front k (omega arith),
+        rows-first k (omega arith),
       )
       (ap (λ (l : List ℕ). l ++ slice a b rows) (sym (take-take a b rows (s .rising (suc k) (omega arith) h))) ∙ take-append-drop a (take b rows))
 
-  starts-front : (k : ℕ) → k ≤ n → startsFrom 0 (listsOf k (columnOf starts rows)) ≡ take (suc k) starts
+  starts-first : (k : ℕ) → k ≤ n → startsFrom 0 (listsOf k (columnOf starts rows)) ≡ take (suc k) starts
   unfolding startsFrom
-  starts-front zero h =
+  starts-first zero h =
       let q = s .long in
       rw (lists-none (columnOf starts rows), take-suc starts 0 0 (omega arith), ← start-at starts 0, s .from-zero)
-  starts-front (suc k) h =
+  starts-first (suc k) h =
       let a = start starts (suc k) in
       let b = start starts (suc (suc k)) in
       let q = s .long in
       let r = s .rising (suc k) (omega arith) h in
       let u = start-within s (suc (suc k)) (omega arith) (omega arith) in
       let ends : 0 + length (flat (listsOf k (columnOf starts rows))) + length (columnOf starts rows (suc k)) ≡ b =
-      omega (arith, ap length (rows-front k (omega arith)), length-take-le a rows (omega arith), column-length k h) in
+      omega (arith, ap length (rows-first k (omega arith)), length-take-le a rows (omega arith), column-length k h) in
       rw (
         lists-more (columnOf starts rows) k,
         starts-more 0 (listsOf k (columnOf starts rows)) (columnOf starts rows (suc k)),
         ends,
-        starts-front k (omega arith),
+        starts-first k (omega arith),
         take-suc starts (suc k) 0 (omega arith),
         ← start-at starts (suc k),
       )
 
   -- the lists of all columns, one behind the other, are the rows, and their starts are the starts
   pub rows-laid : flat (listsOf n (columnOf starts rows)) ≡ rows
-  rows-laid = rows-front n (omega arith) ∙ take-all (start starts (suc n)) rows (let e = s .last in omega arith)
+  rows-laid = rows-first n (omega arith) ∙ take-all (start starts (suc n)) rows (let e = s .last in omega arith)
 
   pub starts-laid : startsFrom 0 (listsOf n (columnOf starts rows)) ≡ starts
-  starts-laid = starts-front n (omega arith) ∙ take-all (suc n) starts (let e = s .long in omega arith)
+  starts-laid = starts-first n (omega arith) ∙ take-all (suc n) starts (let e = s .long in omega arith)

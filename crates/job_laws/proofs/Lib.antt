@@ -3,9 +3,10 @@ pub mod Faults
 pub mod Starts
 pub mod Rows
 pub mod Passed
-pub mod Untouched
+pub mod Numbered
 pub mod Laid
 pub mod Keys
 pub mod Readable
+pub mod Lengths
 pub mod Outcomes
 pub mod Parts

@@ -7,11 +7,9 @@ use native.Mathlib.Omega.{arith}
 use lib.ListN.{length, getD, length-map, List·getD-append}
 use Rattle.papers.specs.Lists.{flat, startsFrom, thenZeros}
 use Rattle.papers.specs.Job.{Job, start}
-use Rattle.papers.specs.Plan.{Plan, columnsIn, popsIn}
-use Rattle.papers.specs.Refusals.{Lent, holding}
-use Rattle.papers.specs.Analysis.{holdingPlan}
+use Rattle.papers.specs.Plan.{Plan, columnsIn, popsIn, Fit}
+use Rattle.papers.specs.Analysis.{Lent, holding, holdingPlan}
 use Rattle.list_laws.proofs.Stores.{length-then-zeros, take-then-zeros, length-starts}
-use Rattle.bytes_laws.proofs.Plans.{Fit}
 use Rattle.job_laws.specs.Parts.{InSlices, Parts}
 use Rattle.job_laws.proofs.Starts.{start-at}
 use Rattle.job_laws.proofs.Laid.{laid-starts}
@@ -41,33 +39,33 @@ module _ {n : ℕ} {plan : Plan} (fit : Fit n plan) where
   pub last-begin : start (startsFrom 0 (plan .lists)) (suc n) ≡ length (flat (plan .lists))
   last-begin = rw (fit .all-lists) at (laid-starts (plan .lists) .last)
 
-  module _ {before : Lent} {order pops starts rows : List ℕ} (held : InSlices plan before order pops starts rows) where
+  module _ {before : Lent} {order pops starts rows : List ℕ} (stored : InSlices plan before order pops starts rows) where
     last-is : getD starts n 0 ≡ length (flat (plan .lists))
     unfolding thenZeros
     last-is =
-        rw (held .begins, List·getD-append (startsFrom 0 (plan .lists)) _ 0 n (omega (arith, length-begins)))
+        rw (stored .begins, List·getD-append (startsFrom 0 (plan .lists)) _ 0 n (omega (arith, length-begins)))
         (sym (start-at (startsFrom 0 (plan .lists)) n) ∙ last-begin)
 
     -- a slice keeps its length, and its first part is the list that it holds
-    pub parts-held : n ≤ length (before .order) → n ≤ length (before .pops) → n + 1 ≤ length (before .factorStarts)
+    pub parts-stored : n ≤ length (before .order) → n ≤ length (before .pops) → n + 1 ≤ length (before .factorStarts)
         → length (flat (plan .lists)) ≤ length (before .factorRows)
         → Parts n plan order pops starts rows
-    parts-held o p s r = record {
+    parts-stored o p s r = record {
       order-long = omega (
         arith,
-        ap length (held .columns),
+        ap length (stored .columns),
         length-then-zeros (columnsIn (plan .steps)) (before .order) (omega (arith, length-columns)),
       );
-      pops-long = omega (arith, ap length (held .popped), length-then-zeros (popsIn (plan .steps)) (before .pops) (omega (arith, length-pops)));
+      pops-long = omega (arith, ap length (stored .popped), length-then-zeros (popsIn (plan .steps)) (before .pops) (omega (arith, length-pops)));
       starts-long = omega (
         arith,
-        ap length (held .begins),
+        ap length (stored .begins),
         length-then-zeros (startsFrom 0 (plan .lists)) (before .factorStarts)
             (omega (arith, length-begins)),
       );
-      rows-long = omega (arith, last-is, ap length (held .listed), length-then-zeros (flat (plan .lists)) (before .factorRows) r);
-      columns = rw (held .columns) (take-then-zeros _ _ length-columns);
-      popped = rw (held .popped) (take-then-zeros _ _ length-pops);
-      begins = rw (held .begins) (take-then-zeros _ _ length-begins);
-      listed = rw (last-is, held .listed) (take-then-zeros _ _ refl);
+      rows-long = omega (arith, last-is, ap length (stored .listed), length-then-zeros (flat (plan .lists)) (before .factorRows) r);
+      columns = rw (stored .columns) (take-then-zeros _ _ length-columns);
+      popped = rw (stored .popped) (take-then-zeros _ _ length-pops);
+      begins = rw (stored .begins) (take-then-zeros _ _ length-begins);
+      listed = rw (last-is, stored .listed) (take-then-zeros _ _ refl);
     }

@@ -10,20 +10,15 @@ use lib.ListN.{length, getD, List·getD-eq-default}
 use lib.Seq.{slice-empty, drop-nil}
 use Rattle.papers.specs.Bounds.{maxColumns, maxMark, maxLimit}
 use Rattle.papers.specs.Lists.{_∈_, Asc}
-use Rattle.papers.specs.Job.{Job, start, columnOf, pattern, Below}
-use Rattle.papers.specs.Refusals.{answer, untouched, passed, first, columnsTest, markTest, limitTest, startsTest, rowsTest, jobTests}
+use Rattle.papers.specs.Refusals.{answer, passed, first}
+use Rattle.papers.specs.Job.{Job, start, columnOf, pattern, Below, startsTest, rowsTest, jobRefusals}
 use Rattle.list_laws.proofs.Tests.{below-or}
-use Rattle.job_laws.proofs.Firsts.{first-passed-iff, over-passes-iff}
-use Rattle.job_laws.proofs.Starts.{Starts, starts-iff, start-at}
+use Rattle.job_laws.specs.Passed.{PassedLists, Passed}
+use Rattle.job_laws.proofs.Firsts.{_&_, first-passed-iff, over-passes-iff}
+use Rattle.job_laws.proofs.Starts.{starts-iff, start-at}
 use Rattle.job_laws.proofs.Rows.{rows-iff}
 
 -- ---- lists of n columns: a job's pattern, and the factor that a run is given
-
--- lists that pass 4, 5 and 6
-pub record PassedLists (n : ℕ) (starts rows : List ℕ) : Type 0 where
-  pub whole : Starts n starts rows
-  pub ascending : (j : ℕ) → 1 ≤ j → j ≤ n → Asc j (columnOf starts rows j)
-  pub within : (j : ℕ) → 1 ≤ j → j ≤ n → (i : ℕ) → i ∈ columnOf starts rows j → i ≤ n
 
 module _ (n : ℕ) (starts rows : List ℕ) where
   -- the two tests of the lists pass exactly when the lists are such
@@ -68,30 +63,19 @@ module _ (n : ℕ) (starts rows : List ℕ) where
 
 -- ---- a job
 
--- a job that passes all its tests
-pub record Passed (job : Job) : Type 0 where
-  pub few : job .n ≤ maxColumns
-  pub marked : job .mark ≤ maxMark
-  pub limited : job .limit ≤ maxLimit
-  pub lists : PassedLists (job .n) (job .starts) (job .rows)
-
 -- a job passes its tests exactly when it is such a job
-pub passes-iff : (job : Job) → (first jobTests job ≡ passed) ↔ Passed job
-unfolding jobTests columnsTest markTest limitTest
+pub passes-iff : (job : Job) → (first jobRefusals job ≡ passed) ↔ Passed job
+unfolding jobRefusals
 passes-iff job =
-    let each = first-passed-iff jobTests job in
+    let each = first-passed-iff jobRefusals job in
     let lists = lists-iff (job .n) (job .starts) (job .rows) in
-    let columns = over-passes-iff maxColumns (job .n) (answer 1 0 0) untouched in
-    let mark = over-passes-iff maxMark (job .mark) (answer 2 0 0) untouched in
-    let limit = over-passes-iff maxLimit (job .limit) (answer 3 0 0) untouched in (
-      λ e. let t = each .0 e in
-          record {
-            few = columns .0 (t .0);
-            marked = mark .0 (t .1 .0);
-            limited = limit .0 (t .1 .1 .0);
-            lists = lists .0 (t .1 .1 .1 .0, t .1 .1 .1 .1 .0);
-          },
-      λ p. let l = lists .1 (p .lists) in each .1 (columns .1 (p .few), (mark .1 (p .marked), (limit .1 (p .limited), (l .0, (l .1, tt))))),
+    let columns = over-passes-iff maxColumns (job .n) (answer 1 0 0) in
+    let mark = over-passes-iff maxMark (job .mark) (answer 2 0 0) in
+    let limit = over-passes-iff maxLimit (job .limit) (answer 3 0 0) in (
+      λ e. let (one, (two, (three, (four, (five-six, none))))) = each .0 e in
+          record { few = columns .0 one; marked = mark .0 two; limited = limit .0 three; lists = lists .0 (four, five-six) },
+      λ p. let (four, five-six) = lists .1 (p .lists) in
+          each .1 (columns .1 (p .few) & mark .1 (p .marked) & limit .1 (p .limited) & four & five-six & tt),
     )
 
 -- the rows of a job that passes are strictly below the diagonal

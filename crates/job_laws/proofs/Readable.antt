@@ -7,18 +7,18 @@ use mathlib.Core.Logic.{_↔_}
 use mathlib.Core.List.{List, [], _∷_, _++_}
 use native.Mathlib.Omega.{arith}
 use lib.ListN.{length, getD}
+use Rattle.papers.specs.Plan.{RowsFit, ListsFit}
 use Rattle.papers.specs.Bounds.{edition, maxColumns, maxMark, maxLimit}
 use Rattle.papers.specs.Lists.{flat, startsFrom}
-use Rattle.papers.specs.Numbers.{bytesOf, encode}
 use Rattle.papers.specs.Job.{Job, columnOf}
-use Rattle.papers.specs.Key.{listsNumbers, listsOf, keyNumbers, keyOf}
-use Rattle.papers.specs.Plan.{got, field, readLists}
-use Rattle.papers.specs.Call.{Readable, readKey}
+use Rattle.papers.specs.Numbers.{bytesOf, encode, got, field, Bytes}
+use Rattle.papers.specs.Key.{listsNumbers, listsOf, keyNumbers, keyOf, readLists, Readable, readKey, jobWith}
+use Rattle.job_laws.specs.Passed.{Passed, PassedLists}
 use Rattle.bytes_laws.proofs.Fields.{got-inj, then-only, spans-both, spans-to-end, field-got, field-only}
-use Rattle.bytes_laws.proofs.Gaps.{RowsFit, ListsFit, lists-only}
+use Rattle.bytes_laws.proofs.Gaps.{lists-only}
 use Rattle.bytes_laws.proofs.Plans.{end-only}
 use Rattle.bytes_laws.proofs.Reaches.{lists-reach}
-use Rattle.job_laws.proofs.Passed.{Passed, PassedLists, passes-iff}
+use Rattle.job_laws.proofs.Passed.{passes-iff}
 use Rattle.job_laws.proofs.Laid.{laid-column, laid-lists, laid-starts}
 use Rattle.job_laws.proofs.Keys.{key-back}
 
@@ -50,7 +50,7 @@ pub record KeyRead (key : List ℕ) (job : Job) (at : ℕ) : Type 0 where
   pub whole : keyOf job ≡ key
   pub end : at ≡ length key
 
-pub key-only : (key : List ℕ) → ((i : ℕ) → getD key i 0 < 256) → (job : Job) (at : ℕ) → readKey key ≡ got job at → KeyRead key job at
+pub key-only : (key : List ℕ) → Bytes key → (job : Job) (at : ℕ) → readKey key ≡ got job at → KeyRead key job at
 unfolding readKey keyOf keyNumbers encode
 key-only s bytes job at e =
     let (ed, to, f, t) = then-only _ (field edition edition s 0) e in
@@ -64,7 +64,7 @@ key-only s bytes job at e =
         → field edition edition s 0 ≡ got ed to → field 0 maxColumns s to ≡ got n tn → field 0 maxMark s tn ≡ got mark tm
         → field 0 maxLimit s tm ≡ got limit tl
         → readLists n 1 n s tl ≡ got lists end
-        → (record { n = n; starts = startsFrom 0 lists; rows = flat lists; mark = mark; limit = limit } ≡ job) × (end ≡ at) × (length s ≤ at)
+        → (jobWith (record { n = n; mark = mark; limit = limit }) lists ≡ job) × (end ≡ at) × (length s ≤ at)
         → KeyRead s job at
     there ed to n tn mark tm limit tl lists end f g h k l (p, q, over) =
         let (c, fit, d) = lists-only n s bytes 1 n tl lists end l in
@@ -99,7 +99,7 @@ pub readable-one : (key : List ℕ) (r q : Readable key) → r .job ≡ q .job
 readable-one key r q = got-inj (sym (readable-read key r) ∙ readable-read key q) .0
 
 -- a key is readable exactly when it reads through
-pub readable-iff : (key : List ℕ) → ((i : ℕ) → getD key i 0 < 256) → Readable key ↔ ((job : Job) × (at : ℕ) × (readKey key ≡ got job at))
+pub readable-iff : (key : List ℕ) → Bytes key → Readable key ↔ ((job : Job) × (at : ℕ) × (readKey key ≡ got job at))
 readable-iff key bytes = (
   λ r. (r .job, length key, readable-read key r),
   λ h. let k = key-only key bytes (h .0) (h .1) (h .2) in record { job = h .0; passes = passes-iff (h .0) .1 (k .passes); whole = k .whole },

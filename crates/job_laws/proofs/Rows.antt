@@ -8,8 +8,8 @@ use mathlib.Core.List.{List, [], _∷_, List·Memᴰ·head, List·Memᴰ·tail, 
 use native.Mathlib.Omega.{arith}
 use borrow.Author.Tests.{lt-ltb, le-ltb, le-leb, lt-leb}
 use Rattle.papers.specs.Lists.{_∈_, Asc}
-use Rattle.papers.specs.Job.{columnOf}
-use Rattle.papers.specs.Refusals.{untouched, passed, rowFault, rowsFault, columnFault, rowsTest}
+use Rattle.papers.specs.Refusals.{passed}
+use Rattle.papers.specs.Job.{columnOf, rowFault, rowsFault, columnFault, rowsTest}
 use Rattle.list_laws.proofs.Tests.{below-or}
 use Rattle.job_laws.proofs.Faults.{faultTest, faults-passed-iff}
 
@@ -103,7 +103,7 @@ module _ (n : ℕ) (starts rows : List ℕ) where
   column-fine-iff j = rows-fine-iff n j j (columnOf starts rows j) (omega arith)
 
   -- the verdict on the rows names the first column at fault
-  pub rows-test-is : rowsTest n starts rows ≡ faultTest (columnFault n starts rows) n (λ j. 0) untouched
+  pub rows-test-is : rowsTest n starts rows ≡ faultTest (columnFault n starts rows) n (λ j. 0)
   unfolding rowsTest
   rows-test-is = refl
 
@@ -111,5 +111,5 @@ module _ (n : ℕ) (starts rows : List ℕ) where
   pub rows-iff : (rowsTest n starts rows ≡ passed)
       ↔ ((j : ℕ) → 1 ≤ j → j ≤ n → Asc j (columnOf starts rows j) × ((i : ℕ) → i ∈ columnOf starts rows j → i ≤ n))
   rows-iff =
-      let k = faults-passed-iff (columnFault n starts rows) n (λ j. 0) untouched in
+      let k = faults-passed-iff (columnFault n starts rows) n (λ j. 0) in
       (λ e j l h. column-fine-iff j .0 (k .0 (sym rows-test-is ∙ e) j l h), λ g. rows-test-is ∙ k .1 (λ j l h. column-fine-iff j .1 (g j l h)))

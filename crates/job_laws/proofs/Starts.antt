@@ -12,20 +12,14 @@ use lib.ListN.{length, getD}
 use lib.Seq.{slice}
 use borrow.Author.Tests.{ltb-false, le-ltb, eqb-true, eqb-false, eq-eqb, ne-eqb}
 use Rattle.papers.specs.Lists.{least}
-use Rattle.papers.specs.Job.{start, columnOf}
-use Rattle.papers.specs.Refusals.{answer, untouched, passed, refused, refusedIf, falls, startsTest}
+use Rattle.papers.specs.Refusals.{answer, passed, refused, refusedIf}
+use Rattle.papers.specs.Job.{start, columnOf, fallsAt, startsTest}
+use Rattle.job_laws.specs.Passed.{Starts}
 use Rattle.list_laws.specs.Parts.{part}
 use Rattle.list_laws.proofs.Tests.{Test, passes, fails, test}
 use Rattle.list_laws.proofs.Leasts.{least-zero-iff}
 use Rattle.list_laws.proofs.Parts.{part-slice}
 use Rattle.job_laws.proofs.Firsts.{refused-passed}
-
--- starts that pass: n + 1 of them, from 0 up to the row count
-pub record Starts (n : ℕ) (starts rows : List ℕ) : Type 0 where
-  pub long : length starts ≡ n + 1
-  pub from-zero : start starts 1 ≡ 0
-  pub rising : (j : ℕ) → 1 ≤ j → j ≤ n → start starts j ≤ start starts (suc j)
-  pub last : start starts (suc n) ≡ length rows
 
 -- start j + 1 is the number at place j, counted from 0
 pub start-at : (starts : List ℕ) (j : ℕ) → start starts (suc j) ≡ getD starts j 0
@@ -45,57 +39,57 @@ column-slice starts rows j = ap (λ e. slice (getD starts (j - 1) 0) e rows) (st
 pub part-column : (starts rows : List ℕ) (j : ℕ) → part (getD starts (j - 1) 0) (getD starts j 0) rows ≡ columnOf starts rows j
 part-column starts rows j = part-slice (getD starts (j - 1) 0) (getD starts j 0) rows ∙ sym (column-slice starts rows j)
 
-pub falls-at : (starts : List ℕ) (j : ℕ) → falls starts (suc j) ≡ ltb (getD starts (suc j) 0) (getD starts j 0)
-unfolding falls
+pub falls-at : (starts : List ℕ) (j : ℕ) → fallsAt starts (suc j) ≡ ltb (getD starts (suc j) 0) (getD starts j 0)
+unfolding fallsAt
 falls-at starts j = rw (start-at starts j, start-at starts (suc j))
 
 -- column j's start does not fall exactly when the next start is no less
-pub falls-false-iff : (starts : List ℕ) (j : ℕ) → (falls starts j ≡ false) ↔ (start starts j ≤ start starts (suc j))
-unfolding falls
+pub falls-false-iff : (starts : List ℕ) (j : ℕ) → (fallsAt starts j ≡ false) ↔ (start starts j ≤ start starts (suc j))
+unfolding fallsAt
 falls-false-iff starts j = (ltb-false (start starts (suc j)) (start starts j), le-ltb (start starts (suc j)) (start starts j))
 
 -- ---- the ways out of the test
 
 module _ (n : ℕ) (starts rows : List ℕ) where
   -- way out: there are not n + 1 starts
-  pub starts-few : length starts ≢ n + 1 → startsTest n starts rows ≡ refused (answer 4 0 0) untouched
+  pub starts-few : length starts ≢ n + 1 → startsTest n starts rows ≡ refused (answer 4 0 0)
   unfolding startsTest
   starts-few h = rw (ne-eqb (length starts) (n + 1) h, startsTest)
 
   module _ (long : length starts ≡ n + 1) where
     -- way out: the first start is not 0
-    pub starts-from : start starts 1 ≢ 0 → startsTest n starts rows ≡ refused (answer 4 0 0) untouched
+    pub starts-from : start starts 1 ≢ 0 → startsTest n starts rows ≡ refused (answer 4 0 0)
     unfolding startsTest
     starts-from h = rw (eq-eqb (length starts) (n + 1) long, ne-eqb (start starts 1) 0 h, startsTest)
 
     module _ (from-zero : start starts 1 ≡ 0) where
       -- way out: a start falls, and the place is its column
-      pub starts-fall : (j : ℕ) → least (falls starts) n ≡ suc j → startsTest n starts rows ≡ refused (answer 4 (suc j) 0) untouched
+      pub starts-fall : (j : ℕ) → least (fallsAt starts) n ≡ suc j → startsTest n starts rows ≡ refused (answer 4 (suc j) 0)
       unfolding startsTest
       starts-fall j h = rw (eq-eqb (length starts) (n + 1) long, eq-eqb (start starts 1) 0 from-zero, h, startsTest)
 
       -- way out: the last start is not the row count
-      pub starts-end : least (falls starts) n ≡ 0 → start starts (suc n) ≢ length rows → startsTest n starts rows ≡ refused (answer 4 n 0) untouched
+      pub starts-end : least (fallsAt starts) n ≡ 0 → start starts (suc n) ≢ length rows → startsTest n starts rows ≡ refused (answer 4 n 0)
       unfolding startsTest refusedIf
       starts-end z h =
           rw (eq-eqb (length starts) (n + 1) long, eq-eqb (start starts 1) 0 from-zero, z, ne-eqb (start starts (suc n)) (length rows) h, startsTest)
 
-      pub starts-pass : least (falls starts) n ≡ 0 → start starts (suc n) ≡ length rows → startsTest n starts rows ≡ passed
+      pub starts-pass : least (fallsAt starts) n ≡ 0 → start starts (suc n) ≡ length rows → startsTest n starts rows ≡ passed
       unfolding startsTest refusedIf
       starts-pass z h =
           rw (eq-eqb (length starts) (n + 1) long, eq-eqb (start starts 1) 0 from-zero, z, eq-eqb (start starts (suc n)) (length rows) h, startsTest)
 
   -- the verdict on the starts: 4 at some place, or they are right
   pub data StartsVerdict : Type 0 where
-    four : (place : ℕ) → startsTest n starts rows ≡ refused (answer 4 place 0) untouched → StartsVerdict
+    four : (place : ℕ) → startsTest n starts rows ≡ refused (answer 4 place 0) → StartsVerdict
     fine : startsTest n starts rows ≡ passed → Starts n starts rows → StartsVerdict
 
   pub starts-verdict : StartsVerdict
   starts-verdict =
-      go (test (eqb (length starts) (n + 1))) (test (eqb (start starts 1) 0)) (least (falls starts) n) refl
+      go (test (eqb (length starts) (n + 1))) (test (eqb (start starts 1) 0)) (least (fallsAt starts) n) refl
       (test (eqb (start starts (suc n)) (length rows)))
     where
-      go : Test (eqb (length starts) (n + 1)) → Test (eqb (start starts 1) 0) → (p : ℕ) → least (falls starts) n ≡ p
+      go : Test (eqb (length starts) (n + 1)) → Test (eqb (start starts 1) 0) → (p : ℕ) → least (fallsAt starts) n ≡ p
           → Test (eqb (start starts (suc n)) (length rows))
           → StartsVerdict
       go (fails a) b p z d = four 0 (starts-few (eqb-false (length starts) (n + 1) a))
@@ -112,7 +106,7 @@ module _ (n : ℕ) (starts rows : List ℕ) where
           (record {
             long = long;
             from-zero = from-zero;
-            rising = λ j l h. falls-false-iff starts j .0 (least-zero-iff (falls starts) n .0 z j l h);
+            rising = λ j l h. falls-false-iff starts j .0 (least-zero-iff (fallsAt starts) n .0 z j l h);
             last = last;
           })
 
@@ -126,7 +120,7 @@ module _ (n : ℕ) (starts rows : List ℕ) where
 
       back : Starts n starts rows → startsTest n starts rows ≡ passed
       back s =
-          starts-pass (s .long) (s .from-zero) (least-zero-iff (falls starts) n .1 (λ j l h. falls-false-iff starts j .1 (s .rising j l h))) (s .last)
+          starts-pass (s .long) (s .from-zero) (least-zero-iff (fallsAt starts) n .1 (λ j l h. falls-false-iff starts j .1 (s .rising j l h))) (s .last)
 
 -- ---- where the rows of a column are
 

@@ -6,7 +6,7 @@ use mathlib.Core.List.{List}
 use lib.ListN.{length, getD, take}
 use Rattle.papers.specs.Lists.{flat, startsFrom, thenZeros}
 use Rattle.papers.specs.Plan.{Plan, columnsIn, popsIn}
-use Rattle.papers.specs.Refusals.{Lent}
+use Rattle.papers.specs.Analysis.{Lent}
 
 -- the slices hold the plan, then zeros
 pub record InSlices (plan : Plan) (before : Lent) (order pops starts rows : List ℕ) : Type 0 where

@@ -4,7 +4,7 @@ use Prim.Native.Nat.{ℕ, _≤_}
 use mathlib.Core.Path.{_≡_}
 use Rattle.papers.specs.Job.{Job, pattern}
 
-pub record Same (a b : Job) : Type 0 where
+pub record SameJob (a b : Job) : Type 0 where
   pub columns : a .n ≡ b .n
   pub marks : a .mark ≡ b .mark
   pub limits : a .limit ≡ b .limit

@@ -4,7 +4,8 @@ use Prim.Native.Nat.{ℕ, _≤_}
 use mathlib.Core.Path.{_≡_}
 use mathlib.Core.List.{List}
 use Rattle.papers.specs.Bounds.{maxColumns}
-use Rattle.papers.specs.Refusals.{passed, startsTest}
+use Rattle.papers.specs.Refusals.{passed}
+use Rattle.papers.specs.Job.{startsTest}
 
 -- n columns within the bound, whose starts pass 4
 pub record Started (n : ℕ) (starts rows : List ℕ) : Type 0 where

@@ -11,8 +11,8 @@ use native.Mathlib.Numerals.{add-one}
 use lib.ListN.{length, getD}
 use borrow.Author.Tests.{lt-ltb, le-ltb}
 use Rattle.papers.specs.Lists.{least}
-use Rattle.papers.specs.Job.{start}
-use Rattle.papers.specs.Refusals.{answer, untouched, passed, refused, falls, startsTest}
+use Rattle.papers.specs.Refusals.{answer, passed, refused}
+use Rattle.papers.specs.Job.{start, fallsAt, startsTest}
 use Rattle.list_laws.proofs.Leasts.{least-none, least-here}
 use Rattle.job_laws.proofs.Starts.{start-at, falls-at, starts-fall, starts-end, starts-pass}
 
@@ -21,7 +21,7 @@ pub record Rising (n : ℕ) (starts : List ℕ) (done : ℕ) : Type 0 where
   pub long : length starts ≡ n + 1
   pub from-zero : start starts 1 ≡ 0
   pub reached : done ≤ n
-  pub none : least (falls starts) done ≡ 0
+  pub none : least (fallsAt starts) done ≡ 0
 
 -- starts has n + 1 numbers, and the first is 0
 pub begin : {n : ℕ} (starts : List ℕ) → length starts ≡ n + 1 → getD starts 0 0 ≡ 0 → Rising n starts 0
@@ -35,21 +35,21 @@ module _ {n : ℕ} {starts : List ℕ} {done : ℕ} (r : Rising n starts done) w
         long = r .long;
         from-zero = r .from-zero;
         reached = omega arith;
-        none = rw add-one (least-none (falls starts) done (r .none) (rw (falls-at starts done, ← add-one done)
+        none = rw add-one (least-none (fallsAt starts) done (r .none) (rw (falls-at starts done, ← add-one done)
             (le-ltb (getD starts (done + 1) 0) (getD starts done 0) h)));
       }
 
   pub fall : (rows : List ℕ) → done < n → getD starts (done + 1) 0 < getD starts done 0
-      → startsTest n starts rows ≡ refused (answer 4 (done + 1) 0) untouched
+      → startsTest n starts rows ≡ refused (answer 4 (done + 1) 0)
   fall rows l h =
-      let f : falls starts (suc done) ≡ true = rw (falls-at starts done, ← add-one done) (lt-ltb (getD starts (done + 1) 0) (getD starts done 0) h) in
-      rw add-one (starts-fall n starts rows (r .long) (r .from-zero) done (least-here (falls starts) done n (r .none) f (omega arith)))
+      let f : fallsAt starts (suc done) ≡ true = rw (falls-at starts done, ← add-one done) (lt-ltb (getD starts (done + 1) 0) (getD starts done 0) h) in
+      rw add-one (starts-fall n starts rows (r .long) (r .from-zero) done (least-here (fallsAt starts) done n (r .none) f (omega arith)))
 
   module _ (rows : List ℕ) (l : n ≤ done) where
-    all : least (falls starts) n ≡ 0
+    all : least (fallsAt starts) n ≡ 0
     all = let e : n ≡ done = let q = r .reached in omega arith in rw e (r .none)
 
-    pub end : getD starts n 0 ≢ length rows → startsTest n starts rows ≡ refused (answer 4 n 0) untouched
+    pub end : getD starts n 0 ≢ length rows → startsTest n starts rows ≡ refused (answer 4 n 0)
     end h = starts-end n starts rows (r .long) (r .from-zero) all (rw (start-at starts n) h)
 
     pub pass : getD starts n 0 ≡ length rows → startsTest n starts rows ≡ passed

@@ -9,18 +9,18 @@ use lib.ListN.{length}
 use Rattle.papers.specs.declared.Answer.{Answer}
 use Rattle.papers.specs.Bounds.{edition, maxColumns, maxGroups}
 use Rattle.papers.specs.Lists.{zeros}
+use Rattle.papers.specs.Refusals.{passed, answerOf, first, Outcome, EndsAs}
+use Rattle.papers.specs.Job.{Job, pattern, jobRefusals}
 use Rattle.papers.specs.Numbers.{bytesOf, encode}
-use Rattle.papers.specs.Job.{Job, pattern}
 use Rattle.papers.specs.Key.{listsNumbers, listsOf, keyNumbers, keyOf}
-use Rattle.papers.specs.Refusals.{zeroed, passed, answerOf, first, Outcome, jobTests, bytesTest}
-use Rattle.papers.specs.Analysis.{KeyCall, keyTests, keyDone, keyWritten}
+use Rattle.papers.specs.Analysis.{KeyCall, keyDone, keyWritten, keyEarly, keyLate, bytesShort}
+use Rattle.job_laws.specs.Passed.{Passed}
 use Rattle.list_laws.specs.Wrote.{Wrote}
 use Rattle.list_laws.proofs.Tests.{below-or}
 use Rattle.list_laws.proofs.Writing.{Writes, writes-all, writes-last}
 use Rattle.bytes_laws.proofs.Writing.{writes-number, writes-near}
 use Rattle.job_laws.proofs.Firsts.{first-last, over-refuses, over-passes-iff}
-use Rattle.job_laws.proofs.Passed.{Passed}
-use Rattle.job_laws.proofs.Outcomes.{outcome-untouched, outcome-zeroed, outcome-done, job-refuses, job-passes}
+use Rattle.job_laws.proofs.Outcomes.{outcome-early, outcome-late, outcome-done, job-refuses, job-passes-iff}
 use Rattle.write_lists.proofs.Columns.{lists-few}
 use Rattle.write_stored.specs.Stored.{stored}
 use Rattle.write_stored.proofs.Stores.{short-is, whole-is}
@@ -56,13 +56,13 @@ module _ (job : Job) (d₀ : List ℕ) where
   key-near p w = omega (arith, writes-near (keyNumbers job) w, numbers-few job p)
 
   -- what is left of the key at each place
-  at-front : Left (edition ∷ job .n ∷ job .mark ∷ job .limit ∷ keyLists job) d₀ 0
+  at-start : Left (edition ∷ job .n ∷ job .mark ∷ job .limit ∷ keyLists job) d₀ 0
   unfolding keyNumbers
-  at-front = writes-all
+  at-start = writes-all
 
   module _ {d₁ : List ℕ} {k₁ : ℕ} (p₁ : Wrote (bytesOf edition) d₀ d₁ 0 k₁) where
     pub behind-edition : Left (job .n ∷ job .mark ∷ job .limit ∷ keyLists job) d₁ k₁
-    behind-edition = writes-number at-front refl p₁
+    behind-edition = writes-number at-start refl p₁
 
     module _ {d₂ : List ℕ} {k₂ : ℕ} (p₂ : Wrote (bytesOf (job .n)) d₁ d₂ k₁ k₂) where
       pub behind-n : Left (job .mark ∷ job .limit ∷ keyLists job) d₂ k₂
@@ -88,26 +88,30 @@ module _ (job : Job) (bytes₀ : List ℕ) where
   call = record { job = job; bytes = bytes₀ }
 
   -- 1 to 6
-  pub key-refused : {r : Answer} {bytes : List ℕ} → r ≡ answerOf (first jobTests job) → r .number ≢ 0 → bytes ≡ bytes₀
-      → _≡_ {A = Outcome (List ℕ)} (record { answer = r; lent = bytes }) (keyWritten job bytes₀)
-  unfolding keyWritten keyTests
-  key-refused e n b = rw b (sym (outcome-untouched keyTests keyDone zeros call bytes₀ (job-refuses (λ c. c .job) _ call e n)))
+  pub key-refused : {r : Answer} {bytes : List ℕ} → r ≡ answerOf (first jobRefusals job) → r .number ≢ 0 → bytes ≡ bytes₀
+      → EndsAs r bytes (keyWritten job bytes₀)
+  unfolding keyWritten keyEarly
+  key-refused e n b = rw b (sym (outcome-early keyEarly keyLate keyDone zeros call bytes₀ (job-refuses (λ c. c .job) call e n)))
 
-  module _ (p : first jobTests job ≡ passed) where
-    last-test : first keyTests call ≡ bytesTest (keyOf job) bytes₀
-    unfolding keyTests
-    last-test = job-passes (λ c. c .job) _ call p ∙ first-last _ call
+  module _ (p : Passed job) where
+    early-passes : first keyEarly call ≡ passed
+    unfolding keyEarly
+    early-passes = job-passes-iff (λ c. c .job) call .1 p
+
+    last-test : first keyLate call ≡ bytesShort (λ lent. keyOf job) (λ lent. lent) .test bytes₀
+    unfolding keyLate
+    last-test = first-last _ call
 
     -- else the key is stored
     pub key-stored : keyWritten job bytes₀ ≡ stored (keyOf job) bytes₀
-    unfolding keyWritten keyDone bytesTest
+    unfolding keyWritten keyDone
     key-stored =
         let key = keyOf job in
         ⊎-elim
         (λ (short : length bytes₀ < length key).
-        outcome-zeroed keyTests keyDone zeros call bytes₀ (last-test ∙ over-refuses (length bytes₀) (length key) _ zeroed short) ∙ sym
+        outcome-late keyEarly keyLate keyDone zeros call bytes₀ early-passes (last-test ∙ over-refuses (length bytes₀) (length key) _ short) ∙ sym
         (short-is key bytes₀ short))
         (λ (whole : length key ≤ length bytes₀).
-        outcome-done keyTests keyDone zeros call bytes₀ (last-test ∙ over-passes-iff (length bytes₀) (length key) _ zeroed .1 whole) ∙ sym
-        (whole-is key bytes₀ whole))
+        outcome-done keyEarly keyLate keyDone zeros call bytes₀ early-passes (last-test ∙ over-passes-iff (length bytes₀) (length key) _ .1 whole)
+        ∙ sym (whole-is key bytes₀ whole))
         (below-or (length bytes₀) (length key))

@@ -1,16 +1,17 @@
 // Writes the key of a job into a lent slice.
 ghost use mathlib.Core.Path.{_≡_};
-ghost use Rattle.papers.specs.Job.{jobOf};
+ghost use Rattle.papers.specs.Refusals.{passed, first, EndsAs};
+ghost use Rattle.papers.specs.Job.{jobOf, jobRefusals};
 ghost use Rattle.papers.specs.Key.{keyOf};
-ghost use Rattle.papers.specs.Refusals.{passed, first, jobTests, EndsAs};
 ghost use Rattle.papers.specs.Analysis.{keyWritten};
+ghost use Rattle.job_laws.specs.Passed.{Passed};
 ghost use Rattle.list_laws.specs.Wrote.{Wrote};
 use papers::Answer;
 use papers::JobHead;
 
-// Writes the key of a job to the front of a slice, as far as the slice goes, and answers the place behind it: the bytes needed.
+// Writes the key of a job to the start of a slice, as far as the slice goes, and answers the place behind it: the bytes needed.
 pub fn put_key(head: JobHead, starts: &[u64], rows: &[u32], bytes: &mut [u8]) -> usize
-    requires { ⌜ first jobTests (jobOf head (now starts) (now rows)) ≡ passed ⌝ }
+    requires { ⌜ Passed (jobOf head (now starts) (now rows)) ⌝ }
     ensures { λ r. ⌜
         Wrote (keyOf (jobOf head (now (starts .entry)) (now (rows .entry)))) (now (bytes .entry)) (now (bytes .exit)) 0 r
         ⌝ }

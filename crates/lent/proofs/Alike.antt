@@ -3,10 +3,11 @@
 use Prim.Native.Nat.{ℕ, _≤_}
 use mathlib.Core.Path.{_≡_, sym, ap, _∙_}
 use mathlib.Core.List.{List}
+use native.Mathlib.Omega.{arith}
 use lib.ListN.{length, take, replicate}
 use lib.Seq.{length-take-le}
-use Rattle.papers.specs.Refusals.{Lent, allZero}
-use Rattle.lent.specs.Six.{LongEnough}
+use Rattle.papers.specs.Analysis.{Lent, allZero, fixedLengths, LongEnough}
+use Rattle.job_laws.proofs.Firsts.{_&_}
 use Rattle.lent.proofs.Sixes.{sixes}
 
 -- a part of n places has n places
@@ -32,12 +33,12 @@ zeros-alike before lent a e =
     zeros-as : {k m : ℕ} → k ≡ m → replicate {A = ℕ} k 0 ≡ replicate m 0
     zeros-as e = ap (λ (k : ℕ). replicate {A = ℕ} k 0) e
 
-pub long-alike : {n : ℕ} {before lent : Lent} → Alike before lent → LongEnough n before → LongEnough n lent
+-- if the ones are long enough, so are the others
+pub long-alike : {n : ℕ} {before lent : Lent} → Alike before lent → LongEnough (fixedLengths n before) → LongEnough (fixedLengths n lent)
 long-alike a long =
-    record {
-      parents = rw (a .parents) (long .parents);
-      order = rw (a .order) (long .order);
-      pops = rw (a .pops) (long .pops);
-      starts = rw (a .starts) (long .starts);
-      work = rw (a .work) (long .work);
-    }
+    rw (a .parents) (omega (arith, long))
+    & rw (a .order) (omega (arith, long))
+    & rw (a .pops) (omega (arith, long))
+    & rw (a .starts) (omega (arith, long))
+    & rw (a .work) (omega (arith, long))
+    & tt

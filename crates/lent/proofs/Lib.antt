@@ -1,4 +1,3 @@
 pub mod Sixes
 pub mod Shorts
-pub mod Longs
 pub mod Alike

@@ -11,19 +11,19 @@ use Rattle.papers.specs.Job.{Pattern}
 use Rattle.papers.specs.Fill.{R}
 use Rattle.papers.specs.Tree.{parent}
 use Rattle.papers.specs.Key.{listsOf}
-use Rattle.papers.specs.Refusals.{Lent}
+use Rattle.papers.specs.Analysis.{Lent}
 use Rattle.list_laws.proofs.Stores.{length-starts}
 use Rattle.list_laws.proofs.UpTo.{length-upTo}
 use Rattle.job_laws.proofs.Starts.{start-at}
 use Rattle.job_laws.proofs.Laid.{length-lists, laid-starts}
 use Rattle.slices.specs.From.{zerosFrom}
 use Rattle.slices.proofs.From.{stored-from}
-use Rattle.structure.specs.Listed.{Listable, Listed}
-use Rattle.lent.specs.Six.{six}
+use Rattle.structure.specs.Listed.{Listable, ColumnsListed}
+use Rattle.lent.specs.Six.{sixSlices}
 use Rattle.lent.proofs.Alike.{part-long}
 use Rattle.lent_plan.specs.Listing.{ListableIn, Listing}
 
--- ---- zeros behind the front
+-- ---- zeros behind the first places
 
 -- a slice is zero from place n on
 abbrev pub ZerosBehind : ℕ → List ℕ → Type 0
@@ -44,22 +44,22 @@ behind-zero n o l z e = z ∙ rw (e, length-drop)
 -- ---- the lists
 
 module _ {n : ℕ} {starts rows : List ℕ} {before : Lent} (g : ListableIn n starts rows before) where
-  -- the fronts of order and pops serve as buffers
+  -- the first places of order and pops serve as buffers
   pub listable : Listable n starts rows (before .parents) (before .factorStarts) (take n (before .order)) (take n (before .pops)) (before .work)
   listable =
       let long = g .long in
       record {
         tested = g .tested;
         lengths = record {
-          parents-long = long .parents;
-          starts-long = omega (arith, long .starts);
-          room-x = omega (arith, part-long n (before .order) (long .order));
-          room-y = omega (arith, part-long n (before .pops) (long .pops));
-          work-long = omega (arith, long .work);
+          parents-long = omega (arith, long);
+          starts-long = omega (arith, long);
+          room-x = omega (arith, part-long n (before .order) (omega (arith, long)));
+          room-y = omega (arith, part-long n (before .pops) (omega (arith, long)));
+          work-long = omega (arith, long);
         };
       }
 
-  module _ {done : ℕ} {A : Pattern} {p s r : List ℕ} (h : Listed n done A (before .parents) (before .factorStarts) (before .factorRows) p s r) where
+  module _ {done : ℕ} {A : Pattern} {p s r : List ℕ} (h : ColumnsListed n done A (before .parents) (before .factorStarts) (before .factorRows) p s r) where
     -- not all columns are done
     pub some-listed : {lent : Lent} → done < n → Listing n done A before lent
     some-listed few = record { lacks = h .lacks; all = λ l. absurd (omega arith) }
@@ -68,7 +68,7 @@ module _ {n : ℕ} {starts rows : List ℕ} {before : Lent} (g : ListableIn n st
       abbrev ls : List (List ℕ)
       ls = listsOf n (R A)
 
-      whole : Listed n n A (before .parents) (before .factorStarts) (before .factorRows) p s r
+      whole : ColumnsListed n n A (before .parents) (before .factorStarts) (before .factorRows) p s r
       whole = let e : done ≡ n = omega (arith, h .most) in rw e at h
 
       length-begins : length (startsFrom 0 (listsOf n (R A))) ≡ n + 1
@@ -77,7 +77,7 @@ module _ {n : ℕ} {starts rows : List ℕ} {before : Lent} (g : ListableIn n st
       -- the last start says how many rows there are
       last-is : getD s n 0 ≡ length (flat (listsOf n (R A)))
       last-is =
-          let fits : 0 + length (startsFrom 0 ls) ≤ length (before .factorStarts) = omega (arith, length-begins, g .long .starts) in
+          let fits : 0 + length (startsFrom 0 ls) ≤ length (before .factorStarts) = omega (arith, length-begins, g .long) in
           rw (
             whole .starts-are,
             sets-eq (startsFrom 0 ls) (before .factorStarts) 0 fits,
@@ -91,16 +91,16 @@ module _ {n : ℕ} {starts rows : List ℕ} {before : Lent} (g : ListableIn n st
       -- all columns are done, and the places behind the lists are cleared
       pub all-listed : {p′ o q s′ r′ w : List ℕ} → p′ ≡ zerosFrom n p → ZerosBehind n o → length o ≡ length (before .order)
           → ZerosBehind n q → length q ≡ length (before .pops) → s′ ≡ zerosFrom (n + 1) s → r′ ≡ zerosFrom (getD s n 0) r
-          → Listing n done A before (six p′ o q s′ r′ w)
+          → Listing n done A before (sixSlices p′ o q s′ r′ w)
       all-listed {o = o} {q} ep zo lo zq lq es er = record {
         lacks = λ l. absurd (omega arith);
         all = λ l. record {
           fits = whole .fits;
           parents =
               ep ∙ ap (zerosFrom n) (whole .parents-are) ∙ stored-from (map (parent A) (upTo n)) (before .parents)
-              (length-map (upTo n) (parent A) ∙ length-upTo n) (g .long .parents);
+              (length-map (upTo n) (parent A) ∙ length-upTo n) (omega (arith, g .long));
           starts = es ∙ ap (zerosFrom (n + 1)) (whole .starts-are) ∙ stored-from (startsFrom 0 ls) (before .factorStarts) length-begins
-              (g .long .starts);
+              (omega (arith, g .long));
           rows = er ∙ rw (last-is, whole .rows-are) (stored-from (flat ls) (before .factorRows) refl (whole .fits));
           order = behind-zero n o (before .order) zo lo;
           pops = behind-zero n q (before .pops) zq lq;

@@ -1,4 +1,4 @@
--- Proves that the order is made in the front of order and pops, and that the places behind stay as they were.
+-- Proves that the order is made in the first places of order and pops, and that the places behind stay as they were.
 -- Assumes nothing.
 use Prim.Native.Nat.{ℕ, _+_}
 use mathlib.Core.Path.{_≡_}
@@ -16,4 +16,4 @@ module _ {mark n : ℕ} {parents order pops starts work : List ℕ} (h : Orderab
 
   pub ordering-made : {x y w : List ℕ} {peak : ℕ} → OrderMade mark (take n parents) (take (n + 1) starts) x y peak → w ≡ zeros work
       → Ordering mark n parents order pops starts work (x ++ drop n order) (y ++ drop n pops) w peak
-  ordering-made made e = record { steps = rw (made .steps); counts = rw (made .counts); greatest = made .greatest; cleared = e }
+  ordering-made made e = record { steps = rw (made .steps); counts = rw (made .counts); peak-is = made .peak-is; cleared = e }

@@ -7,21 +7,22 @@ use mathlib.Core.List.{List, _++_, map, map-map, map-id}
 use native.Mathlib.Omega.{arith}
 use lib.ListN.{length, take, drop, length-map, length-drop}
 use Rattle.papers.specs.Lists.{zeros, thenZeros}
+use Rattle.papers.specs.Refusals.{answer}
 use Rattle.papers.specs.Job.{Job, pattern, Below}
 use Rattle.papers.specs.Fill.{R}
 use Rattle.papers.specs.Order.{popsOf, orderOf}
 use Rattle.papers.specs.Key.{listsOf}
-use Rattle.papers.specs.Plan.{planOf}
-use Rattle.papers.specs.Refusals.{answer, Lent, holding}
-use Rattle.papers.specs.Analysis.{holdingPlan}
+use Rattle.papers.specs.Plan.{planOf, planFor}
+use Rattle.papers.specs.Analysis.{Lent, holding, holdingPlan}
+use Rattle.job_laws.specs.Passed.{Passed}
 use Rattle.list_laws.proofs.Stores.{take-then-zeros, length-starts}
-use Rattle.job_laws.proofs.Passed.{Passed, passes-iff, passed-below}
+use Rattle.job_laws.proofs.Passed.{passes-iff, passed-below}
 use Rattle.job_laws.proofs.Laid.{length-lists}
 use Rattle.column_laws.proofs.Testing.{tested}
 use Rattle.column_laws.proofs.Families.{length-grows}
-use Rattle.rows_needed.specs.Walk.{Countable}
+use Rattle.rows_needed.specs.Walk.{RowsCountable}
 use Rattle.order_laws.proofs.Patterns.{order-length}
-use Rattle.lent.specs.Six.{six}
+use Rattle.lent.specs.Six.{sixSlices}
 use Rattle.lent.proofs.Sixes.{sixes}
 use Rattle.lent_plan.specs.Listing.{ListableIn, AllListed, Listing}
 use Rattle.lent.proofs.Alike.{Alike, long-alike}
@@ -38,7 +39,7 @@ zeros-behind n xs l e = rw (length-drop, e)
 
 module _ {job : Job} {before : Lent} (g : Plannable job before) where
   passes : Passed job
-  passes = passes-iff job .0 (g .passes)
+  passes = g .passes
 
   below : Below (job .n) (pattern job)
   below = passed-below job passes
@@ -48,10 +49,10 @@ module _ {job : Job} {before : Lent} (g : Plannable job before) where
 
   module _ {done : ℕ} {mid : Lent} (listing : Listing (job .n) done (pattern job) before mid) (alike : Alike before mid) where
     -- parents and work are long enough to count the rows needed in them
-    pub countable : Countable (job .n) (job .starts) (job .rows) (mid .parents) (mid .work)
+    pub countable : RowsCountable (job .n) (job .starts) (job .rows) (mid .parents) (mid .work)
     countable =
         let long = long-alike alike (g .long) in
-        record { tested = tested job (g .passes); parents-long = long .parents; work-long = omega (arith, long .work) }
+        record { tested = tested job (g .passes); parents-long = omega (arith, long); work-long = omega (arith, long) }
 
     -- 8: if not all columns are done, the rows needed exceed the slice
     pub made-rows : {count : ℕ} {after : Lent} → done < job .n → count ≡ needed job → Made job before after (answer 8 0 count)
@@ -81,29 +82,29 @@ module _ {job : Job} {before : Lent} (g : Plannable job before) where
       length-starts-of : length starts ≡ n + 1
       length-starts-of = length-starts 0 (listsOf n (R (pattern job))) ∙ ap (λ k. k + 1) (length-lists (R (pattern job)) n)
 
-      -- their fronts
+      -- their first places
 
-      parents-front : take n (mid .parents) ≡ parents
-      parents-front = rw (listed .parents) (take-then-zeros parents (before .parents) (length-parents below))
+      parents-first : take n (mid .parents) ≡ parents
+      parents-first = rw (listed .parents) (take-then-zeros parents (before .parents) (length-parents below))
 
-      starts-front : take (n + 1) (mid .factorStarts) ≡ starts
-      starts-front = rw (listed .starts) (take-then-zeros starts (before .factorStarts) length-starts-of)
+      starts-first : take (n + 1) (mid .factorStarts) ≡ starts
+      starts-first = rw (listed .starts) (take-then-zeros starts (before .factorStarts) length-starts-of)
 
       pub orderable : Orderable (job .mark) n (mid .parents) (mid .order) (mid .pops) (mid .factorStarts) (mid .work)
       orderable =
           record {
-            given = rw (parents-front, starts-front) (record {
+            given = rw (parents-first, starts-first) (record {
               rowed = rowed below (passes .few);
               columns = omega (arith, length-parents below, passes .few);
               marked = passes .marked;
               order-length = sym (length-parents below);
               pops-length = sym (length-parents below);
-              work-length = omega (arith, length-parents below, alike .work, g .long .work);
+              work-length = omega (arith, length-parents below, alike .work, g .long);
             });
-            parents-long = rw (alike .parents) (g .long .parents);
-            order-long = rw (alike .order) (g .long .order);
-            pops-long = rw (alike .pops) (g .long .pops);
-            starts-long = rw (alike .starts) (g .long .starts);
+            parents-long = rw (alike .parents) (omega (arith, g .long));
+            order-long = rw (alike .order) (omega (arith, g .long));
+            pops-long = rw (alike .pops) (omega (arith, g .long));
+            starts-long = rw (alike .starts) (omega (arith, g .long));
           }
 
       -- ---- the order is made
@@ -111,21 +112,21 @@ module _ {job : Job} {before : Lent} (g : Plannable job before) where
       module _ {steps counts work : List ℕ} {most : ℕ} (ordering : Ordering (job .mark) n (mid .parents) (mid .order) (mid .pops) (mid .factorStarts)
           (mid .work) steps counts work most) where
         peak-is : most ≡ peakIn job
-        peak-is = (rw (parents-front, starts-front) at (ordering .greatest)) ∙ same-peak below (job .mark)
+        peak-is = (rw (parents-first, starts-first) at (ordering .peak-is)) ∙ same-peak below (job .mark)
 
         order-holds : steps ≡ thenZeros order (before .order)
         order-holds =
-            (rw (parents-front, starts-front, listed .order, same-order below (job .mark)) at (ordering .steps))
+            (rw (parents-first, starts-first, listed .order, same-order below (job .mark)) at (ordering .steps))
             ∙ zeros-behind n order (before .order) (order-length below (job .mark))
 
         pops-hold : counts ≡ thenZeros (map (popsOf n (pattern job)) order) (before .pops)
         pops-hold =
-            (rw (parents-front, starts-front, listed .pops, same-pops below, same-order below (job .mark)) at (ordering .counts))
+            (rw (parents-first, starts-first, listed .pops, same-pops below, same-order below (job .mark)) at (ordering .counts))
             ∙ zeros-behind n (map (popsOf n (pattern job)) order) (before .pops) (length-map order (popsOf n (pattern job)) ∙ order-length below
             (job .mark))
 
-        holds : six (mid .parents) steps counts (mid .factorStarts) (mid .factorRows) work ≡ holdingPlan job (planOf job) before
-        unfolding holdingPlan holding planOf
+        holds : sixSlices (mid .parents) steps counts (mid .factorStarts) (mid .factorRows) work ≡ holdingPlan job (planOf job) before
+        unfolding holdingPlan holding planOf planFor
         holds =
             sixes (listed .parents) (order-holds ∙ ap (λ l. thenZeros l (before .order)) (sym (map-map _ _ order ∙ map-id order)))
             (pops-hold ∙ ap (λ l. thenZeros l (before .pops)) (sym (map-map _ _ order))) (listed .starts) (listed .rows)
@@ -133,14 +134,14 @@ module _ {job : Job} {before : Lent} (g : Plannable job before) where
 
         -- 9
         pub made-peak : job .limit < most
-            → Made job before (six (mid .parents) steps counts (mid .factorStarts) (mid .factorRows) work) (answer 9 0 most)
+            → Made job before (sixSlices (mid .parents) steps counts (mid .factorStarts) (mid .factorRows) work) (answer 9 0 most)
         made-peak h =
             made-refused (λ z. omega arith)
             (way-peak job before (g .passes) (g .long) (listed .fits) (omega (arith, peak-is)) (ap (answer 9 0) peak-is) refl)
 
         -- done
         pub made-done : most ≤ job .limit
-            → Made job before (six (mid .parents) steps counts (mid .factorStarts) (mid .factorRows) work) (answer 0 0 most)
+            → Made job before (sixSlices (mid .parents) steps counts (mid .factorStarts) (mid .factorRows) work) (answer 0 0 most)
         made-done h =
             record {
               done = λ z. way-done job before (g .passes) (g .long) (listed .fits) (omega (arith, peak-is)) (ap (answer 0 0) peak-is) holds;

@@ -9,14 +9,13 @@ use Rattle.papers.specs.Job.{Pattern}
 use Rattle.papers.specs.Fill.{R}
 use Rattle.papers.specs.Tree.{parent}
 use Rattle.papers.specs.Key.{listsOf}
-use Rattle.papers.specs.Refusals.{Lent}
+use Rattle.papers.specs.Analysis.{Lent, LongEnough, fixedLengths}
 use Rattle.column_laws.specs.Tested.{Tested}
-use Rattle.lent.specs.Six.{LongEnough}
 
 -- a tested job, and slices that are long enough for it
 pub record ListableIn (n : ℕ) (starts rows : List ℕ) (lent : Lent) : Type 0 where
   pub tested : Tested n starts rows
-  pub long : LongEnough n lent
+  pub long : LongEnough (fixedLengths n lent)
 
 -- the slices hold the lists of all n columns, their starts and the parents, then zeros; order and pops hold zeros behind the first n places
 pub record AllListed (n : ℕ) (A : Pattern) (before lent : Lent) : Type 0 where

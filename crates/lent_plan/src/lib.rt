@@ -3,11 +3,11 @@ use papers::Answer;
 use papers::JobHead;
 ghost use Rattle.lent_plan.specs.Ordering.{Orderable, Ordering};
 ghost use Rattle.papers.specs.Job.{columnOf, jobOf};
-ghost use Rattle.lent.specs.Six.{six};
+ghost use Rattle.lent.specs.Six.{sixSlices};
 ghost use Rattle.lent_plan.specs.Listing.{ListableIn, Listing};
 ghost use Rattle.lent_plan.specs.Made.{Plannable, Made};
 
-// Writes the order of the columns by the mark, and the pops of its steps, to the front of their slices, from the parents and factor starts
+// Writes the order of the columns by the mark, and the pops of its steps, to the start of their slices, from the parents and factor starts
 // there. Answers the peak, and leaves work zero.
 fn order_columns(
     mark: u64,
@@ -24,7 +24,7 @@ fn order_columns(
         (now (order .exit)) (now (pops .exit)) (now (work .exit)) r
         ⌝ }
 {
-    let peak = order::order_of(
+    let needs = order::order_of(
         mark,
         &parents[..n],
         &fstarts[..n + 1],
@@ -33,10 +33,10 @@ fn order_columns(
         work,
     );
     slices::clear64(work);
-    peak
+    needs.peak
 }
 
-// Writes the lists of the columns to the front of the slices, as far as they fit, and answers how many columns are done. Order and pops
+// Writes the lists of the columns to the start of the slices, as far as they fit, and answers how many columns are done. Order and pops
 // serve as the joiner's buffers here. If all columns are done, clears what is behind the lists, and behind the first n places of order and
 // pops.
 fn list_columns(
@@ -51,13 +51,13 @@ fn list_columns(
     work: &mut [u64],
 ) -> usize
     requires { ⌜
-        ListableIn n (now starts) (now rows) (six (now parents) (now order) (now pops) (now fstarts) (now frows) (now work))
+        ListableIn n (now starts) (now rows) (sixSlices (now parents) (now order) (now pops) (now fstarts) (now frows) (now work))
         ⌝ }
     ensures { λ r. ⌜
         Listing n r (columnOf (now (starts .entry)) (now (rows .entry)))
-        (six (now (parents .entry)) (now (order .entry)) (now (pops .entry)) (now (fstarts .entry)) (now (frows .entry))
+        (sixSlices (now (parents .entry)) (now (order .entry)) (now (pops .entry)) (now (fstarts .entry)) (now (frows .entry))
         (now (work .entry)))
-        (six (now (parents .exit)) (now (order .exit)) (now (pops .exit)) (now (fstarts .exit)) (now (frows .exit)) (now (work .exit)))
+        (sixSlices (now (parents .exit)) (now (order .exit)) (now (pops .exit)) (now (fstarts .exit)) (now (frows .exit)) (now (work .exit)))
         ⌝ }
 {
     let done = structure::column_lists(
@@ -97,13 +97,13 @@ pub fn planned(
     work: &mut [u64],
 ) -> Answer
     requires { ⌜
-        Plannable (jobOf head (now starts) (now rows)) (six (now parents) (now order) (now pops) (now fstarts) (now frows) (now work))
+        Plannable (jobOf head (now starts) (now rows)) (sixSlices (now parents) (now order) (now pops) (now fstarts) (now frows) (now work))
         ⌝ }
     ensures { λ r. ⌜
         Made (jobOf head (now (starts .entry)) (now (rows .entry)))
-        (six (now (parents .entry)) (now (order .entry)) (now (pops .entry)) (now (fstarts .entry)) (now (frows .entry))
+        (sixSlices (now (parents .entry)) (now (order .entry)) (now (pops .entry)) (now (fstarts .entry)) (now (frows .entry))
         (now (work .entry)))
-        (six (now (parents .exit)) (now (order .exit)) (now (pops .exit)) (now (fstarts .exit)) (now (frows .exit)) (now (work .exit))) r
+        (sixSlices (now (parents .exit)) (now (order .exit)) (now (pops .exit)) (now (fstarts .exit)) (now (frows .exit)) (now (work .exit))) r
         ⌝ }
 {
     let n = head.n as usize;

@@ -13,8 +13,8 @@ abbrev pub rowsOf : List ℕ → ℕ → ℕ
 rowsOf fstarts c = getD fstarts c 0 - getD fstarts (c - 1) 0
 
 -- the rows that column c hands on: its list without the least row
-abbrev pub handedOn : List ℕ → List ℕ → ℕ → List ℕ
-handedOn fstarts frows c = part (getD fstarts (c - 1) 0 + 1) (getD fstarts c 0) frows
+abbrev pub handedRows : List ℕ → List ℕ → ℕ → List ℕ
+handedRows fstarts frows c = part (getD fstarts (c - 1) 0 + 1) (getD fstarts c 0) frows
 
 -- column c, whose list is not empty
 pub record Child (fstarts : List ℕ) (c : ℕ) : Type 0 where

@@ -1,4 +1,4 @@
--- Proves how stores into a lent slice combine: one run of stores behind another, a run at the front of zeros, and lists one behind the
+-- Proves how stores into a lent slice combine: one run of stores behind another, a run at the start of zeros, and lists one behind the
 -- other. A run of stores is the list that it leaves (sets-eq), so each law is one about take, drop and ++.
 -- Assumes nothing.
 use Prim.Native.Nat.{ℕ, zero, suc, _+_, _-_, _<_, _≤_}
@@ -29,7 +29,7 @@ zero-at [] p = refl
 zero-at (x ∷ l) zero = refl
 zero-at (x ∷ l) (suc p) = zero-at l p
 
--- a result stored at the front of a cleared slice gives the result, then zeros
+-- a result stored at the start of a cleared slice gives the result, then zeros
 pub sets-zeros : (xs l : List ℕ) → length xs ≤ length l → sets (zeros l) 0 xs ≡ thenZeros xs l
 unfolding thenZeros
 sets-zeros xs l h =
@@ -47,11 +47,11 @@ pub take-then-zeros : {k : ℕ} (xs l : List ℕ) → length xs ≡ k → take k
 unfolding thenZeros
 take-then-zeros {k} xs l e = take-at xs (replicate (length l - length xs) 0) k e
 
--- a store at the front gives what was stored
-pub front-stored : (l v : List ℕ) → length v ≤ length l → take (length v) (sets l 0 v) ≡ v
-front-stored l v h = rw (sets-eq v l 0 (omega arith)) (take-at v (drop (0 + length v) l) (length v) refl)
+-- a run of stores at the start gives what was stored
+pub stored-at-start : (l v : List ℕ) → length v ≤ length l → take (length v) (sets l 0 v) ≡ v
+stored-at-start l v h = rw (sets-eq v l 0 (omega arith)) (take-at v (drop (0 + length v) l) (length v) refl)
 
--- a store in front of a run makes the run longer
+-- a store before a run makes the run longer
 set-sets : (ws l : List ℕ) (i v k : ℕ) → i < k → set (sets l k ws) i v ≡ sets (set l i v) k ws
 set-sets [] l i v k h = refl
 set-sets (w ∷ ws) l i v k h =

@@ -1,5 +1,5 @@
--- Proves that the job read from a text is the job that is printed: the fronts of the buffers hold its lists, with rows as they are kept, and this
--- changes neither the analysis nor what is printed.
+-- Proves that the job read from a text is the job that is printed: the first places of the buffers hold its lists, with rows as they are kept, and
+-- this changes neither the analysis nor what is printed.
 -- Assumes nothing.
 use Prim.Native.Nat.{ℕ, _+_, _≤_}
 use mathlib.Core.Path.{_≡_, sym, ap, _∙_}
@@ -10,11 +10,11 @@ use lib.Seq.{sets, length-sets}
 use Rattle.papers.specs.declared.Answer.{Answer}
 use Rattle.papers.specs.declared.JobHead.{JobHead}
 use Rattle.papers.specs.Bounds.{programColumns, programRows}
-use Rattle.papers.specs.Job.{Job, jobOf}
 use Rattle.papers.specs.Refusals.{answer, passed, first}
-use Rattle.papers.specs.Text.{Input, textJob, textTests, refusalLine, buffers, programPrints}
+use Rattle.papers.specs.Job.{Job, jobOf, headIn}
+use Rattle.papers.specs.Text.{Input, textJob, textRefusals, refusalLine, buffers, programPrints}
 use Rattle.list_laws.specs.Wrote.{Wrote}
-use Rattle.list_laws.proofs.Stores.{front-stored}
+use Rattle.list_laws.proofs.Stores.{stored-at-start}
 use Rattle.text_laws.proofs.Printed as printed
 use Rattle.lent.specs.Six.{zeroes}
 use Rattle.text_lines.specs.Narrowed.{narrowed}
@@ -25,12 +25,12 @@ use Rattle.text_reader.proofs.KeptJobs.{kept-printed}
 use Rattle.text_reader.proofs.Sizes.{Sizes, passed-sizes}
 use Rattle.listing_plan.specs.PlanLines.{printedFrom}
 
--- the front of a slice holds the numbers that were stored there
-front : (xs l : List ℕ) (k : ℕ) {m : List ℕ} → m ≡ sets l 0 xs → length xs ≡ k → k ≤ length l → take k m ≡ xs
-front xs l k s e h = rw (s, ← e) (front-stored l xs (omega arith))
+-- the start of a slice holds the numbers that were stored there
+at-start : (xs l : List ℕ) (k : ℕ) {m : List ℕ} → m ≡ sets l 0 xs → length xs ≡ k → k ≤ length l → take k m ≡ xs
+at-start xs l k s e h = rw (s, ← e) (stored-at-start l xs (omega arith))
 
 same-job : (j : Job) {n mark limit : ℕ} {starts rows : List ℕ} → n ≡ j .n → starts ≡ j .starts → rows ≡ j .rows → mark ≡ j .mark → limit ≡ j .limit
-    → record { n = n; starts = starts; rows = rows; mark = mark; limit = limit } ≡ j
+    → jobOf (record { n = n; mark = mark; limit = limit }) starts rows ≡ j
 same-job j a b c d e i = record { n = a i; starts = b i; rows = c i; mark = d i; limit = e i }
 
 -- ---- a text that is refused
@@ -47,9 +47,9 @@ module _ (input : Input) where
 
 -- ---- a text whose job was read
 
--- the fronts of two slices hold the job's lists
+-- the first places of two slices hold the job's lists
 pub record JobFound (input : Input) (starts₀ rows₀ starts rows : List ℕ) (head : JobHead) (count : ℕ) : Type 0 where
-  pub passes : first textTests input ≡ passed
+  pub passes : first textRefusals input ≡ passed
   pub columns : head .n ≡ textJob (input .text) .n
   pub marked : head .mark ≡ textJob (input .text) .mark
   pub limited : head .limit ≡ textJob (input .text) .limit
@@ -62,7 +62,7 @@ pub told-job : {input : Input} {starts₀ rows₀ starts rows : List ℕ} {r : J
     → JobFound input starts₀ rows₀ starts rows head count
 told-job {input} {head = head} {count = count} (job-read p e s k) g =
     let job = textJob (input .text) in
-    let a : record { n = job .n; mark = job .mark; limit = job .limit } ≡ head = cc in
+    let a : headIn job ≡ head = cc in
     let b : length (job .rows) ≡ count = cc in
     record {
       passes = p;
@@ -112,9 +112,9 @@ module _ {input : Input} {starts rows : List ℕ} {head : JobHead} {count : ℕ}
   job-is =
       let job = textJob (input .text) in
       same-job (keptJob job) (f .columns)
-      (front (job .starts) (replicate (programColumns + 1) 0) (head .n + 1) (f .started) (omega (arith, f .columns, sizes .starts))
+      (at-start (job .starts) (replicate (programColumns + 1) 0) (head .n + 1) (f .started) (omega (arith, f .columns, sizes .starts))
       (omega (arith, found-columns, wide)))
-      (front (map narrowed (job .rows)) (replicate programRows 0) count (f .kept) (omega (arith, f .counted, length-map (job .rows) narrowed))
+      (at-start (map narrowed (job .rows)) (replicate programRows 0) count (f .kept) (omega (arith, f .counted, length-map (job .rows) narrowed))
       (omega (arith, found-rows, long)))
       (f .marked) (f .limited)
 

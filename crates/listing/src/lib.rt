@@ -2,8 +2,8 @@
 // the line of the text's refusal, or what is printed of its job.
 ghost use Prim.Native.Nat.{_≤_};
 ghost use lib.ListN.{length};
-ghost use Rattle.papers.specs.Job.{jobOf};
 ghost use Rattle.papers.specs.Refusals.{EndsAs};
+ghost use Rattle.papers.specs.Job.{jobOf};
 ghost use Rattle.papers.specs.Text.{buffers, programPrints, listed};
 ghost use Rattle.list_laws.specs.Wrote.{Wrote};
 ghost use Rattle.listing_plan.specs.PlanLines.{printedFrom};
@@ -12,7 +12,7 @@ use papers::Answer;
 use papers::JobHead;
 use text_reader::JobRead;
 
-// Writes what is printed of a job to the front of bytes, and answers its length.
+// Writes what is printed of a job to the start of bytes, and answers its length.
 fn print_job(head: JobHead, starts: &[u64], rows: &[u32], bytes: &mut [u8]) -> usize
     requires { ⌜ JobFits (jobOf head (now starts) (now rows)) (now bytes) ⌝ }
     ensures { λ r. ⌜
@@ -39,7 +39,7 @@ fn print_job(head: JobHead, starts: &[u64], rows: &[u32], bytes: &mut [u8]) -> u
     )
 }
 
-// Writes what is printed of a text to the front of bytes, and answers its length. `more` says whether the text continues behind what is
+// Writes what is printed of a text to the start of bytes, and answers its length. `more` says whether the text continues behind what is
 // lent.
 fn print_text(text: &[u8], more: bool, bytes: &mut [u8]) -> usize
     requires { ⌜ length (programPrints (record { text = now text; more = more })) ≤ length (now bytes) ⌝ }

@@ -1,5 +1,5 @@
--- Proves that any listing fits its slice: it has at most 256 steps and 4,096 rows, and each of its numbers except the rooms has at most
--- three digits.
+-- Proves that any listing fits its slice: it has no more steps than the program takes columns and no more rows than its buffer holds, and
+-- each of its numbers except the rooms has at most three digits.
 -- Assumes nothing.
 use Prim.Native.Nat.{ℕ, _+_, _*_, _≤_}
 use mathlib.Core.Bool.{Bool}
@@ -12,7 +12,7 @@ use Rattle.papers.specs.Lists.{keep, upTo, flat}
 use Rattle.papers.specs.Job.{Job, Pattern, pattern, Below}
 use Rattle.papers.specs.Fill.{R}
 use Rattle.papers.specs.Tree.{parent, children}
-use Rattle.papers.specs.Order.{Ordered, popsOf, orderOf, roomsOf, peak}
+use Rattle.papers.specs.Order.{Ordered, popsOf, orderOf, roomsOf, orderPeak}
 use Rattle.papers.specs.Key.{listsOf}
 use Rattle.papers.specs.Text.{wordPlan, printed, stepLines, listingOf}
 use Rattle.list_laws.proofs.Keeps.{keep-from, keep-distinct}
@@ -59,7 +59,7 @@ module _ {n : ℕ} {A : Pattern} (below : Below n A) (few : n ≤ programColumns
 -- the whole listing fits
 pub listing-fits : (job : Job) → Below (job .n) (pattern job) → job .n ≤ programColumns → job .mark ≤ maxMark
     → length (flat (listsOf (job .n) (R (pattern job)))) ≤ programFactorRows
-    → length (listingOf job (peak (job .n) (pattern job) (orderOf (job .mark) (job .n) (pattern job)))) ≤ listingBytes
+    → length (listingOf job (orderPeak (job .n) (pattern job) (orderOf (job .mark) (job .n) (pattern job)))) ≤ listingBytes
 unfolding listingOf
 listing-fits job below few marked rows =
     let n = job .n in
@@ -68,7 +68,7 @@ listing-fits job below few marked rows =
     let ordered = order-ordered below (job .mark) in
     omega (
       arith,
-      length-append (printed wordPlan (n ∷ job .mark ∷ peak n A order ∷ [])) (stepLines n A order (roomsOf n A order)),
-      three-short wordPlan n (job .mark) (peak n A order) (omega arith) (omega arith) (ordered-peak-fits below (omega arith) order ordered),
+      length-append (printed wordPlan (n ∷ job .mark ∷ orderPeak n A order ∷ [])) (stepLines n A order (roomsOf n A order)),
+      three-short wordPlan n (job .mark) (orderPeak n A order) (omega arith) (omega arith) (ordered-peak-fits below (omega arith) order ordered),
       steps-fit below few rows order ordered,
     )

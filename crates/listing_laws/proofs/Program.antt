@@ -8,22 +8,22 @@ use lib.ListN.{length, length-replicate}
 use Rattle.papers.specs.declared.Answer.{Answer}
 use Rattle.papers.specs.Bounds.{programColumns, programFactorRows, listingBytes}
 use Rattle.papers.specs.Lists.{flat}
+use Rattle.papers.specs.Refusals.{answer, Verdict, passed, refused, first, Outcome}
 use Rattle.papers.specs.Job.{Job, pattern}
 use Rattle.papers.specs.Fill.{R}
 use Rattle.papers.specs.Key.{listsOf}
-use Rattle.papers.specs.Plan.{planOf}
-use Rattle.papers.specs.Refusals.{answer, untouched, zeroed, Leaves, Verdict, passed, refused, first, Outcome, jobTests}
-use Rattle.papers.specs.Refusals.{Lent, allZero, factorRowsTest}
-use Rattle.papers.specs.Analysis.{AnalysisCall, analysisTests, analysisDone, analysed}
-use Rattle.papers.specs.Text.{textHead, textJob, Input, textTests, refusalLine, listingOf, buffers, jobPrinted, programPrints}
+use Rattle.papers.specs.Plan.{planOf, planFor}
+use Rattle.papers.specs.Analysis.{Lent, allZero, EarlyCall, earlyRefusals, earlyOf, AnalysisCall, analysisEarly, analysisLate, analysisDone, analysed}
+use Rattle.papers.specs.Text.{textHead, textJob, Input, textRefusals, refusalLine, listingOf, buffers, jobPrinted, programPrints}
+use Rattle.job_laws.specs.Passed.{Passed}
 use Rattle.text_laws.proofs.LineTests.{head-columns}
 use Rattle.text_laws.proofs.Printed.{refusal-printed, text-refused, text-passed}
-use Rattle.job_laws.proofs.Firsts.{first-passed-iff, over-passes-iff}
-use Rattle.job_laws.proofs.Passed.{passes-iff, passed-below}
-use Rattle.job_laws.proofs.Outcomes.{outcome-untouched, outcome-zeroed, outcome-done, job-passes, passed-job}
+use Rattle.job_laws.proofs.Firsts.{first-passed-iff, first-of, over-passes-iff}
+use Rattle.job_laws.proofs.Passed.{passed-below}
+use Rattle.job_laws.proofs.Outcomes.{outcome-early, outcome-late, outcome-done, early-passes-iff}
 use Rattle.listing_laws.proofs.Lengths.{refusal-short}
 use Rattle.listing_laws.proofs.Fits.{listing-fits}
-use Rattle.listing_laws.proofs.Answers.{Small, SmallIn, analysis-small}
+use Rattle.listing_laws.proofs.Answers.{Small, SmallIn, early-small, late-small}
 use Rattle.listing_laws.proofs.TextAnswers.{text-small, text-columns}
 
 refusal-fits : (a : Answer) → Small a → length (refusalLine a) ≤ listingBytes
@@ -38,56 +38,69 @@ module _ (input : Input) where
 
   -- ---- what is printed
 
-  job-refused : (a : Answer) (l : Leaves) → first analysisTests call ≡ refused a l → Small a
-      → jobPrinted job (analysed job buffers .answer) ≡ refusalLine a
+  -- an early refusal of the analysis prints its line
+  early-printed : (a : Answer) → first analysisEarly call ≡ refused a → Small a → jobPrinted job (analysed job buffers .answered) ≡ refusalLine a
   unfolding analysed
-  job-refused a untouched e s =
-      ap (λ (o : Outcome Lent). jobPrinted job (o .answer)) (outcome-untouched analysisTests analysisDone allZero call buffers e)
-      ∙ refusal-printed job a (s .0)
-  job-refused a zeroed e s =
-      ap (λ (o : Outcome Lent). jobPrinted job (o .answer)) (outcome-zeroed analysisTests analysisDone allZero call buffers e)
+  early-printed a e s =
+      ap (λ (o : Outcome Lent). jobPrinted job (o .answered)) (outcome-early analysisEarly analysisLate analysisDone allZero call buffers e)
       ∙ refusal-printed job a (s .0)
 
-  job-passed : first analysisTests call ≡ passed → jobPrinted job (analysed job buffers .answer) ≡ listingOf job (planOf job .peak)
-  unfolding analysed analysisDone jobPrinted
-  job-passed e = ap (λ (o : Outcome Lent). jobPrinted job (o .answer)) (outcome-done analysisTests analysisDone allZero call buffers e)
+  module _ (e : first analysisEarly call ≡ passed) where
+    -- and so does a late one
+    late-printed : (a : Answer) → first analysisLate call ≡ refused a → Small a → jobPrinted job (analysed job buffers .answered) ≡ refusalLine a
+    unfolding analysed
+    late-printed a f s =
+        ap (λ (o : Outcome Lent). jobPrinted job (o .answered)) (outcome-late analysisEarly analysisLate analysisDone allZero call buffers e f)
+        ∙ refusal-printed job a (s .0)
 
-  -- ---- the sizes of a job that is listed
+    -- if there is none, the listing is printed
+    listing-printed : first analysisLate call ≡ passed → jobPrinted job (analysed job buffers .answered) ≡ listingOf job (planOf job .peak)
+    unfolding analysed analysisDone jobPrinted
+    listing-printed f =
+        ap (λ (o : Outcome Lent). jobPrinted job (o .answered)) (outcome-done analysisEarly analysisLate analysisDone allZero call buffers e f)
 
-  columns-few : first textTests input ≡ passed → textHead (input .text) .n ≤ programColumns
-  unfolding textTests
-  columns-few e = head-columns input (first-passed-iff textTests input .0 e .1 .0)
+    -- ---- the sizes of a job that is listed
 
-  module _ (e : first analysisTests call ≡ passed) where
-    job-passes-all : first jobTests job ≡ passed
-    unfolding analysisTests
-    job-passes-all = passed-job (λ (c : AnalysisCall). c .job) _ call e
+    job-passed : Passed job
+    unfolding analysisEarly
+    job-passed = early-passes-iff (earlyOf job buffers) .0 (sym (first-of early earlyRefusals call) ∙ e) .0
+      where
+        early : AnalysisCall → EarlyCall
+        early c = earlyOf (c .job) (c .lent)
 
-    rows-few : length (flat (listsOf (job .n) (R (pattern job)))) ≤ programFactorRows
-    unfolding analysisTests factorRowsTest planOf buffers
-    rows-few =
-        let others = sym (job-passes (λ (c : AnalysisCall). c .job) _ call job-passes-all) ∙ e in
-        let rows = length (flat (listsOf (job .n) (R (pattern job)))) in
-        let fits = over-passes-iff (length (buffers .factorRows)) rows (answer 8 0 rows) zeroed .0 (first-passed-iff _ call .0 others .1 .0) in
-        omega (arith, fits, length-replicate {A = ℕ} programFactorRows 0)
+  columns-few : first textRefusals input ≡ passed → textHead (input .text) .head .n ≤ programColumns
+  unfolding textRefusals
+  columns-few e = head-columns input (first-passed-iff textRefusals input .0 e .1 .0)
+
+  rows-few : first analysisLate call ≡ passed → length (flat (listsOf (job .n) (R (pattern job)))) ≤ programFactorRows
+  unfolding analysisLate planOf planFor buffers
+  rows-few f =
+      let rows = length (flat (listsOf (job .n) (R (pattern job)))) in
+      let fits = over-passes-iff (length (buffers .factorRows)) rows (answer 8 0 rows) .0 (first-passed-iff analysisLate call .0 f .0) in
+      omega (arith, fits, length-replicate {A = ℕ} programFactorRows 0)
 
 -- whatever is read, what is printed fits
 pub program-fits : (input : Input) → length (programPrints input) ≤ listingBytes
-unfolding textJob planOf
-program-fits input = go (first textTests input) refl (text-small input)
+unfolding textJob planOf planFor
+program-fits input = go (first textRefusals input) refl (text-small input)
   where
-    listing : first textTests input ≡ passed → first analysisTests (call input) ≡ passed
+    listing : first textRefusals input ≡ passed → first analysisEarly (call input) ≡ passed → first analysisLate (call input) ≡ passed
         → length (listingOf (textJob (input .text)) (planOf (textJob (input .text)) .peak)) ≤ listingBytes
-    listing e f =
-        let p = passes-iff (textJob (input .text)) .0 (job-passes-all input f) in
-        let few = columns-few input e in
-        listing-fits (textJob (input .text)) (passed-below (textJob (input .text)) p) few (p .marked) (rows-few input f)
+    listing e f g =
+        let p = job-passed input f in
+        listing-fits (textJob (input .text)) (passed-below (textJob (input .text)) p) (columns-few input e) (p .marked) (rows-few input g)
 
-    analysis : first textTests input ≡ passed → (v : Verdict) → first analysisTests (call input) ≡ v → SmallIn v
+    late : first textRefusals input ≡ passed → first analysisEarly (call input) ≡ passed → (v : Verdict) → first analysisLate (call input) ≡ v
+        → SmallIn v
         → length (programPrints input) ≤ listingBytes
-    analysis e passed f s = rw (text-passed input e, job-passed input f) (listing e f)
-    analysis e (refused a l) f s = rw (text-passed input e, job-refused input a l f s) (refusal-fits a s)
+    late e f passed g s = rw (text-passed input e, listing-printed input f g) (listing e f g)
+    late e f (refused a) g s = rw (text-passed input e, late-printed input f a g s) (refusal-fits a s)
 
-    go : (v : Verdict) → first textTests input ≡ v → SmallIn v → length (programPrints input) ≤ listingBytes
-    go (refused a l) e s = rw (text-refused input e) (refusal-fits a s)
-    go passed e s = analysis e (first analysisTests (call input)) refl (analysis-small (textJob (input .text)) buffers (text-columns (input .text)))
+    early : first textRefusals input ≡ passed → (v : Verdict) → first analysisEarly (call input) ≡ v → SmallIn v
+        → length (programPrints input) ≤ listingBytes
+    early e passed f s = late e f (first analysisLate (call input)) refl (late-small (textJob (input .text)) buffers (job-passed input f))
+    early e (refused a) f s = rw (text-passed input e, early-printed input a f s) (refusal-fits a s)
+
+    go : (v : Verdict) → first textRefusals input ≡ v → SmallIn v → length (programPrints input) ≤ listingBytes
+    go (refused a) e s = rw (text-refused input e) (refusal-fits a s)
+    go passed e s = early e (first analysisEarly (call input)) refl (early-small (textJob (input .text)) buffers (text-columns (input .text)))

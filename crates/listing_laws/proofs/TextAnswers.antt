@@ -1,4 +1,4 @@
--- Proves that the answers which a listing may print of a text have small numbers: places are lines, and n has at most 13 digits.
+-- Proves that the answers which a listing may print of a text have small numbers: places are lines, and n is a decimal of few digits.
 -- Assumes nothing.
 use Prim.Native.Nat.{ℕ, zero, suc, _+_, _^_, _<_, _≤_}
 use mathlib.Core.Path.{_≡_, refl}
@@ -9,21 +9,20 @@ use lib.ListN.{length}
 use borrow.Author.Tests.{ltb-true}
 use Rattle.papers.specs.Bounds.{maxDigits, programRows}
 use Rattle.papers.specs.Lists.{least, flat}
-use Rattle.papers.specs.Refusals.{untouched, first}
-use Rattle.papers.specs.Text.{headOf, isRowLine, numbersAt, textHead, textLists, Input, inputTest, headTest, lineFault}
-use Rattle.papers.specs.Text.{rowLinesTest, endTest, textTests}
+use Rattle.papers.specs.Refusals.{first}
+use Rattle.papers.specs.Text.{headOf, isRowLine, numbersAt, textHead, textLists, Input, headTest, lineFault, rowLinesTest, endTest, textRefusals}
 use Rattle.list_laws.proofs.Tests.{Test, passes, fails, test}
 use Rattle.list_laws.proofs.Leasts.{least-found-iff}
 use Rattle.text_laws.proofs.ByWords.{first-line-iff}
-use Rattle.job_laws.proofs.Firsts.{first-each}
+use Rattle.job_laws.proofs.Firsts.{_&_, first-each}
 use Rattle.listing_laws.proofs.Answers.{SmallIn, small-if, small-at}
 
--- n has at most 13 digits
-head-short : (text : List ℕ) → textHead text .n < 10 ^ maxDigits
+-- n has no more digits than a decimal may have
+head-short : (text : List ℕ) → textHead text .head .n < 10 ^ maxDigits
 unfolding textHead headOf
 head-short text = go (numbersAt text 1) refl
   where
-    go : (l : List ℕ) → numbersAt text 1 ≡ l → headOf l .n < 10 ^ maxDigits
+    go : (l : List ℕ) → numbersAt text 1 ≡ l → headOf l .head .n < 10 ^ maxDigits
     go [] e = omega arith
     go (n ∷ []) e = omega arith
     go (n ∷ limit ∷ []) e = first-line-iff text n (limit ∷ []) .0 e .2 .0
@@ -41,12 +40,12 @@ line-fault text j = go (test (isRowLine (numbersAt text (suc j)))) (test (ltb pr
 
 row-lines-small : (input : Input) → SmallIn (rowLinesTest input)
 unfolding rowLinesTest
-row-lines-small input = go (least (λ j. ltb 0 (lineFault (input .text) j)) (textHead (input .text) .n)) refl
+row-lines-small input = go (least (λ j. ltb 0 (lineFault (input .text) j)) (textHead (input .text) .head .n)) refl
   where
-    go : (p : ℕ) → least (λ j. ltb 0 (lineFault (input .text) j)) (textHead (input .text) .n) ≡ p → SmallIn (rowLinesTest input)
+    go : (p : ℕ) → least (λ j. ltb 0 (lineFault (input .text) j)) (textHead (input .text) .head .n) ≡ p → SmallIn (rowLinesTest input)
     go zero e = rw (e, rowLinesTest) tt
     go (suc j) e =
-        let f = least-found-iff (λ j. ltb 0 (lineFault (input .text) j)) (textHead (input .text) .n) j .0 e in
+        let f = least-found-iff (λ j. ltb 0 (lineFault (input .text) j)) (textHead (input .text) .head .n) j .0 e in
         let n = head-short (input .text) in
         rw (e, rowLinesTest) (small-at (lineFault (input .text) (suc j)) (suc (suc j)) (ltb-true 0 _ (f .1)) (line-fault (input .text) (suc j))
         (omega (arith, f .0)))
@@ -56,21 +55,20 @@ unfolding headTest
 head-small input = go (test (textHead (input .text) .fine))
   where
     go : Test (textHead (input .text) .fine) → SmallIn (headTest input)
-    go (passes e) = rw (e, headTest) (small-if _ _ untouched (small-at 26 1 (omega arith) (omega arith) (omega arith)))
+    go (passes e) = rw (e, headTest) (small-if _ _ (small-at 26 1 (omega arith) (omega arith) (omega arith)))
     go (fails e) = rw (e, headTest) (small-at 25 1 (omega arith) (omega arith) (omega arith))
 
-pub text-small : (input : Input) → SmallIn (first textTests input)
-unfolding textTests inputTest endTest
+pub text-small : (input : Input) → SmallIn (first textRefusals input)
+unfolding textRefusals endTest
 text-small input =
     let n = head-short (input .text) in
-    first-each SmallIn textTests input tt (
-      small-if _ _ untouched (small-at 26 0 (omega arith) (omega arith) (omega arith)),
-      (
-        head-small input,
-        (row-lines-small input, (small-if _ _ untouched (small-at 25 (textHead (input .text) .n + 2) (omega arith) (omega arith) (omega arith)), tt)),
-      ),
-    )
+    first-each SmallIn textRefusals input tt
+    (small-if _ _ (small-at 26 0 (omega arith) (omega arith) (omega arith))
+    & head-small input
+    & row-lines-small input
+    & small-if _ _ (small-at 25 (textHead (input .text) .head .n + 2) (omega arith) (omega arith) (omega arith))
+    & tt)
 
--- n of a text has at most 13 digits
-pub text-columns : (text : List ℕ) → textHead text .n < 2 ^ 64
+-- so n of a text fits a machine number
+pub text-columns : (text : List ℕ) → textHead text .head .n < 2 ^ 64
 text-columns text = let n = head-short text in omega arith

@@ -58,7 +58,7 @@ fn write_word(word: &[u8], bytes: &mut [u8], at: usize) -> usize
     at + i
 }
 
-// Writes a line of a word and three numbers to the front of a slice.
+// Writes a line of a word and three numbers to the start of a slice.
 fn write_line(word: &[u8], a: u64, b: u64, c: u64, bytes: &mut [u8]) -> usize
     requires { ⌜ length (printed (now word) (a ∷ b ∷ c ∷ [])) ≤ length (now bytes) ⌝ }
     ensures { λ r. ⌜ Wrote (printed (now (word .entry)) (a ∷ b ∷ c ∷ [])) (now (bytes .entry)) (now (bytes .exit)) 0 r ⌝ }

@@ -10,17 +10,18 @@ use lib.Seq.{length-take-le}
 use Rattle.papers.specs.declared.Answer.{Answer}
 use Rattle.papers.specs.Bounds.{maxColumns}
 use Rattle.papers.specs.Lists.{flat}
+use Rattle.papers.specs.Refusals.{answer, Outcome}
 use Rattle.papers.specs.Job.{Job, Below, pattern}
 use Rattle.papers.specs.Fill.{R}
 use Rattle.papers.specs.Order.{popsOf, orderOf}
 use Rattle.papers.specs.Key.{listsOf}
-use Rattle.papers.specs.Plan.{planOf}
-use Rattle.papers.specs.Refusals.{answer, passed, first, Outcome, jobTests, Lent}
-use Rattle.papers.specs.Analysis.{analysed}
+use Rattle.papers.specs.Plan.{planFor, planOf}
+use Rattle.papers.specs.Analysis.{Lent, analysed}
 use Rattle.papers.specs.Text.{refusalLine, listingOf, jobPrinted}
+use Rattle.job_laws.specs.Passed.{Passed}
 use Rattle.text_laws.proofs.Printed.{refusal-printed}
 use Rattle.job_laws.specs.Parts.{Parts}
-use Rattle.job_laws.proofs.Passed.{Passed, passes-iff, passed-below}
+use Rattle.job_laws.proofs.Passed.{passed-below}
 use Rattle.plan_laws.proofs.Steps.{columns-made, pops-made}
 use Rattle.plan_laws.proofs.Analysed.{done-valid, done-few, done-parts}
 use Rattle.order.proofs.Ties.{startsOf}
@@ -32,30 +33,27 @@ use Rattle.listing_plan.proofs.Steps.{lines-same, steps-printable}
 
 module _ (job : Job) {order pops starts rows : List ℕ} (parts : Parts (job .n) (planOf job) order pops starts rows) where
   order-is : take (job .n) order ≡ orderOf (job .mark) (job .n) (pattern job)
-  unfolding planOf
+  unfolding planOf planFor
   order-is = parts .columns ∙ columns-made (popsOf (job .n) (pattern job)) (orderOf (job .mark) (job .n) (pattern job))
 
   pops-is : take (job .n) pops ≡ map (popsOf (job .n) (pattern job)) (orderOf (job .mark) (job .n) (pattern job))
-  unfolding planOf
+  unfolding planOf planFor
   pops-is = parts .popped ∙ pops-made (popsOf (job .n) (pattern job)) (orderOf (job .mark) (job .n) (pattern job))
 
   starts-is : take (job .n + 1) starts ≡ startsOf (job .n) (pattern job)
-  unfolding planOf
+  unfolding planOf planFor
   starts-is = parts .begins
 
   rows-is : take (getD starts (job .n) 0) rows ≡ flat (listsOf (job .n) (R (pattern job)))
-  unfolding planOf
+  unfolding planOf planFor
   rows-is = parts .listed
 
-  module _ (passes : first jobTests job ≡ passed) where
-    valid : Passed job
-    valid = passes-iff job .0 passes
-
+  module _ (passes : Passed job) where
     good : Below (job .n) (pattern job)
-    good = passed-below job valid
+    good = passed-below job passes
 
     parts-printable : Printable (take (job .n) order) (take (job .n) pops) (take (job .n + 1) starts) (take (getD starts (job .n) 0) rows)
-    parts-printable = rw (order-is, pops-is, starts-is, rows-is) (steps-printable good (job .mark) (valid .few) (valid .marked))
+    parts-printable = rw (order-is, pops-is, starts-is, rows-is) (steps-printable good (job .mark) (passes .few) (passes .marked))
 
     parts-printed : (count : ℕ)
         → listingOf job count ≡ planLines (job .n) (job .mark) count (take (job .n) order) (take (job .n) pops) (take (job .n + 1) starts)
@@ -65,10 +63,10 @@ module _ (job : Job) {order pops starts rows : List ℕ} (parts : Parts (job .n)
 
 -- ---- an analysis, in the words of its contract
 
-module _ (job : Job) (lent : Lent) {r : Answer} {after : Lent} (e : _≡_ {A = Outcome Lent} (record { answer = r; lent = after }) (analysed job lent))
+module _ (job : Job) (lent : Lent) {r : Answer} {after : Lent} (e : _≡_ {A = Outcome Lent} (record { answered = r; lent = after }) (analysed job lent))
   where
-    answer-is : analysed job lent .answer ≡ r
-    answer-is = sym (ap (λ (o : Outcome Lent). o .answer) e)
+    answer-is : analysed job lent .answered ≡ r
+    answer-is = sym (ap (λ (o : Outcome Lent). o .answered) e)
 
     -- the line of its refusal is printed
     pub refused-printed : r .number ≢ 0 → printedFrom job lent ≡ refusalLine r
@@ -84,11 +82,11 @@ module _ (job : Job) (lent : Lent) {r : Answer} {after : Lent} (e : _≡_ {A = O
 pub record Done (job : Job) (lent : Lent) : Type 0 where
   pub answered : Answer
   pub after : Lent
-  pub ends : _≡_ {A = Outcome Lent} (record { answer = answered; lent = after }) (analysed job lent)
+  pub ends : _≡_ {A = Outcome Lent} (record { answered = answered; lent = after }) (analysed job lent)
   pub zero : answered .number ≡ 0
 
 module _ {job : Job} {lent : Lent} (d : Done job lent) where
-  -- the fronts of its slices hold the plan
+  -- the first places of its slices hold the plan
   pub done-lies : Parts (job .n) (planOf job) (d .after .order) (d .after .pops) (d .after .factorStarts) (d .after .factorRows)
   done-lies = done-parts job lent (d .ends) (d .zero)
 

@@ -1,13 +1,13 @@
 -- Proves that the lines printed from the slices of an analysis are the job's: each column's rows are between its starts, and the rooms of the steps
 -- are those of the columns.
 -- Assumes nothing.
-use Prim.Native.Nat.{ℕ, zero, suc, _+_, _*_, _<_, _≤_}
+use Prim.Native.Nat.{ℕ, zero, suc, _<_, _≤_}
 use mathlib.Core.Path.{_≡_, refl, sym, ap, _∙_}
 use mathlib.Core.List.{List, [], _∷_, _++_, map, append-nil, append-assoc}
 use native.Mathlib.Omega.{arith}
 use lib.ListN.{length, getD, take}
 use lib.Seq.{take-suc, take-length}
-use Rattle.papers.specs.Bounds.{maxColumns, maxMark}
+use Rattle.papers.specs.Bounds.{maxColumns, maxMark, workLength}
 use Rattle.papers.specs.Lists.{flat}
 use Rattle.papers.specs.Job.{Pattern, Below, columnOf}
 use Rattle.papers.specs.Fill.{R}
@@ -19,12 +19,12 @@ use Rattle.papers.specs.Text.{decimalOf, printed, stepLines}
 use Rattle.list_laws.proofs.Members.{at-place}
 use Rattle.job_laws.proofs.Starts.{start-at, start-within}
 use Rattle.job_laws.proofs.Laid.{length-lists, lists-at, laid-column, laid-starts}
-use Rattle.order_laws.specs.Held.{heldAfterAll}
+use Rattle.order_laws.specs.Entries.{entriesAfterAll}
 use Rattle.order_laws.proofs.Rooms.{rooms-nil, rooms-cons, rooms-append}
 use Rattle.order_laws.proofs.Steps.{column-at}
 use Rattle.order_laws.proofs.Patterns.{order-ordered, order-length}
-use Rattle.room.specs.Rows.{rowsIn}
-use Rattle.room.proofs.BySteps.{pops-here, held-by-steps}
+use Rattle.room.specs.Rows.{rowCountIn}
+use Rattle.room.proofs.BySteps.{pops-here, entries-by-steps}
 use Rattle.order.specs.Given.{Given}
 use Rattle.order.proofs.Peaks.{peak-asked}
 use Rattle.order.proofs.Ties.{parentsOf, startsOf, length-parents, rows-tie, same-order, same-pops, rowed}
@@ -44,12 +44,12 @@ module _ (n : ℕ) (A : Pattern) where
       let line = printed (decimalOf i) (popsOf n A i ∷ x ∷ R A i) in
       ap (λ (l : List ℕ). line ++ l) (lines-snoc js rs j r (omega arith)) ∙ sym (append-assoc line (stepLines n A js rs) _)
 
-  length-rooms : (held js : List ℕ) → length (rooms (rowCount A) (popsOf n A) held js) ≡ length js
+  length-rooms : (entries js : List ℕ) → length (rooms (rowCount A) (popsOf n A) entries js) ≡ length js
   unfolding rooms
-  length-rooms held [] = refl
-  length-rooms held (j ∷ js) = ap (λ (k : ℕ). suc k) (length-rooms _ js)
+  length-rooms entries [] = refl
+  length-rooms entries (j ∷ js) = ap (λ (k : ℕ). suc k) (length-rooms _ js)
 
-  module _ (order starts rows : List ℕ) (sized : rowsIn starts ≡ rowCount A) (listed : (k : ℕ) → k < length order
+  module _ (order starts rows : List ℕ) (sized : rowCountIn starts ≡ rowCount A) (listed : (k : ℕ) → k < length order
       → columnOf starts rows (getD order k 0) ≡ R A (getD order k 0)) where
     abbrev pops : List ℕ
     pops = map (popsOf n A) order
@@ -58,13 +58,13 @@ module _ (n : ℕ) (A : Pattern) where
     line-is : (k : ℕ) → k < length order
         → lineBehind order (map (popsOf n A) order) starts rows k
         ≡ printed (decimalOf (getD order k 0)) (popsOf n A (getD order k 0) ∷ roomAt (popsOf n A (getD order k 0)) (rowCount A (getD order k 0))
-        (heldAfterAll (rowCount A) (popsOf n A) [] (take k order)) ∷ R A (getD order k 0))
+        (entriesAfterAll (rowCount A) (popsOf n A) [] (take k order)) ∷ R A (getD order k 0))
     unfolding lineBehind
     line-is k h =
         rw (
           ← (column-at pops k),
-          held-by-steps (rowsIn starts) (popsOf n A) order k (omega arith),
-          pops-here (rowsIn starts) (popsOf n A) order k h,
+          entries-by-steps (rowCountIn starts) (popsOf n A) order k (omega arith),
+          pops-here (rowCountIn starts) (popsOf n A) order k h,
           column-at order k,
           sized,
           listed k h,
@@ -121,7 +121,7 @@ module _ {n : ℕ} {A : Pattern} (good : Below n A) where
               (omega arith) (omega (arith, in-range k h .1, length-lists (R A) n)));
         }
       where
-        given : Given mark (parentsOf n A) (startsOf n A) (length (parentsOf n A)) (length (parentsOf n A)) (8 * length (parentsOf n A) + 8)
+        given : Given mark (parentsOf n A) (startsOf n A) (length (parentsOf n A)) (length (parentsOf n A)) (workLength (length (parentsOf n A)))
         given =
             record {
               rowed = rowed good few;

@@ -4,8 +4,7 @@ use Prim.Native.Nat.{ℕ, _<_, _≤_}
 use mathlib.Core.List.{List, [], _∷_, _++_}
 use lib.ListN.{length}
 use Rattle.papers.specs.Job.{Job}
-use Rattle.papers.specs.Refusals.{Lent}
-use Rattle.papers.specs.Analysis.{analysed}
+use Rattle.papers.specs.Analysis.{Lent, analysed}
 use Rattle.papers.specs.Text.{wordPlan, printed, jobPrinted}
 use Rattle.listing_steps.specs.Steps.{linesTo, Printable}
 
@@ -15,7 +14,7 @@ planLines n mark peak order pops starts rows = printed wordPlan (n ∷ mark ∷ 
 
 -- what is printed of a job that is analysed in these slices
 abbrev pub printedFrom : Job → Lent → List ℕ
-printedFrom job lent = jobPrinted job (analysed job lent .answer)
+printedFrom job lent = jobPrinted job (analysed job lent .answered)
 
 -- the steps can be printed, below has places for the sums of the updates, and the listing fits
 pub record PlanFits (n mark peak : ℕ) (order pops starts rows below bytes : List ℕ) : Type 0 where

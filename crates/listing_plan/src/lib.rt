@@ -1,11 +1,11 @@
 // Prints what is printed of a job: analyses it in lent slices, then writes its listing from them, or the line of its refusal.
 ghost use Rattle.papers.specs.Job.{jobOf};
 ghost use Rattle.list_laws.specs.Wrote.{Wrote};
-ghost use Rattle.lent.specs.Six.{six};
+ghost use Rattle.lent.specs.Six.{sixSlices};
 ghost use Rattle.listing_plan.specs.PlanLines.{planLines, printedFrom, PlanFits, PrintFits};
 use papers::JobHead;
 
-// Writes the listing of a plan, which the slices hold, to the front of bytes, and answers its length.
+// Writes the listing of a plan, which the slices hold, to the start of bytes, and answers its length.
 fn print_plan(
     head: JobHead,
     peak: u64,
@@ -26,7 +26,7 @@ fn print_plan(
     listing_steps::write_steps(order, pops, fstarts, frows, below, bytes, first)
 }
 
-// Analyses a job in lent slices, writes its listing or the line of its refusal to the front of bytes, and answers its length.
+// Analyses a job in lent slices, writes its listing or the line of its refusal to the start of bytes, and answers its length.
 pub fn print_analysis(
     head: JobHead,
     starts: &[u64],
@@ -41,11 +41,11 @@ pub fn print_analysis(
 ) -> usize
     requires { ⌜
         PrintFits (jobOf head (now starts) (now rows))
-        (six (now parents) (now order) (now pops) (now fstarts) (now frows) (now work)) (now bytes)
+        (sixSlices (now parents) (now order) (now pops) (now fstarts) (now frows) (now work)) (now bytes)
         ⌝ }
     ensures { λ r. ⌜
         Wrote (printedFrom (jobOf head (now (starts .entry)) (now (rows .entry)))
-        (six (now (parents .entry)) (now (order .entry)) (now (pops .entry)) (now (fstarts .entry)) (now (frows .entry))
+        (sixSlices (now (parents .entry)) (now (order .entry)) (now (pops .entry)) (now (fstarts .entry)) (now (frows .entry))
         (now (work .entry))))
         (now (bytes .entry)) (now (bytes .exit)) 0 r
         ⌝ }

@@ -13,8 +13,8 @@ use Rattle.papers.specs.Tree.{t}
 use Rattle.papers.specs.Text.{decimalOf, printed}
 use Rattle.list_laws.specs.Wrote.{Wrote}
 use Rattle.list_laws.proofs.Writing.{wrote-long, wrote-both, wrote-as}
-use Rattle.room.specs.Rows.{RowsOf}
-use Rattle.room.specs.Steps.{Held}
+use Rattle.room.specs.Rows.{RowsCounted}
+use Rattle.room.specs.Steps.{StepDone}
 use Rattle.room.proofs.Stacks.{Stacked, stacked-start, stacked-room, stacked-turn}
 use Rattle.listing_steps.specs.Steps.{lineBehind, linesTo, Printable}
 
@@ -56,7 +56,7 @@ module _ (order pops starts rows : List ℕ) where
     pub printing-stop : length order ≤ k → Wrote (linesTo order pops starts rows (length order)) bytes₀ bytes at next
     printing-stop h = let e : k ≡ length order = omega (arith, inv .stacked .seen) in rw (← e) (inv .written)
 
-    module _ (pre : Printable order pops starts rows) (more : k < length order) {r u : ℕ} (er : RowsOf starts (getD order k 0) r)
+    module _ (pre : Printable order pops starts rows) (more : k < length order) {r u : ℕ} (er : RowsCounted starts (getD order k 0) r)
         (eu : u ≡ getD below (depth - min (getD pops k 0) 1) 0 + t (r + 1))
       where
         -- the line that is written next
@@ -80,7 +80,7 @@ module _ (order pops starts rows : List ℕ) where
 
         pub printing-turn : {d m : ℕ} {b bytes′ : List ℕ}
             → Wrote (printed (decimalOf (getD order k 0)) (getD pops k 0 ∷ u ∷ columnOf starts rows (getD order k 0))) bytes bytes′ next m
-            → Held below depth (getD pops k 0) r b d
+            → StepDone below depth (getD pops k 0) r b d
             → Printing order pops starts rows below₀ bytes₀ at b bytes′ d m (k + 1)
         printing-turn p one =
             record {

@@ -5,7 +5,7 @@ ghost use lib.ListN.{length};
 ghost use Rattle.papers.specs.Job.{columnOf};
 ghost use Rattle.papers.specs.Text.{decimalOf, printed};
 ghost use Rattle.list_laws.specs.Wrote.{Wrote};
-ghost use Rattle.listing_steps.specs.Steps.{linesTo, LineFits, StepsFit};
+ghost use Rattle.listing_steps.specs.Steps.{linesTo, LineFits, LinesFit};
 
 // Writes the line of a step: its column, its pops, its room in use and the column's rows.
 pub fn write_step(
@@ -61,7 +61,7 @@ pub fn write_steps(
     bytes: &mut [u8],
     at: usize,
 ) -> usize
-    requires { ⌜ StepsFit (now order) (now pops) (now fstarts) (now frows) (now below) (now bytes) at ⌝ }
+    requires { ⌜ LinesFit (now order) (now pops) (now fstarts) (now frows) (now below) (now bytes) at ⌝ }
     ensures { λ r. ⌜
         Wrote (linesTo (now (order .entry)) (now (pops .entry)) (now (fstarts .entry)) (now (frows .entry)) (length (now (order .entry))))
         (now (bytes .entry)) (now (bytes .exit)) at r

@@ -15,12 +15,12 @@ use Rattle.papers.specs.Tree.{parent}
 use Rattle.list_laws.proofs.Tests.{below-or, same-or}
 use Rattle.fill_laws.proofs.Fill.{R-range}
 use Rattle.fill_laws.proofs.Parents.{parent-least, parent-above, hands-on}
-use Rattle.needed_climb.specs.Row.{Row, Start, Climbing, Climbed}
+use Rattle.needed_climb.specs.Row.{Row, ClimbStart, Climbing, Climbed}
 use Rattle.needed_climb.proofs.Marking.{settle, step, parent-new, parent-old, count-few}
 
 -- the climb from k has reached c
 pub record Climb (i k : ℕ) (p₀ w₀ : List ℕ) (t₀ : ℕ) (p w : List ℕ) (t c : ℕ) : Type 0 where
-  pub state : (n : ℕ) (A : Pattern) → Start n i k A p₀ w₀ t₀ → Row n i A p w t c × ((c ≡ i) ⊎ (i ∈ R A c))
+  pub state : (n : ℕ) (A : Pattern) → ClimbStart n i k A p₀ w₀ t₀ → Row n i A p w t c × ((c ≡ i) ⊎ (i ∈ R A c))
   pub low : 1 ≤ c
   pub high : c ≤ i
   pub met : (getD w k 0 ≡ i) ⊎ (c ≡ k)
@@ -102,7 +102,7 @@ module _ {i k t₀ t c : ℕ} {p₀ w₀ p w : List ℕ} (s : Climbing i k p₀ 
 
     -- the climb goes on at the parent c′
     on : (p′ : List ℕ) (c′ : ℕ) → c < c′ → c′ ≤ i → length p′ ≡ length p → ((x : ℕ) → x ≢ c - 1 → getD p′ x 0 ≡ getD p x 0)
-        → ((n : ℕ) (A : Pattern) → Start n i k A p₀ w₀ t₀ → (getD p′ (c - 1) 0 ≡ parent A c) × (parent A c ≡ c′))
+        → ((n : ℕ) (A : Pattern) → ClimbStart n i k A p₀ w₀ t₀ → (getD p′ (c - 1) 0 ≡ parent A c) × (parent A c ≡ c′))
         → Climb i k p₀ w₀ t₀ p′ (set w c i) (t + 1) c′
     on p′ c′ l u lp f e =
         record {
@@ -116,7 +116,7 @@ module _ {i k t₀ t c : ℕ} {p₀ w₀ p w : List ℕ} (s : Climbing i k p₀ 
           long-w = length-set w c i ∙ r .long-w;
         }
       where
-        row : (n : ℕ) (A : Pattern) → Start n i k A p₀ w₀ t₀ → Row n i A p w t c × ((c ≡ i) ⊎ (i ∈ R A c))
+        row : (n : ℕ) (A : Pattern) → ClimbStart n i k A p₀ w₀ t₀ → Row n i A p w t c × ((c ≡ i) ⊎ (i ∈ R A c))
             → (getD p′ (c - 1) 0 ≡ parent A c) × (parent A c ≡ c′)
             → Row n i A p′ (set w c i) (t + 1) c′ × ((c′ ≡ i) ⊎ (i ∈ R A c′))
         row n A a v g =
@@ -136,7 +136,7 @@ module _ {i k t₀ t c : ℕ} {p₀ w₀ p w : List ℕ} (s : Climbing i k p₀ 
         (λ n A a. let v = r .state n A a in let q = parent-new (v .0) (a .good) (on-path v) (r .low) h e in
         (getD-set-same p (c - 1) i 0 (here .in-p) ∙ sym q, q))
 
-    old : (n : ℕ) (A : Pattern) → Start n i k A p₀ w₀ t₀ → getD p (c - 1) 0 ≢ 0
+    old : (n : ℕ) (A : Pattern) → ClimbStart n i k A p₀ w₀ t₀ → getD p (c - 1) 0 ≢ 0
         → (getD p (c - 1) 0 ≡ parent A c) × ((c < parent A c) × (parent A c ≤ i))
     old n A a e =
         let v = r .state n A a in

@@ -17,9 +17,9 @@ use Rattle.list_laws.proofs.Tests.{below-or, same-or}
 use Rattle.list_laws.proofs.Ascending.{asc-length}
 use Rattle.fill_laws.proofs.Fill.{R-asc, R-range}
 use Rattle.fill_laws.proofs.Parents.{parent-least}
-use Rattle.needed_climb.specs.Sums.{sumTo, under, hit}
+use Rattle.needed_climb.specs.Sums.{sumTo, countBelow, hit}
 use Rattle.needed_climb.specs.Row.{tally, Row}
-use Rattle.needed_climb.proofs.Sums.{hit-yes, hit-no, sum-same, sum-bump, sum-few, under-few}
+use Rattle.needed_climb.proofs.Sums.{hit-yes, hit-no, sum-same, sum-bump, sum-few, below-few}
 
 -- a climb that meets a mark leaves no column to mark
 pub settle : {n i d t : ℕ} {A : Pattern} {p w : List ℕ} (e : ℕ) → Row n i A p w t d → getD w d 0 ≡ i → Row n i A p w t e
@@ -39,7 +39,7 @@ pub row-ext : {n i d t : ℕ} {A : Pattern} {p w : List ℕ} (w′ : List ℕ) �
 row-ext {n} {i} {d} {t} {A} {p} {w} w′ good h f r =
     record {
       known = r .known;
-      sum = sum-same n (tally A w i) (tally A w′ i) (λ c a b. ap (λ m. under i (R A c) + hit m i) (f c b)) ∙ r .sum;
+      sum = sum-same n (tally A w i) (tally A w′ i) (λ c a b. ap (λ m. countBelow i (R A c) + hit m i) (f c b)) ∙ r .sum;
       marked = λ c a b m z. r .marked c a b (sym (f c b) ∙ m) z;
       closed = λ c a b m z. closed c a b (sym (f c b) ∙ m) z;
       own = f i h ∙ r .own;
@@ -61,7 +61,7 @@ count-few {n} {i} {t} {d} {A} {p} {w} good h r = omega (arith, r .sum, sum-few n
         (omega arith)) (same-or (getD w c 0) i)
 
     few : (c : ℕ) → tally A w i c ≤ maxColumns + 1
-    few c = omega (arith, under-few i (R A c), at-most c, asc-length n c (R A c) (R-asc good c) (λ x m. R-range good c x m .1))
+    few c = omega (arith, below-few i (R A c), at-most c, asc-length n c (R A c) (R-asc good c) (λ x m. R-range good c x m .1))
 
 -- the climb has reached column c, which has row i and is not marked for it
 module _ {n i c t : ℕ} {A : Pattern} {p w : List ℕ} (r : Row n i A p w t c) (good : Below n A) (m : i ∈ R A c) (a : 1 ≤ c) (fresh : getD w c 0 ≢ i)
@@ -111,7 +111,7 @@ module _ {n i c t : ℕ} {A : Pattern} {p w : List ℕ} (r : Row n i A p w t c) 
             let more =
             sum-bump n c (tally A w i) (tally A (set w c i) i) a (omega (arith, range))
             (rw (here, hit-yes i i refl, hit-no (getD w c 0) i fresh) (omega arith))
-            (λ x h l z. ap (λ k. under i (R A x) + hit k i) (other x z)) in
+            (λ x h l z. ap (λ k. countBelow i (R A x) + hit k i) (other x z)) in
             omega (arith, r .sum)
 
         marked : (x : ℕ) → 1 ≤ x → x ≤ n → getD (set w c i) x 0 ≡ i → x ≢ i → (i ∈ R A x) × (getD p′ (x - 1) 0 ≡ parent A x)

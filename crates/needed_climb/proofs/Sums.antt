@@ -10,7 +10,7 @@ use lib.ListN.{length}
 use borrow.Author.Tests.{lt-ltb, le-ltb, eq-eqb, ne-eqb}
 use Rattle.papers.specs.Bounds.{maxColumns}
 use Rattle.list_laws.proofs.Tests.{below-or}
-use Rattle.needed_climb.specs.Sums.{sumTo, under, hit}
+use Rattle.needed_climb.specs.Sums.{sumTo, countBelow, hit}
 
 pub hit-yes : (a b : ℕ) → a ≡ b → hit a b ≡ 1
 unfolding hit
@@ -49,19 +49,19 @@ sum-few (suc n) g f = omega (arith, sum-few n g (λ c u v. f c u (omega arith)),
 
 -- ---- rows below i
 
-pub under-lt : (i x : ℕ) (xs : List ℕ) → x < i → under i (x ∷ xs) ≡ suc (under i xs)
-unfolding under
-under-lt i x xs h = rw (lt-ltb x i h, under)
+pub below-lt : (i x : ℕ) (xs : List ℕ) → x < i → countBelow i (x ∷ xs) ≡ suc (countBelow i xs)
+unfolding countBelow
+below-lt i x xs h = rw (lt-ltb x i h, countBelow)
 
-pub under-ge : (i x : ℕ) (xs : List ℕ) → i ≤ x → under i (x ∷ xs) ≡ under i xs
-unfolding under
-under-ge i x xs h = rw (le-ltb x i h, under)
+pub below-ge : (i x : ℕ) (xs : List ℕ) → i ≤ x → countBelow i (x ∷ xs) ≡ countBelow i xs
+unfolding countBelow
+below-ge i x xs h = rw (le-ltb x i h, countBelow)
 
-pub under-few : (i : ℕ) (l : List ℕ) → under i l ≤ length l
-unfolding under
-under-few i [] = omega arith
-under-few i (x ∷ xs) =
+pub below-few : (i : ℕ) (l : List ℕ) → countBelow i l ≤ length l
+unfolding countBelow
+below-few i [] = omega arith
+below-few i (x ∷ xs) =
     ⊎-elim
-    (λ (h : x < i). rw (under-lt i x xs h) (omega (arith, under-few i xs)))
-    (λ (h : i ≤ x). rw (under-ge i x xs h) (omega (arith, under-few i xs)))
+    (λ (h : x < i). rw (below-lt i x xs h) (omega (arith, below-few i xs)))
+    (λ (h : i ≤ x). rw (below-ge i x xs h) (omega (arith, below-few i xs)))
     (below-or x i)

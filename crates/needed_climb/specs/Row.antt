@@ -11,11 +11,11 @@ use Rattle.papers.specs.Lists.{_∈_}
 use Rattle.papers.specs.Job.{Pattern, Below}
 use Rattle.papers.specs.Fill.{R}
 use Rattle.papers.specs.Tree.{parent}
-use Rattle.needed_climb.specs.Sums.{sumTo, under, hit}
+use Rattle.needed_climb.specs.Sums.{sumTo, countBelow, hit}
 
 -- counts the rows of column c below i, and one more if it is marked for row i
 abbrev pub tally : Pattern → List ℕ → ℕ → ℕ → ℕ
-tally A work i c = under i (R A c) + hit (getD work c 0) i
+tally A work i c = countBelow i (R A c) + hit (getD work c 0) i
 
 -- parents holds at each column its parent or 0, and it holds every parent below i
 pub record Known (n i : ℕ) (A : Pattern) (parents : List ℕ) : Type 0 where
@@ -32,7 +32,7 @@ pub record Row (n i : ℕ) (A : Pattern) (parents work : List ℕ) (t d : ℕ) :
   pub low : (c : ℕ) → 1 ≤ c → c ≤ n → getD work c 0 ≤ i
 
 -- a climb begins at column k, which has row i, of a pattern of n columns
-pub record Start (n i k : ℕ) (A : Pattern) (parents work : List ℕ) (t : ℕ) : Type 0 where
+pub record ClimbStart (n i k : ℕ) (A : Pattern) (parents work : List ℕ) (t : ℕ) : Type 0 where
   pub good : Below n A
   pub row : Row n i A parents work t i
   pub leaf : i ∈ R A k
@@ -44,11 +44,11 @@ pub record Start (n i k : ℕ) (A : Pattern) (parents work : List ℕ) (t : ℕ)
 pub record Climbing (i k : ℕ) (parents work : List ℕ) (t : ℕ) : Type 0 where
   pub n : ℕ
   pub pattern : Pattern
-  pub start : Start n i k pattern parents work t
+  pub start : ClimbStart n i k pattern parents work t
 
 -- what a climb leaves for any pattern
 pub record Climbed (i k : ℕ) (parents₀ work₀ : List ℕ) (t₀ : ℕ) (parents work : List ℕ) (t : ℕ) : Type 0 where
-  pub row : (n : ℕ) (A : Pattern) → Start n i k A parents₀ work₀ t₀ → Row n i A parents work t i
+  pub row : (n : ℕ) (A : Pattern) → ClimbStart n i k A parents₀ work₀ t₀ → Row n i A parents work t i
   pub met : getD work k 0 ≡ i
   pub kept : (c : ℕ) → getD work₀ c 0 ≡ i → getD work c 0 ≡ i
   pub others : (x : ℕ) → i < x → getD work x 0 ≡ getD work₀ x 0

@@ -11,9 +11,9 @@ sumTo zero g = 0
 sumTo (suc n) g = sumTo n g + g (suc n)
 
 -- counts the numbers of a list that are below i
-unfoldable pub under : ℕ → List ℕ → ℕ
-under i [] = 0
-under i (x ∷ xs) = elim (ltb x i) [ true ↦ suc (under i xs) | false ↦ under i xs ]
+unfoldable pub countBelow : ℕ → List ℕ → ℕ
+countBelow i [] = 0
+countBelow i (x ∷ xs) = elim (ltb x i) [ true ↦ suc (countBelow i xs) | false ↦ countBelow i xs ]
 
 -- 1 if a is b, else 0
 unfoldable pub hit : ℕ → ℕ → ℕ

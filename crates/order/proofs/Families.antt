@@ -22,7 +22,7 @@ use Rattle.tree.specs.Blocks.{kidsAt}
 use Rattle.tree.specs.Laid.{Lie}
 use Rattle.tree.proofs.Children.{kids-lower, parent-is}
 use Rattle.tree.proofs.Blocks.{kids-are}
-use Rattle.room.specs.Rows.{rowsIn, Column}
+use Rattle.room.specs.Rows.{rowCountIn, ColumnStarts}
 use Rattle.order.specs.Given.{Rowed}
 use Rattle.siblings.specs.Arranged.{Family}
 use Rattle.order.proofs.Marked.{steps-short}
@@ -31,12 +31,12 @@ module _ {parents factor : List ℕ} (rowed : Rowed parents factor) where
   abbrev n : ℕ
   n = length parents
 
-  pub column-of : (j : ℕ) → 0 < j → j ≤ n → Column factor j
-  unfolding rowsIn
+  pub column-of : (j : ℕ) → 0 < j → j ≤ n → ColumnStarts factor j
+  unfolding rowCountIn
   column-of j l u = record { some = l; known = omega (arith, rowed .starts); rise = rowed .rise j l u; few = omega (arith, rowed .few j l u) }
 
-  no-rows : (j : ℕ) → n < j → rowsIn factor j ≡ 0
-  unfolding rowsIn
+  no-rows : (j : ℕ) → n < j → rowCountIn factor j ≡ 0
+  unfolding rowCountIn
   no-rows j h = let past : length factor ≤ j = omega (arith, rowed .starts) in omega (arith, List·getD-eq-default factor 0 past)
 
   no-parent : (j : ℕ) → n < j → parentIn parents j ≡ 0
@@ -44,40 +44,40 @@ module _ {parents factor : List ℕ} (rowed : Rowed parents factor) where
   no-parent (suc i) h = let past : length parents ≤ i = omega arith in parent-is parents i ∙ List·getD-eq-default parents 0 past
 
   -- no column has more rows than the greatest number of columns
-  pub rows-few : (j : ℕ) → rowsIn factor j ≤ maxColumns
-  unfolding rowsIn
+  pub rows-few : (j : ℕ) → rowCountIn factor j ≤ maxColumns
+  unfolding rowCountIn
   rows-few zero = omega arith
   rows-few (suc i) = go (below-or n (suc i))
     where
-      go : (n < suc i) ⊎ (suc i ≤ n) → rowsIn factor (suc i) ≤ maxColumns
+      go : (n < suc i) ⊎ (suc i ≤ n) → rowCountIn factor (suc i) ≤ maxColumns
       go (inl h) = omega (arith, no-rows (suc i) h)
       go (inr h) = rowed .few (suc i) (omega arith) h
 
   -- a column has no rows exactly if it has no parent
-  pub roots-all : (j : ℕ) → (rowsIn factor j ≡ 0) ↔ (parentIn parents j ≡ 0)
-  unfolding rowsIn parentIn
+  pub roots-all : (j : ℕ) → (rowCountIn factor j ≡ 0) ↔ (parentIn parents j ≡ 0)
+  unfolding rowCountIn parentIn
   roots-all zero = (λ e. refl, λ e. omega arith)
   roots-all (suc i) = go (below-or n (suc i))
     where
-      go : (n < suc i) ⊎ (suc i ≤ n) → (rowsIn factor (suc i) ≡ 0) ↔ (parentIn parents (suc i) ≡ 0)
+      go : (n < suc i) ⊎ (suc i ≤ n) → (rowCountIn factor (suc i) ≡ 0) ↔ (parentIn parents (suc i) ≡ 0)
       go (inl h) = (λ e. no-parent (suc i) h, λ e. no-rows (suc i) h)
       go (inr h) = rowed .roots (suc i) (omega arith) h
 
   -- children are lower columns and have rows
-  pub kin-of : Kin (rowsIn factor) (kidsIn parents)
+  pub kin-of : Kin (rowCountIn factor) (kidsIn parents)
   kin-of =
       record {
         lower = kids-lower parents (rowed .tree);
         update = λ j c z m. let (l, u, e) = children-are (parentIn parents) n j c .0 m in rows c
-            (omega arith) (rowsIn factor c) refl;
+            (omega arith) (rowCountIn factor c) refl;
       }
     where
-      rows : (c : ℕ) → 0 < parentIn parents c → (r : ℕ) → rowsIn factor c ≡ r → 0 < r
+      rows : (c : ℕ) → 0 < parentIn parents c → (r : ℕ) → rowCountIn factor c ≡ r → 0 < r
       rows c h zero e = absurd (omega (arith, roots-all c .0 e))
       rows c h (suc r) e = omega arith
 
   pub family-of : (mark : ℕ) → n ≤ maxColumns → Family mark factor (kidsIn parents) n
-  family-of mark h = record { kin = kin-of; column = column-of; rows = rows-few; short = steps-short (rowed .tree) mark (rowsIn factor); few = h }
+  family-of mark h = record { kin = kin-of; column = column-of; rows = rows-few; short = steps-short (rowed .tree) mark (rowCountIn factor); few = h }
 
 -- ---- lists that follow one another are those of the children, for every number
 module _ (parents : List ℕ) {starts list : List ℕ} (tree : TreeIn parents) (lie : Lie (kidsIn parents) (length parents) starts list)

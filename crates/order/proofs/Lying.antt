@@ -13,7 +13,7 @@ use Rattle.list_laws.specs.Parts.{part}
 use Rattle.list_laws.proofs.Parts.{part-length, part-same}
 use Rattle.tree.specs.Laid.{LaidOut}
 use Rattle.tree.proofs.Blocks.{kids-are}
-use Rattle.order.specs.Given.{Given, Starts, StepsWritten}
+use Rattle.order.specs.Given.{Given, ChildStarts, StepsWritten}
 use Rattle.walk.specs.Tasks.{kidsSteps}
 use Rattle.siblings.specs.Arranged.{arrangedIn, Arrangeable, AllArranged}
 use Rattle.order.proofs.Families.{family-of, lists-end, lists-are}
@@ -38,14 +38,14 @@ module _ {mark : ℕ} {parents factor list work : List ℕ} {order pops lent : �
     list-length : length list ≡ columns
     list-length = list-kept ∙ given .pops-length
 
-    front-length : length (take m work) ≡ m
-    front-length = length-take-le m work (omega (arith, given .work-length))
+    start-length : length (take m work) ≡ m
+    start-length = length-take-le m work (omega (arith, given .work-length))
 
     start-at : (j : ℕ) → j ≤ columns + 1 → getD work j 0 ≡ getD (take m work) j 0
     start-at j h = sym (getD-take m work j 0 (omega arith))
 
     kids-lie : kidsAt (take m work) list ≡ (λ j. kidsIn parents j)
-    kids-lie = lists-are parents (given .rowed .tree) (laid .lie) front-length
+    kids-lie = lists-are parents (given .rowed .tree) (laid .lie) start-length
 
     -- what arranging requires
     pub arrange-asked : Arrangeable mark factor list work order w k
@@ -62,8 +62,8 @@ module _ {mark : ℕ} {parents factor list work : List ℕ} {order pops lent : �
 
     -- ---- arranged
     module _ {list′ work′ : List ℕ} (all : AllArranged mark factor list work list′ work′ w) (list-same : length list′ ≡ length list) where
-      front-same : take m work′ ≡ take m work
-      front-same = sym (take-take m w work′ (omega arith)) ∙ (ap (take m) (all .same) ∙ take-take m w work (omega arith))
+      start-same : take m work′ ≡ take m work
+      start-same = sym (take-take m w work′ (omega arith)) ∙ (ap (take m) (all .same) ∙ take-take m w work (omega arith))
 
       back-same : part m w work′ ≡ part m w work
       back-same = part-same m w work′ work (all .same)
@@ -75,25 +75,25 @@ module _ {mark : ℕ} {parents factor list work : List ℕ} {order pops lent : �
       root-list = (rw list-length at (all .roots)) ∙ laid .lie .same 0 (omega arith)
 
       pub lists-lie : Lists mark parents factor (take m work′) list′ (part m w work′)
-      lists-lie = rw (front-same, back-same) (record {
+      lists-lie = rw (start-same, back-same) (record {
         rowed = given .rowed;
         few = given .columns;
         inside = λ j h. omega (arith, laid .lie .inside j h, list-same);
-        past = λ j h. lists-end parents (given .rowed .tree) (laid .lie) front-length list′ j h;
+        past = λ j h. lists-end parents (given .rowed .tree) (laid .lie) start-length list′ j h;
         lists = arranged-lists;
         roots = root-list;
         descendants = laid .descendants;
-        long = front-length;
+        long = start-length;
         many = part-length m w work (omega arith) (omega (arith, work-kept, given .work-length)) ∙ omega arith;
       })
 
-      -- the starts fill the front of work, as the walk takes them
+      -- the starts fill the first places of work, as the walk takes them
       pub starts-long : length (take m work′) ≡ m
-      starts-long = rw front-same front-length
+      starts-long = rw start-same start-length
 
       -- the starts are those of the children's lists
-      starts-lie : Starts parents (take m work′)
-      starts-lie = rw front-same (record {
+      starts-lie : ChildStarts parents (take m work′)
+      starts-lie = rw start-same (record {
         count = λ j h. sym (length-slice (getD (take m work) j 0) (getD (take m work) (j + 1) 0) list (laid .lie .inside j h)) ∙ ap length
             (sym (kids-are (take m work) list j) ∙ laid .lie .same j h);
         rise = λ j h. laid .lie .rise j h;

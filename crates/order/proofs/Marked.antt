@@ -15,7 +15,7 @@ use Rattle.list_laws.proofs.Counts.{distinct-length, same-length}
 use Rattle.list_laws.proofs.UpTo.{upTo-into, length-upTo}
 use Rattle.list_laws.proofs.Members.{flatMap-same}
 use Rattle.order_laws.specs.Parents.{Tree}
-use Rattle.order_laws.specs.Held.{heldAfterAll}
+use Rattle.order_laws.specs.Entries.{entriesAfterAll}
 use Rattle.order_laws.specs.Stack.{heldColumns}
 use Rattle.order_laws.proofs.Trees.{under-range}
 use Rattle.order_laws.proofs.Ordering.{valid-distinct}
@@ -24,7 +24,7 @@ use Rattle.order_laws.proofs.Orders.{steps-order, marked-ordered}
 use Rattle.order_laws.proofs.Steps.{column-at}
 use Rattle.order_laws.proofs.Takes.{step-enough}
 use Rattle.order_laws.proofs.Entries.{held-entries}
-use Rattle.tree.specs.Blocks.{block, blocks}
+use Rattle.tree.specs.Blocks.{blockOf, blocks}
 use Rattle.tree.proofs.Blocks.{block-is}
 
 -- ---- lists by the mark
@@ -34,16 +34,16 @@ module _ (mark : ℕ) (size : ℕ → ℕ) (kids lists : ℕ → List ℕ) (n : 
     (same : (j : ℕ) → 0 < j → j ≤ n → lists j ≡ arranged mark size kids (stepsOf mark size kids n) j)
   where
     -- a block over them is the steps of the mark
-    pub block-marked : (j : ℕ) → 0 < j → j ≤ n → block lists j ≡ stepsOf mark size kids n j
+    pub block-marked : (j : ℕ) → 0 < j → j ≤ n → blockOf lists j ≡ stepsOf mark size kids n j
     unfolding blocks
-    block-marked = strong (λ j. 0 < j → j ≤ n → block lists j ≡ stepsOf mark size kids n j) step
+    block-marked = strong (λ j. 0 < j → j ≤ n → blockOf lists j ≡ stepsOf mark size kids n j) step
       where
-        step : (j : ℕ) → ((c : ℕ) → c < j → 0 < c → c ≤ n → block lists c ≡ stepsOf mark size kids n c) → 0 < j → j ≤ n
-            → block lists j ≡ stepsOf mark size kids n j
+        step : (j : ℕ) → ((c : ℕ) → c < j → 0 < c → c ≤ n → blockOf lists c ≡ stepsOf mark size kids n c) → 0 < j → j ≤ n
+            → blockOf lists j ≡ stepsOf mark size kids n j
         step j ih l u =
             let cs = arranged mark size kids (stepsOf mark size kids n) j in
-            let before : flatMap (block lists) (lists j) ≡ flatMap (stepsOf mark size kids n) cs =
-            rw (same j l u) (flatMap-same (block lists) (stepsOf mark size kids n) cs
+            let before : flatMap (blockOf lists) (lists j) ≡ flatMap (stepsOf mark size kids n) cs =
+            rw (same j l u) (flatMap-same (blockOf lists) (stepsOf mark size kids n) cs
             (λ c m. let (a, b) = lower j c l (arranged-elements mark size kids (stepsOf mark size kids n) j c .0 m) in ih c b a (omega arith))) in
             block-is lists lists-lower j l
             ∙ (ap (λ s. s ++ (j ∷ [])) before ∙ sym (steps-enough mark size kids lower n (suc n) j l u (omega arith) ∙ steps-suc mark size kids n j))
@@ -83,7 +83,7 @@ module _ {par : ℕ → ℕ} {n : ℕ} (tree : Tree par n) (mark : ℕ) (size : 
   order = flatMap (stepsOf mark size (children par n) n) (children par n 0)
 
   -- no step pops more updates than are held
-  pub order-enough : (k : ℕ) → k < length order → pops (getD order k 0) ≤ length (heldAfterAll size pops [] (take k order))
+  pub order-enough : (k : ℕ) → k < length order → pops (getD order k 0) ≤ length (entriesAfterAll size pops [] (take k order))
   order-enough k h =
       rw (held-entries size pops par roots order k (omega arith), ← (column-at order k))
       (omega (arith, length-map (heldColumns par pops order k) (λ c. t (size c)), step-enough tree order (marked-ordered tree mark size) k h))

@@ -13,7 +13,7 @@ use Rattle.papers.specs.Job.{Pattern, Below}
 use Rattle.papers.specs.Fill.{R}
 use Rattle.papers.specs.Tree.{parent, rowCount, children}
 use Rattle.papers.specs.Room.{peakOf}
-use Rattle.papers.specs.Order.{stepsOf, childrenOf, popsOf, orderOf, peak}
+use Rattle.papers.specs.Order.{stepsOf, childrenOf, popsOf, orderOf, orderPeak}
 use Rattle.papers.specs.Key.{listsOf}
 use Rattle.list_laws.proofs.Tests.{below-or}
 use Rattle.list_laws.proofs.UpTo.{length-family, family-at}
@@ -22,8 +22,8 @@ use Rattle.job_laws.proofs.Starts.{start-at}
 use Rattle.job_laws.proofs.Laid.{length-lists, lists-at, laid-column, laid-starts, column-length}
 use Rattle.order_laws.proofs.Patterns.{tree-of, root-rows, rows-fit}
 use Rattle.tree.specs.Parents.{parentIn, kidsIn}
-use Rattle.room.specs.Rows.{rowsIn}
-use Rattle.order.specs.Given.{Rowed, popsIn, orderIn}
+use Rattle.room.specs.Rows.{rowCountIn}
+use Rattle.order.specs.Given.{Rowed, childCountIn, orderIn}
 
 -- the slices hold the parents of the columns 1 to n, and the starts of their lists
 abbrev pub parentsOf : ℕ → Pattern → List ℕ
@@ -50,8 +50,8 @@ module _ {n : ℕ} {A : Pattern} (good : Below n A) where
           List·getD-eq-default (parentsOf n A) 0 {n = k} (omega (arith, length-parents)) ∙ sym
           (root-rows good (suc k) .0 (none-over (suc k) (omega arith)))
 
-  pub rows-tie : (j : ℕ) → rowsIn (startsOf n A) j ≡ rowCount A j
-  unfolding rowsIn R
+  pub rows-tie : (j : ℕ) → rowCountIn (startsOf n A) j ≡ rowCount A j
+  unfolding rowCountIn R
   rows-tie zero = omega arith
   rows-tie (suc k) = let e : suc k - 1 ≡ k = omega arith in rw e (go (below-or k n))
     where
@@ -72,7 +72,7 @@ module _ {n : ℕ} {A : Pattern} (good : Below n A) where
   same-parents : parentIn (parentsOf n A) ≡ parent A
   same-parents i j = parents-tie j i
 
-  same-rows : rowsIn (startsOf n A) ≡ rowCount A
+  same-rows : rowCountIn (startsOf n A) ≡ rowCount A
   same-rows i j = rows-tie j i
 
   same-kids : kidsIn (parentsOf n A) ≡ childrenOf n A
@@ -82,12 +82,12 @@ module _ {n : ℕ} {A : Pattern} (good : Below n A) where
   unfolding orderOf
   same-order mark i = flatMap (stepsOf mark (same-rows i) (same-kids i) (length-parents i)) (same-kids i 0)
 
-  pub same-pops : popsIn (parentsOf n A) ≡ popsOf n A
+  pub same-pops : childCountIn (parentsOf n A) ≡ popsOf n A
   same-pops i j = length (same-kids i j)
 
-  pub same-peak : (mark : ℕ) → peakOf (rowsIn (startsOf n A)) (popsIn (parentsOf n A)) (orderIn mark (parentsOf n A) (startsOf n A)) ≡ peak n A
+  pub same-peak : (mark : ℕ) → peakOf (rowCountIn (startsOf n A)) (childCountIn (parentsOf n A)) (orderIn mark (parentsOf n A) (startsOf n A)) ≡ orderPeak n A
       (orderOf mark n A)
-  unfolding peak
+  unfolding orderPeak
   same-peak mark i = peakOf (same-rows i) (same-pops i) (same-order mark i)
 
   -- ---- so the order can be made from them

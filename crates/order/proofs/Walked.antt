@@ -15,13 +15,13 @@ use Rattle.order_laws.proofs.Subtrees.{children-are}
 use Rattle.order_laws.proofs.Arranged.{arranged-elements}
 use Rattle.order_laws.proofs.Orders.{ordered-length, marked-ordered}
 use Rattle.tree.specs.Parents.{parentIn, kidsIn}
-use Rattle.tree.specs.Blocks.{block, blocks, kidsAt}
+use Rattle.tree.specs.Blocks.{blockOf, blocks, kidsAt}
 use Rattle.tree.specs.Laid.{Descendants}
 use Rattle.tree.proofs.Children.{kids-lower}
 use Rattle.tree.proofs.Blocks.{block-count}
 use Rattle.walk.specs.Tasks.{Laid, Asked, kidsSteps}
-use Rattle.room.specs.Rows.{rowsIn}
-use Rattle.order.specs.Given.{Rowed, stepsIn, orderIn}
+use Rattle.room.specs.Rows.{rowCountIn}
+use Rattle.order.specs.Given.{Rowed, subtreeStepsIn, orderIn}
 use Rattle.siblings.specs.Arranged.{arrangedIn}
 use Rattle.order.proofs.Marked.{block-marked, steps-count}
 
@@ -47,7 +47,7 @@ module _ {mark : ℕ} {parents factor starts list counts : List ℕ} (lying : Li
 
   member : (j c : ℕ) → j ≤ n → c ∈ kidsAt starts list j → c ∈ kids j
   member zero c u m = rw (lying .roots) at m
-  member (suc i) c u m = arranged-elements mark (rowsIn factor) kids _ (suc i) c .0 (rw (lying .lists (suc i) (omega arith) u) at m)
+  member (suc i) c u m = arranged-elements mark (rowCountIn factor) kids _ (suc i) c .0 (rw (lying .lists (suc i) (omega arith) u) at m)
 
   lower : (j c : ℕ) → 0 < j → c ∈ kidsAt starts list j → (0 < c) × (c < j)
   lower j c l m = go (below-or n j)
@@ -56,11 +56,11 @@ module _ {mark : ℕ} {parents factor starts list counts : List ℕ} (lying : Li
       go (inl h) = absurd (List·Memᴰ·not-nil (rw (lying .past j h) at m))
       go (inr h) = kids-lower parents (lying .rowed .tree) j c l (member j c h m)
 
-  own-steps : (j : ℕ) → 0 < j → j ≤ n → block (kidsAt starts list) j ≡ stepsIn mark parents factor j
-  own-steps = block-marked mark (rowsIn factor) kids (kidsAt starts list) n (kids-lower parents (lying .rowed .tree)) lower (lying .lists)
+  own-steps : (j : ℕ) → 0 < j → j ≤ n → blockOf (kidsAt starts list) j ≡ subtreeStepsIn mark parents factor j
+  own-steps = block-marked mark (rowCountIn factor) kids (kidsAt starts list) n (kids-lower parents (lying .rowed .tree)) lower (lying .lists)
 
   laid : Laid starts list counts
-  unfolding block
+  unfolding blockOf
   laid = record {
     few = omega (arith, lying .few, lying .many);
     long = omega (arith, lying .long, lying .many);
@@ -74,7 +74,7 @@ module _ {mark : ℕ} {parents factor starts list counts : List ℕ} (lying : Li
           lying .descendants .each j (omega (arith, lying .many)),
           block-count kids (kids-lower parents (lying .rowed .tree)) j l,
           ap length (own-steps j l (omega (arith, lying .many))),
-          steps-count (lying .rowed .tree) mark 0 (rowsIn factor) (λ c. 0) n j j l
+          steps-count (lying .rowed .tree) mark 0 (rowCountIn factor) (λ c. 0) n j j l
               (omega (arith, lying .many)) (omega arith),
         );
   }
@@ -82,8 +82,8 @@ module _ {mark : ℕ} {parents factor starts list counts : List ℕ} (lying : Li
   steps-are : kidsSteps starts list 0 ≡ orderIn mark parents factor
   unfolding blocks
   steps-are =
-      ap (flatMap (block (kidsAt starts list))) (lying .roots)
-      ∙ flatMap-same (block (kidsAt starts list)) (stepsIn mark parents factor) (kids 0) (λ c m. let (l, u, e) = children-are (parentIn parents) n 0
+      ap (flatMap (blockOf (kidsAt starts list))) (lying .roots)
+      ∙ flatMap-same (blockOf (kidsAt starts list)) (subtreeStepsIn mark parents factor) (kids 0) (λ c m. let (l, u, e) = children-are (parentIn parents) n 0
       c .0 m in own-steps c l u)
 
   -- what the walk requires
@@ -94,7 +94,7 @@ module _ {mark : ℕ} {parents factor starts list counts : List ℕ} (lying : Li
     count = omega (
       arith,
       ap length steps-are,
-      ordered-length (orderIn mark parents factor) (marked-ordered (lying .rowed .tree) mark (rowsIn factor)),
+      ordered-length (orderIn mark parents factor) (marked-ordered (lying .rowed .tree) mark (rowCountIn factor)),
     );
     fits = omega arith;
   }
@@ -104,6 +104,6 @@ module _ {mark : ℕ} {parents factor starts list counts : List ℕ} (lying : Li
       → order′ ≡ orderIn mark parents factor
   walk-wrote order e q =
       let steps = orderIn mark parents factor in
-      let count : length steps ≡ length order = ordered-length steps (marked-ordered (lying .rowed .tree) mark (rowsIn factor)) ∙ sym e in
+      let count : length steps ≡ length order = ordered-length steps (marked-ordered (lying .rowed .tree) mark (rowCountIn factor)) ∙ sym e in
       let none : drop (0 + length steps) order ≡ [] = drop-of-length-le order {i = 0 + length steps} (omega arith) in
       q ∙ rw (steps-are, sets-eq steps order 0 (omega arith), none) (append-nil steps)

@@ -14,7 +14,7 @@ use Rattle.papers.specs.Tree.{Under, top}
 use Rattle.fill_laws.proofs.Subtrees.{under-trans, under-le}
 use Rattle.list_laws.proofs.Tests.{Test, passes, fails, test}
 use Rattle.order_laws.specs.Parents.{Tree}
-use Rattle.order_laws.specs.Done.{Ready, Valid}
+use Rattle.order_laws.specs.Done.{SubtreeDone, Valid}
 use Rattle.order_laws.proofs.Trees.{under-child, through, apart}
 use Rattle.order_laws.proofs.Reversed.{reverse-from, reversed-mem}
 
@@ -86,7 +86,7 @@ module _ {par : ℕ → ℕ} {n : ℕ} (tree : Tree par n) where
       inside : (x : ℕ) → Under par j x → x ≢ j → x ∈ v
       inside x s h = let w = through par j x s h in f .into (w .child) x (k (w .child) .1 (w .parent)) (w .under)
 
-      ready : (done : List ℕ) → ((x : ℕ) → Under par j x → ¬ (x ∈ done)) → Ready par (reverseAux v done) j
+      ready : (done : List ℕ) → ((x : ℕ) → Under par j x → ¬ (x ∈ done)) → SubtreeDone par (reverseAux v done) j
       ready done h = record {
         inside = reverse v;
         before = done;

@@ -10,7 +10,7 @@ pub mod Ordering
 pub mod Arranged
 pub mod Orders
 pub mod Patterns
-pub mod Greatest
+pub mod Largest
 pub mod Peaks
 pub mod RoomBounds
 pub mod Frames

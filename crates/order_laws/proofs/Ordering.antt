@@ -19,7 +19,7 @@ use Rattle.papers.specs.Order.{columnAt, Together, Ordered}
 use Rattle.list_laws.proofs.Tests.{Test, passes, fails, test}
 use Rattle.list_laws.proofs.Counts.{distinct-append}
 use Rattle.order_laws.specs.Parents.{Tree}
-use Rattle.order_laws.specs.Done.{Ready, Valid}
+use Rattle.order_laws.specs.Done.{SubtreeDone, Valid}
 use Rattle.order_laws.proofs.Trees.{under-range}
 use Rattle.order_laws.proofs.Reversed.{reversed-mem}
 use Rattle.order_laws.proofs.Steps.{column-at}
@@ -37,7 +37,7 @@ module _ (par : ℕ → ℕ) (pre : List ℕ) (j : ℕ) (rest : List ℕ) where
       (take-append-add pre (j ∷ rest) 1) in
       rw through (drop-append-le a pre (j ∷ []) h)
 
-  ready-piece : Ready par (reverse pre) j → Piece par (pre ++ (j ∷ rest)) (suc (length pre))
+  ready-piece : SubtreeDone par (reverse pre) j → Piece par (pre ++ (j ∷ rest)) (suc (length pre))
   ready-piece r =
       record {
         from = length (r .before);
@@ -68,7 +68,7 @@ module _ (par : ℕ → ℕ) (pre : List ℕ) (j : ℕ) (rest : List ℕ) where
           go (passes e) = Memᴰ·append-right (reverse (r .inside)) (List·Memᴰ·head (eqb-true x j e))
           go (fails e) = Memᴰ·append-left (j ∷ []) (reversed-mem (r .inside) .1 (r .all x .1 (u, eqb-false x j e)))
 
-  piece-ready : ¬ (j ∈ pre) → Piece par (pre ++ (j ∷ rest)) (suc (length pre)) → Ready par (reverse pre) j
+  piece-ready : ¬ (j ∈ pre) → Piece par (pre ++ (j ∷ rest)) (suc (length pre)) → SubtreeDone par (reverse pre) j
   piece-ready new p = record {
     inside = reverse (drop a pre);
     before = reverse (take a pre);
@@ -108,7 +108,7 @@ module _ (par : ℕ → ℕ) where
           each x k (inl e) = v .0 .new (Memᴰ·cast (sym e) k)
           each x k (inr m) = off x m (List·Memᴰ·tail k)
 
-  valid-at : (pre : List ℕ) (j : ℕ) (rest done : List ℕ) → Valid par done (pre ++ (j ∷ rest)) → Ready par (reverseAux pre done) j
+  valid-at : (pre : List ℕ) (j : ℕ) (rest done : List ℕ) → Valid par done (pre ++ (j ∷ rest)) → SubtreeDone par (reverseAux pre done) j
   valid-at [] j rest done v = v .0
   valid-at (x ∷ pre) j rest done v = valid-at pre j rest (x ∷ done) (v .1)
 
@@ -132,10 +132,10 @@ module _ {par : ℕ → ℕ} {n : ℕ} (tree : Tree par n) (order : List ℕ) wh
               piece-together par order s l u once (rw (e, q) at (ready-piece par pre j rest (valid-at par pre j rest [] (rw (← e) at v))))
 
   -- in an order each step finds its column's subtree right before it
-  pub ordered-ready : Ordered par n order → (s : ℕ) → s < length order → Ready par (reverse (take s order)) (columnAt order (suc s))
+  pub ordered-ready : Ordered par n order → (s : ℕ) → s < length order → SubtreeDone par (reverse (take s order)) (columnAt order (suc s))
   ordered-ready o s h = rw (column-at order s) (at (take s order) (getD order s 0) (drop (suc s) order) (sym (split-at order s 0 h)))
     where
-      at : (pre : List ℕ) (j : ℕ) (rest : List ℕ) → pre ++ (j ∷ rest) ≡ order → Ready par (reverse pre) j
+      at : (pre : List ℕ) (j : ℕ) (rest : List ℕ) → pre ++ (j ∷ rest) ≡ order → SubtreeDone par (reverse pre) j
       at pre j rest e =
           let v : Ordered par n (pre ++ (j ∷ rest)) = rw (← e) at o in
           let size : suc (length pre) ≤ length (pre ++ (j ∷ rest)) = omega (arith, length-append pre (j ∷ rest)) in

@@ -12,11 +12,11 @@ use Rattle.papers.specs.Bounds.{maxColumns, maxPeak}
 use Rattle.papers.specs.Lists.{_∈_}
 use Rattle.papers.specs.Job.{Pattern, Below}
 use Rattle.papers.specs.Tree.{t, parent, rowCount}
-use Rattle.papers.specs.Room.{roomAt, heldAfter, rooms, peakOf}
-use Rattle.papers.specs.Order.{Ordered, popsOf, peak}
+use Rattle.papers.specs.Room.{roomAt, entriesAfter, rooms, peakOf}
+use Rattle.papers.specs.Order.{Ordered, popsOf, orderPeak}
 use Rattle.order_laws.proofs.Triangles.{t-grows}
 use Rattle.order_laws.proofs.Rooms.{room-at-most, rooms-nil, rooms-cons}
-use Rattle.order_laws.proofs.Greatest.{greatest-least, sum-bound}
+use Rattle.order_laws.proofs.Largest.{largest-least, sum-bound}
 use Rattle.order_laws.proofs.Orders.{ordered-length}
 use Rattle.order_laws.proofs.Patterns.{rows-fit}
 
@@ -25,64 +25,64 @@ drop-from zero l m = m
 drop-from (suc p) [] m = m
 drop-from (suc p) (y ∷ l) m = List·Memᴰ·tail (drop-from p l m)
 
-held-from : (p r : ℕ) (held : List ℕ) {x : ℕ} → x ∈ heldAfter p r held → (x ≡ t r) ⊎ (x ∈ held)
-unfolding heldAfter
-held-from p zero held m = inr (drop-from p held m)
-held-from p (suc r) held {x} m = go (List·Memᴰ·cases-cons m)
+entries-from : (p r : ℕ) (entries : List ℕ) {x : ℕ} → x ∈ entriesAfter p r entries → (x ≡ t r) ⊎ (x ∈ entries)
+unfolding entriesAfter
+entries-from p zero entries m = inr (drop-from p entries m)
+entries-from p (suc r) entries {x} m = go (List·Memᴰ·cases-cons m)
   where
-    go : (x ≡ t (suc r)) ⊎ (x ∈ drop p held) → (x ≡ t (suc r)) ⊎ (x ∈ held)
+    go : (x ≡ t (suc r)) ⊎ (x ∈ drop p entries) → (x ≡ t (suc r)) ⊎ (x ∈ entries)
     go (inl e) = inl e
-    go (inr k) = inr (drop-from p held k)
+    go (inr k) = inr (drop-from p entries k)
 
-held-more : (p r : ℕ) (held : List ℕ) → length (heldAfter p r held) ≤ suc (length held)
-unfolding heldAfter
-held-more p zero held = omega (arith, length-drop p held)
-held-more p (suc r) held = omega (arith, length-drop p held)
+entries-more : (p r : ℕ) (entries : List ℕ) → length (entriesAfter p r entries) ≤ suc (length entries)
+unfolding entriesAfter
+entries-more p zero entries = omega (arith, length-drop p entries)
+entries-more p (suc r) entries = omega (arith, length-drop p entries)
 
 module _ (size pops : ℕ → ℕ) (n b : ℕ) where
   -- b bounds the entries of a front, and n the updates held and the steps to come
-  pub rooms-bound : (held js : List ℕ) → ((j : ℕ) → j ∈ js → t (suc (size j)) ≤ b) → ((x : ℕ) → x ∈ held → x ≤ b) → length held + length js ≤ n
-      → (r : ℕ) → r ∈ rooms size pops held js → r ≤ n * b
-  rooms-bound held [] fronts updates count r m = absurd (List·Memᴰ·not-nil (rw (rooms-nil size pops held) at m))
-  rooms-bound held (j ∷ js) fronts updates count r m =
-      go (List·Memᴰ·cases-cons (rw (rooms-cons size pops held j js) at m))
-      (λ k. rooms-bound (heldAfter (pops j) (size j) held) js (λ i q. fronts i (List·Memᴰ·tail q))
-      (λ x q. held′ x (held-from (pops j) (size j) held q)) (omega (arith, held-more (pops j) (size j) held)) r k)
+  pub rooms-bound : (entries js : List ℕ) → ((j : ℕ) → j ∈ js → t (suc (size j)) ≤ b) → ((x : ℕ) → x ∈ entries → x ≤ b) → length entries + length js ≤ n
+      → (r : ℕ) → r ∈ rooms size pops entries js → r ≤ n * b
+  rooms-bound entries [] fronts updates count r m = absurd (List·Memᴰ·not-nil (rw (rooms-nil size pops entries) at m))
+  rooms-bound entries (j ∷ js) fronts updates count r m =
+      go (List·Memᴰ·cases-cons (rw (rooms-cons size pops entries j js) at m))
+      (λ k. rooms-bound (entriesAfter (pops j) (size j) entries) js (λ i q. fronts i (List·Memᴰ·tail q))
+      (λ x q. updates′ x (entries-from (pops j) (size j) entries q)) (omega (arith, entries-more (pops j) (size j) entries)) r k)
     where
       front : t (suc (size j)) ≤ b
       front = fronts j (List·Memᴰ·head refl)
 
-      held′ : (x : ℕ) → (x ≡ t (size j)) ⊎ (x ∈ held) → x ≤ b
-      held′ x (inl e) = omega (arith, front, t-grows (size j) (suc (size j)) (omega arith))
-      held′ x (inr k) = updates x k
+      updates′ : (x : ℕ) → (x ≡ t (size j)) ⊎ (x ∈ entries) → x ≤ b
+      updates′ x (inl e) = omega (arith, front, t-grows (size j) (suc (size j)) (omega arith))
+      updates′ x (inr k) = updates x k
 
-      one : roomAt (pops j) (size j) held ≤ n * b
+      one : roomAt (pops j) (size j) entries ≤ n * b
       one =
-          let most : suc (length held) * b ≤ n * b = mul-le-mul (omega arith) (omega arith) in
-          omega (arith, front, room-at-most (pops j) (size j) held, sum-bound held b updates)
+          let most : suc (length entries) * b ≤ n * b = mul-le-mul (omega arith) (omega arith) in
+          omega (arith, front, room-at-most (pops j) (size j) entries, sum-bound entries b updates)
 
-      go : (r ≡ roomAt (pops j) (size j) held) ⊎ (r ∈ rooms size pops (heldAfter (pops j) (size j) held) js)
-          → (r ∈ rooms size pops (heldAfter (pops j) (size j) held) js → r ≤ n * b) → r ≤ n * b
+      go : (r ≡ roomAt (pops j) (size j) entries) ⊎ (r ∈ rooms size pops (entriesAfter (pops j) (size j) entries) js)
+          → (r ∈ rooms size pops (entriesAfter (pops j) (size j) entries) js → r ≤ n * b) → r ≤ n * b
       go (inl e) ih = omega (arith, one)
       go (inr k) ih = ih k
 
 -- a bound of the peak of at most n steps of the columns 1 to n
 module _ {n : ℕ} {A : Pattern} (below : Below n A) (order : List ℕ) (count : length order ≤ n) (columns : (j : ℕ) → j ∈ order
     → (1 ≤ j) × (j ≤ n)) where
-  pub peak-bound : peak n A order ≤ n * t n
-  unfolding peak peakOf
+  pub peak-bound : orderPeak n A order ≤ n * t n
+  unfolding orderPeak peakOf
   peak-bound =
-      greatest-least (rooms (rowCount A) (popsOf n A) [] order) (n * t n)
+      largest-least (rooms (rowCount A) (popsOf n A) [] order) (n * t n)
       (rooms-bound (rowCount A) (popsOf n A) n (t n) [] order
       (λ j m. let (l, u) = columns j m in t-grows (suc (rowCount A j)) n (omega (arith, rows-fit below j)))
       (λ x m. absurd (List·Memᴰ·not-nil m)) (omega arith))
 
   -- the peak fits its field in a plan
-  pub peak-fits : n ≤ maxColumns → peak n A order ≤ maxPeak
+  pub peak-fits : n ≤ maxColumns → orderPeak n A order ≤ maxPeak
   unfolding t
   peak-fits h =
       let most : n * t n ≤ maxColumns * t maxColumns = mul-le-mul h (t-grows n maxColumns h) in
       omega (arith, peak-bound)
 
-pub ordered-peak-fits : {n : ℕ} {A : Pattern} → Below n A → n ≤ maxColumns → (order : List ℕ) → Ordered (parent A) n order → peak n A order ≤ maxPeak
+pub ordered-peak-fits : {n : ℕ} {A : Pattern} → Below n A → n ≤ maxColumns → (order : List ℕ) → Ordered (parent A) n order → orderPeak n A order ≤ maxPeak
 ordered-peak-fits below h order o = peak-fits below order (omega (arith, ordered-length order o)) (λ j m. o .each j .0 m) h

@@ -9,8 +9,9 @@ use Rattle.papers.specs.Lists.{_∈_}
 use Rattle.papers.specs.Job.{Pattern}
 use Rattle.papers.specs.Tree.{parent, rowCount}
 use Rattle.papers.specs.Order.{siblingKey, childrenOf, popsOf, W}
+use Rattle.list_laws.specs.Sorted.{Sorted}
 use Rattle.list_laws.proofs.Sorts.{sort-elements, sort-length}
-use Rattle.list_laws.proofs.SortOrder.{Sorted, sort-sorted, sort-level}
+use Rattle.list_laws.proofs.SortOrder.{sort-sorted, sort-level}
 use Rattle.order_laws.specs.Subtrees.{siblingsOf}
 use Rattle.order_laws.proofs.Subtrees.{children-asc}
 

@@ -78,5 +78,5 @@ one-step order d s k a b c f e = omega (arith, places-apart order d (s - 1) (k -
 
 pub slice-distinct : (l : List ℕ) (a b : ℕ) → Distinct l → Distinct (slice a b l)
 slice-distinct l a b d =
-    let front = distinct-append (take b l) (drop b l) (rw (take-append-drop b l) d) .0 in
-    distinct-append (take a (take b l)) (slice a b l) (rw (take-append-drop a (take b l)) front) .1
+    let earlier = distinct-append (take b l) (drop b l) (rw (take-append-drop b l) d) .0 in
+    distinct-append (take a (take b l)) (slice a b l) (rw (take-append-drop a (take b l)) earlier) .1

@@ -13,8 +13,7 @@ use lib.Seq.{slice, length-slice}
 use borrow.Author.Tests.{leb-true, le-leb, not-false}
 use Rattle.papers.specs.Lists.{_∈_, Distinct, every}
 use Rattle.papers.specs.Tree.{Under, top, isUnder, subtreeOf}
-use Rattle.papers.specs.Order.{columnAt, Together}
-use Rattle.papers.specs.Check.{scattered}
+use Rattle.papers.specs.Order.{columnAt, Together, scattered}
 use Rattle.list_laws.proofs.Tests.{and-iff}
 use Rattle.list_laws.proofs.Every.{every-all}
 use Rattle.list_laws.proofs.Counts.{same-length, all-there}

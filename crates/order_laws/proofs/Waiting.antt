@@ -17,7 +17,7 @@ use Rattle.list_laws.proofs.Tests.{Test, passes, fails, test}
 use Rattle.list_laws.proofs.Keeps.{keep-yes, keep-no, keep-append, keep-none, keep-from, keep-into, keep-distinct, keep-same}
 use Rattle.list_laws.proofs.Counts.{same-length, distinct-append}
 use Rattle.order_laws.specs.Parents.{Tree}
-use Rattle.order_laws.specs.Done.{Ready}
+use Rattle.order_laws.specs.Done.{SubtreeDone}
 use Rattle.order_laws.specs.Stack.{missing, waiting, pushedOn}
 use Rattle.order_laws.proofs.Missing.{missing-done, missing-yes, missing-from, missing-more}
 use Rattle.order_laws.proofs.Trees.{under-cases, under-child}
@@ -43,9 +43,9 @@ waiting-are par done x = (
   λ (a, c, d). keep-into (λ y. missing done (par y)) done a (missing-yes done (par x) c d),
 )
 
-module _ {par : ℕ → ℕ} {n : ℕ} (tree : Tree par n) (done : List ℕ) (j : ℕ) (pos : 0 < j) (ready : Ready par done j) (distinct : Distinct done)
+module _ {par : ℕ → ℕ} {n : ℕ} (tree : Tree par n) (done : List ℕ) (j : ℕ) (pos : 0 < j) (ready : SubtreeDone par done j) (distinct : Distinct done)
     (later : ¬ (par j ∈ done)) where
-  open Ready ready using (inside, before, split, all, new)
+  open SubtreeDone ready using (inside, before, split, all, new)
 
   waits : List ℕ → ℕ → Bool
   waits l x = missing l (par x)

@@ -9,7 +9,7 @@ use Rattle.papers.specs.Tree.{Under}
 
 module _ (par : ℕ → ℕ) where
   -- the last steps are those of the proper descendants of j, and of no others; j is not done
-  pub record Ready (done : List ℕ) (j : ℕ) : Type 0 where
+  pub record SubtreeDone (done : List ℕ) (j : ℕ) : Type 0 where
     pub inside : List ℕ
     pub before : List ℕ
     pub split : done ≡ inside ++ before
@@ -19,4 +19,4 @@ module _ (par : ℕ → ℕ) where
   -- at every step, the column finds its subtree done right before it
   abbrev pub Valid : List ℕ → List ℕ → Type 0
   Valid done [] = Unit {0}
-  Valid done (j ∷ js) = Ready done j × Valid (j ∷ done) js
+  Valid done (j ∷ js) = SubtreeDone done j × Valid (j ∷ done) js

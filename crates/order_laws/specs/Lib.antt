@@ -1,4 +1,4 @@
-pub mod Held
+pub mod Entries
 pub mod Parents
 pub mod Done
 pub mod Subtrees

@@ -1,6 +1,6 @@
 -- Defines the words about lists that the rules use.
 -- Assumes nothing.
-use Prim.Native.Nat.{ℕ, zero, suc, _+_, _-_, _<_, max}
+use Prim.Native.Nat.{ℕ, zero, suc, _+_, _-_, _<_, _≤_, max}
 use mathlib.Core.Bool.{Bool, true, false}
 use mathlib.Core.List.{List, [], _∷_, _++_, List·Memᴰ}
 use lib.Dec.{ltb, eqb}
@@ -26,7 +26,7 @@ unfoldable pub upTo : ℕ → List ℕ
 upTo zero = []
 upTo (suc n) = upTo n ++ (suc n ∷ [])
 
--- number k of a list, counted from 1; 0 past its end (nobody asks for number 0)
+-- number k of a list, counted from 1; 0 past its end. Number 0 gives the first; only a test that finds no fault asks for it, and drops it.
 abbrev pub nth : List ℕ → ℕ → ℕ
 nth l k = getD l (k - 1) 0
 
@@ -62,10 +62,10 @@ unfoldable pub sum : List ℕ → ℕ
 sum [] = 0
 sum (x ∷ xs) = x + sum xs
 
--- the greatest number; 0 of an empty list
-unfoldable pub greatest : List ℕ → ℕ
-greatest [] = 0
-greatest (x ∷ xs) = max x (greatest xs)
+-- the largest number; 0 of an empty list
+unfoldable pub largest : List ℕ → ℕ
+largest [] = 0
+largest (x ∷ xs) = max x (largest xs)
 
 -- two ascending lists joined, ascending, each number once
 unfoldable pub merge : List ℕ → List ℕ → List ℕ
@@ -88,6 +88,10 @@ sort key (x ∷ xs) = insert key x (sort key xs)
 unfoldable pub least : (ℕ → Bool) → ℕ → ℕ
 least f zero = 0
 least f (suc n) = elim (least f n) [ zero ↦ elim (f (suc n)) [ true ↦ suc n | false ↦ 0 ] | suc p ↦ suc p ]
+
+-- p is the least of 1 to n at which P holds
+abbrev pub Least : (ℕ → Type 0) → ℕ → ℕ → Type 0
+Least P n p = ((1 ≤ p) × (p ≤ n)) × P p × ((k : ℕ) → 1 ≤ k → k < p → ¬ P k)
 
 -- ---- lists of lists, one list after the other in two slices
 

@@ -2,11 +2,14 @@
 -- Assumes nothing.
 use Prim.Native.Nat.{ℕ, zero, suc, _-_, _≤_}
 use mathlib.Core.Logic.{_↔_}
+use mathlib.Core.Bool.{Bool, not, _&&_}
 use mathlib.Core.List.{List, [], _∷_, _++_, flatMap}
+use lib.Dec.{leb}
 use lib.ListN.{length}
-use Rattle.papers.specs.Lists.{_∈_, Distinct, nth, sort}
+use lib.Seq.{slice}
+use Rattle.papers.specs.Lists.{_∈_, Distinct, nth, every, sort}
 use Rattle.papers.specs.Job.{Pattern}
-use Rattle.papers.specs.Tree.{t, parent, rowCount, children, Under}
+use Rattle.papers.specs.Tree.{t, parent, rowCount, children, Under, isUnder, subtreeOf}
 use Rattle.papers.specs.Room.{rooms, peakOf}
 
 -- ---- what any order must be
@@ -20,6 +23,13 @@ pub record Together (par : ℕ → ℕ) (order : List ℕ) (s : ℕ) : Type 0 wh
   pub from : ℕ
   pub steps : (k : ℕ) → 1 ≤ k → k ≤ length order → Under par (columnAt order s) (columnAt order k) ↔ ((from ≤ k) × (k ≤ s))
 
+-- tests whether the subtree whose top is done at step s does not take the steps that end at s
+unfoldable pub scattered : (ℕ → ℕ) → ℕ → List ℕ → ℕ → Bool
+scattered par n order s =
+    let j = columnAt order s in
+    let w = length (subtreeOf par n j) in
+    not (leb w s && every (isUnder par n j) (slice (s - w) s order))
+
 -- an order of the columns 1 to n: each once, each subtree in consecutive steps, its top last
 pub record Ordered (par : ℕ → ℕ) (n : ℕ) (order : List ℕ) : Type 0 where
   pub each : (j : ℕ) → (j ∈ order) ↔ ((1 ≤ j) × (j ≤ n))
@@ -28,6 +38,10 @@ pub record Ordered (par : ℕ → ℕ) (n : ℕ) (order : List ℕ) : Type 0 whe
 
 -- ---- the order of a mark
 
+-- W of a column whose subtree takes these steps: the peak of the steps, done alone
+unfoldable pub alone : (ℕ → ℕ) → (ℕ → List ℕ) → List ℕ → ℕ
+alone size kids steps = peakOf size (λ j. length (kids j)) steps
+
 -- The key of a sibling; siblings go by descending key. It is given the child's rows and W, and `above`, the parent's number of rows. Mark
 -- 0: every key is 0, so numbers ascend. Mark 1: W less the entries of the update, which are part of W. Mark 2: the entries of the update. A
 -- mark over 2 has been refused. No mark uses `above` today.
@@ -35,10 +49,6 @@ unfoldable pub siblingKey : ℕ → ℕ → ℕ → ℕ → ℕ
 siblingKey zero above rows W = 0
 siblingKey (suc zero) above rows W = W - t rows
 siblingKey (suc (suc m)) above rows W = t rows
-
--- W of a column whose subtree takes these steps: the peak of the steps, done alone
-unfoldable pub alone : (ℕ → ℕ) → (ℕ → List ℕ) → List ℕ → ℕ
-alone size kids steps = peakOf size (λ j. length (kids j)) steps
 
 module _ (mark : ℕ) (size : ℕ → ℕ) (kids : ℕ → List ℕ) where
   -- the children of j in the mark's order, of equal keys the lower number first; `steps c` are the steps of c's subtree
@@ -74,5 +84,5 @@ unfoldable pub roomsOf : ℕ → Pattern → List ℕ → List ℕ
 roomsOf n A order = rooms (rowCount A) (popsOf n A) [] order
 
 -- the peak of an order
-unfoldable pub peak : ℕ → Pattern → List ℕ → ℕ
-peak n A order = peakOf (rowCount A) (popsOf n A) order
+unfoldable pub orderPeak : ℕ → Pattern → List ℕ → ℕ
+orderPeak n A order = peakOf (rowCount A) (popsOf n A) order

@@ -3,31 +3,36 @@
 use Prim.Native.Nat.{ℕ, zero, suc, _+_, _-_}
 use mathlib.Core.List.{List, [], _∷_}
 use lib.ListN.{drop}
-use Rattle.papers.specs.Lists.{head0, sum, greatest}
+use Rattle.papers.specs.Lists.{head0, sum, largest}
 use Rattle.papers.specs.Tree.{t}
 
--- Throughout, `held` lists the entries of each update held, the top one first.
+-- Throughout, `entries` lists the entries of each update held, the top one first.
 
 -- the entries of the top update if there are pops: the front is put over it
 unfoldable pub topUpdate : ℕ → List ℕ → ℕ
-topUpdate zero held = 0
-topUpdate (suc p) held = head0 held
+topUpdate zero entries = 0
+topUpdate (suc p) entries = head0 entries
 
--- room in use at a step: all that is held before it, without the top update if it pops any, and its front of r + 1 rows. The top update is
--- one of those held, so the difference is never cut off at 0.
+-- the entries that a front takes in place of the top update: its own r + 1 rows, whatever the entries of that update
+unfoldable pub frontRoom : ℕ → ℕ → ℕ
+frontRoom top r = t (suc r)
+
+-- room in use at a step: all that is held before it, without the top update if it pops any, and its front over that update. The top update
+-- is one of those held, so the difference is never cut off at 0.
 unfoldable pub roomAt : ℕ → ℕ → List ℕ → ℕ
-roomAt pops r held = sum held - topUpdate pops held + t (suc r)
+roomAt pops r entries = let top = topUpdate pops entries in sum entries - top + frontRoom top r
 
--- what is held after a step: the popped updates are gone, and the column's own is on top; a root has no rows, so it leaves nothing
-unfoldable pub heldAfter : ℕ → ℕ → List ℕ → List ℕ
-heldAfter pops zero held = drop pops held
-heldAfter pops (suc r) held = t (suc r) ∷ drop pops held
+-- the entries held after a step: those of the popped updates are gone, and the column's own are on top; a root has no rows, so it
+-- leaves none
+unfoldable pub entriesAfter : ℕ → ℕ → List ℕ → List ℕ
+entriesAfter pops zero entries = drop pops entries
+entriesAfter pops (suc r) entries = t (suc r) ∷ drop pops entries
 
 -- the rooms in use of steps done one after the other, by the rows and the pops of each column
 unfoldable pub rooms : (ℕ → ℕ) → (ℕ → ℕ) → List ℕ → List ℕ → List ℕ
-rooms size pops held [] = []
-rooms size pops held (j ∷ js) = roomAt (pops j) (size j) held ∷ rooms size pops (heldAfter (pops j) (size j) held) js
+rooms size pops entries [] = []
+rooms size pops entries (j ∷ js) = roomAt (pops j) (size j) entries ∷ rooms size pops (entriesAfter (pops j) (size j) entries) js
 
 -- the peak: the room of the step that uses the most; 0 without steps
 unfoldable pub peakOf : (ℕ → ℕ) → (ℕ → ℕ) → List ℕ → ℕ
-peakOf size pops order = greatest (rooms size pops [] order)
+peakOf size pops order = largest (rooms size pops [] order)

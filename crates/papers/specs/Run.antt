@@ -1,16 +1,18 @@
--- Defines the whole outcome of a run of steps on a stack of updates.
+-- Defines a run of steps on a stack of updates: when it refuses, its whole outcome, and how it is handed the lists of an analysis.
 -- Assumes nothing.
-use Prim.Native.Nat.{ℕ, zero, suc, _-_, max}
-use mathlib.Core.Bool.{Bool, true, false, _&&_, _||_}
+use Prim.Native.Nat.{ℕ, zero, suc, _+_, _-_, _<_, _≤_, max}
+use mathlib.Core.Path.{_≡_}
+use mathlib.Core.Bool.{Bool, true, false, _&&_}
 use mathlib.Core.List.{List, [], _∷_, map}
 use lib.Dec.{ltb, leb}
 use lib.ListN.{length, take, drop}
-use Rattle.papers.specs.Lists.{nth, member, every, least, zeros}
-use Rattle.papers.specs.Job.{columnOf}
+use Rattle.papers.specs.Lists.{_∈_, nth, member, every, least, zeros}
+use Rattle.papers.specs.Refusals.{answer, Verdict, refusedAt, Refusal, when, on, Outcome, outcome}
+use Rattle.papers.specs.Job.{start, columnOf, columnsOver, RowLists, badStarts, badRow}
 use Rattle.papers.specs.Tree.{t}
 use Rattle.papers.specs.Room.{roomAt}
 use Rattle.papers.specs.Order.{columnAt}
-use Rattle.papers.specs.Refusals.{answer, untouched, zeroed, Verdict, refusedIf, refusedAt, Outcome, outcome, columnsTest, startsTest, rowsTest}
+use Rattle.papers.specs.Analysis.{Lent, Fixed, sliceShort}
 
 -- the input of a run: n, factor starts and rows, columns, pops, a room, and the stack slice lent
 pub record RunCall : Type 0 where
@@ -94,37 +96,84 @@ module _ (call : RunCall) where
   unfoldable pub faultAt : ℕ → ℕ
   faultAt s = stepFault s (stateAfter (s - 1))
 
--- 7: there are fewer than n columns or pops, or the stack slice is shorter than n
-unfoldable pub runLengthsTest : RunCall → Verdict
-runLengthsTest call =
-    let n = call .n in
-    refusedIf (ltb (length (call .columns)) n || ltb (length (call .pops)) n || ltb (length (call .stack)) n) (answer 7 0 0) untouched
+-- n, factor starts and factor rows of a run
+abbrev pub runLists : RunCall → RowLists
+runLists call = record { n = call .n; starts = call .starts; rows = call .rows }
 
--- 14, 21, 22, 23: the first step at fault decides; the count is the greatest room in use of the completed steps
+-- the fixed lengths of a run: columns, pops and stack slice n each
+abbrev pub runFixed : ℕ → List ℕ → List ℕ → List ℕ → List Fixed
+runFixed n columns pops stack =
+    record { long = length columns; least = n } ∷ record { long = length pops; least = n } ∷ record { long = length stack; least = n } ∷ []
+
+-- those of its input
+abbrev pub runLengths : RunCall → List Fixed
+runLengths call = runFixed (call .n) (call .columns) (call .pops) (call .stack)
+
+-- finds 14, 21, 22, 23: the first step at fault decides; the count is the greatest room in use of the steps before it
 unfoldable pub stepsTest : RunCall → Verdict
 stepsTest call =
     let s = least (λ s. ltb 0 (faultAt call s)) (call .n) in
-    refusedAt (faultAt call s) s (stateAfter call (s - 1) .greatest) zeroed
+    refusedAt (faultAt call s) s (stateAfter call (s - 1) .greatest)
+
+-- step s names a column from 1 to n
+abbrev pub KnownColumn : RunCall → ℕ → Type 0
+KnownColumn call s = (1 ≤ stepColumn call s) × (stepColumn call s ≤ call .n)
+
+-- every row of every popped update is in the front of step s
+abbrev pub AllFit : RunCall → ℕ → Type 0
+AllFit call s = (u i : ℕ) → u ∈ take (popsAt call s) (heldAt call s) → i ∈ rowsIn call u → i ∈ frontIn call (stepColumn call s)
+
+-- the fault of step s after the steps before it, in the order tested: 14, 21, 22, 23
+pub data FaultyStep (call : RunCall) (s : ℕ) : ℕ → Type 0 where
+  unknown-column : ¬ KnownColumn call s → FaultyStep call s 14
+  too-many-pops : KnownColumn call s → length (heldAt call s) < popsAt call s → FaultyStep call s 21
+  row-outside : KnownColumn call s → popsAt call s ≤ length (heldAt call s) → ¬ AllFit call s → FaultyStep call s 22
+  over-room : KnownColumn call s → popsAt call s ≤ length (heldAt call s) → AllFit call s
+      → call .room < roomIn call s (stateAfter call (s - 1)) → FaultyStep call s 23
+
+-- 14, 21, 22, 23: a step is at fault
+abbrev pub badStep : Refusal RunCall
+badStep = record {
+  test = stepsTest;
+  gives = λ call a.
+      (s number : ℕ) × ((1 ≤ s) × (s ≤ call .n))
+      × FaultyStep call s number
+      × ((k m : ℕ) → 1 ≤ k → k < s → ¬ FaultyStep call k m)
+      × (a ≡ answer number s (stateAfter call (s - 1) .greatest));
+}
 
 -- 24: updates are left after the last step
-unfoldable pub leftTest : RunCall → Verdict
-leftTest call = let state = stateAfter call (call .n) in refusedIf (ltb 0 (length (state .held))) (answer 24 (call .n) (state .greatest)) zeroed
+abbrev pub updatesLeft : Refusal RunCall
+updatesLeft =
+    when (λ call. ltb 0 (length (stateAfter call (call .n) .held))) (λ call. 0 < length (stateAfter call (call .n) .held))
+    (λ call. answer 24 (call .n) (stateAfter call (call .n) .greatest))
 
--- the tests of a run: 1, 4, 5 and 6, 7, then the steps, then 24
-unfoldable pub runTests : List (RunCall → Verdict)
-runTests =
-    (λ call. columnsTest (call .n))
-    ∷ (λ call. startsTest (call .n) (call .starts) (call .rows))
-    ∷ (λ call. rowsTest (call .n) (call .starts) (call .rows))
-    ∷ runLengthsTest
-    ∷ stepsTest
-    ∷ leftTest
-    ∷ []
+-- the early refusals of a run: 1, 4, 5 and 6, 7
+unfoldable pub runEarly : List (Refusal RunCall)
+runEarly = on (λ call. call .n) columnsOver ∷ on runLists badStarts ∷ on runLists badRow ∷ on runLengths sliceShort ∷ []
+
+-- the late ones: those of the steps, then 24
+unfoldable pub runLate : List (Refusal RunCall)
+runLate = badStep ∷ updatesLeft ∷ []
 
 -- a run is done: the count is the greatest room in use, and the stack slice is zero
 unfoldable pub runDone : RunCall → Outcome (List ℕ)
-runDone call = record { answer = answer 0 0 (stateAfter call (call .n) .greatest); lent = zeros (call .stack) }
+runDone call = record { answered = answer 0 0 (stateAfter call (call .n) .greatest); lent = zeros (call .stack) }
 
 -- the whole outcome of a run
 unfoldable pub ran : RunCall → Outcome (List ℕ)
-ran call = outcome runTests runDone zeros call (call .stack)
+ran call = outcome runEarly runLate runDone zeros call (call .stack)
+
+-- the run of an analysis's or check's result: each list is the part that holds the result, without the zeros behind it
+unfoldable pub handedOn : ℕ → Lent → ℕ → List ℕ → RunCall
+handedOn n lent room stack =
+    let starts = take (n + 1) (lent .factorStarts) in
+    record {
+      n = n;
+      starts = starts;
+      rows = take (start starts (suc n)) (lent .factorRows);
+      columns = take n (lent .order);
+      pops = take n (lent .pops);
+      room = room;
+      stack = stack;
+    }

@@ -1,18 +1,23 @@
--- Defines the job text that the listing program reads, and the listing that it prints.
+-- Defines the job text that the listing program reads, when it is refused (25, 26), and the listing that the program prints.
 -- Assumes nothing.
-use Prim.Native.Nat.{ℕ, zero, suc, _+_, _-_, _*_, _/_, _%_}
+use Prim.Native.Nat.{ℕ, zero, suc, _+_, _-_, _*_, _/_, _%_, _^_, _<_, _≤_}
+use mathlib.Core.Path.{_≡_}
+use mathlib.Core.Logic.{_⊎_}
 use mathlib.Core.Bool.{Bool, true, false, not, _&&_, _||_}
 use mathlib.Core.List.{List, [], _∷_, _++_, map}
 use lib.Dec.{ltb, leb, eqb}
 use lib.ListN.{length, replicate}
 use Rattle.papers.specs.Bounds.{inputBytes, programColumns, programRows, programFactorRows, workLength, maxDigits, defaultMark, listingBytes}
-use Rattle.papers.specs.Lists.{every, upTo, least, flat, startsFrom, zeros, thenZeros}
+use Rattle.papers.specs.Lists.{_∈_, every, upTo, least, flat, zeros, thenZeros}
+use Rattle.papers.specs.Refusals.{answer, Verdict, passed, refused, refusedIf, Refusal, when, on, of, first, Outcome, outcome}
 use Rattle.papers.specs.Job.{Job, Pattern, pattern}
 use Rattle.papers.specs.Fill.{R}
 use Rattle.papers.specs.Order.{popsOf, orderOf, roomsOf}
-use Rattle.papers.specs.Refusals.{answer, untouched, Verdict, passed, refused, first, refusedIf, Outcome, outcome, Lent}
-use Rattle.papers.specs.Analysis.{analysed}
+use Rattle.papers.specs.Key.{jobWith}
+use Rattle.papers.specs.Plan.{planOf}
+use Rattle.papers.specs.Analysis.{Lent, Fixed, sliceShort, analysisEarly, analysisLate, analysed}
 use Rattle.papers.specs.declared.Answer.{Answer}
+use Rattle.papers.specs.declared.JobHead.{JobHead}
 
 -- the byte that ends a line
 abbrev pub newline : ℕ
@@ -52,6 +57,22 @@ unfoldable pub afterLines : ℕ → List ℕ → List ℕ
 afterLines zero text = text
 afterLines (suc q) text = elim (cut (afterLines q text)) [ line l rest ↦ rest | unended ↦ [] ]
 
+-- ---- numbers in decimal
+
+-- the digits of x, with at most f before the last; x of them are enough, so f never runs out
+unfoldable pub digitsOf : ℕ → ℕ → List ℕ
+digitsOf zero x = digit (x % 10) ∷ []
+digitsOf (suc f) x = elim (ltb x 10) [ true ↦ digit x ∷ [] | false ↦ digitsOf f (x / 10) ++ (digit (x % 10) ∷ []) ]
+
+-- a number in decimal
+unfoldable pub decimalOf : ℕ → List ℕ
+decimalOf x = digitsOf x x
+
+-- a printed line: a word and numbers, with single spaces between them, and a newline to end it
+unfoldable pub printed : List ℕ → List ℕ → List ℕ
+printed word [] = word ++ (newline ∷ [])
+printed word (x ∷ xs) = word ++ (space ∷ printed (decimalOf x) xs)
+
 -- ---- numbers of a line
 
 -- puts the byte b before the first word
@@ -88,26 +109,35 @@ numbersOf l = let words = wordsOf l in elim (allDecimal words) [ true ↦ map (v
 unfoldable pub numbersAt : List ℕ → ℕ → List ℕ
 numbersAt text q = elim (cut (afterLines (q - 1) text)) [ line l rest ↦ numbersOf l | unended ↦ [] ]
 
+-- line q consists of these numbers: decimals of up to 13 digits with single spaces between them, ended by a newline
+pub record Spelt (text : List ℕ) (q x : ℕ) (xs : List ℕ) : Type 0 where
+  pub rest : List ℕ
+  pub line : afterLines (q - 1) text ≡ printed (decimalOf x) xs ++ rest
+  pub short : (y : ℕ) → y ∈ (x ∷ xs) → y < 10 ^ maxDigits
+
 -- ---- the first line: n and limit, or n, limit and mark
 
 -- what line 1 says, and whether it is well formed
 pub record Head : Type 0 where
   pub fine : Bool
-  pub n : ℕ
-  pub limit : ℕ
-  pub mark : ℕ
+  pub head : JobHead
 
--- a bad line 1; its n is 0, and line 1 has refused before anybody uses it
-abbrev pub badHead : Head
-badHead = record { fine = false; n = 0; limit = 0; mark = 0 }
+-- no good line 1: its n is 0, and line 1 has refused before anybody uses it
+abbrev pub noHead : Head
+noHead = record { fine = false; head = record { n = 0; mark = 0; limit = 0 } }
 
 -- what the numbers of line 1 say: n and limit, or n, limit and mark
 unfoldable pub headOf : List ℕ → Head
-headOf [] = badHead
-headOf (n ∷ []) = badHead
-headOf (n ∷ limit ∷ []) = record { fine = true; n = n; limit = limit; mark = defaultMark }
-headOf (n ∷ limit ∷ mark ∷ []) = record { fine = true; n = n; limit = limit; mark = mark }
-headOf (n ∷ limit ∷ mark ∷ x ∷ xs) = badHead
+headOf [] = noHead
+headOf (n ∷ []) = noHead
+headOf (n ∷ limit ∷ []) = record { fine = true; head = record { n = n; mark = defaultMark; limit = limit } }
+headOf (n ∷ limit ∷ mark ∷ []) = record { fine = true; head = record { n = n; mark = mark; limit = limit } }
+headOf (n ∷ limit ∷ mark ∷ x ∷ xs) = noHead
+
+-- line 1 consists of n and limit, or of n, limit and mark
+pub data HeadLine (text : List ℕ) : JobHead → Type 0 where
+  two : {n limit : ℕ} → Spelt text 1 n (limit ∷ []) → HeadLine text (record { n = n; mark = defaultMark; limit = limit })
+  three : {n limit mark : ℕ} → Spelt text 1 n (limit ∷ mark ∷ []) → HeadLine text (record { n = n; mark = mark; limit = limit })
 
 -- ---- a row line: how many rows, then the rows
 
@@ -121,6 +151,15 @@ unfoldable pub isRowLine : List ℕ → Bool
 isRowLine [] = false
 isRowLine (count ∷ rows) = eqb count (length rows)
 
+-- line q consists of a count and this many rows
+abbrev pub RowLine : List ℕ → ℕ → List ℕ → Type 0
+RowLine text q rows = Spelt text q (length rows) rows
+
+-- the lines from line q on consist of these lists
+abbrev pub RowLines : List ℕ → ℕ → List (List ℕ) → Type 0
+RowLines text q [] = Unit {0}
+RowLines text q (l ∷ ls) = RowLine text q l × RowLines text (suc q) ls
+
 -- ---- the job of a text: the rows of column j are in line j + 1
 
 -- what line 1 of a text says
@@ -133,30 +172,38 @@ textLists text n = map (λ j. rowsOfLine (numbersAt text (suc j))) (upTo n)
 
 -- the job of a text without faults
 unfoldable pub textJob : List ℕ → Job
-textJob text =
-    let head = textHead text in
-    let lists = textLists text (head .n) in
-    record { n = head .n; starts = startsFrom 0 lists; rows = flat lists; mark = head .mark; limit = head .limit }
+textJob text = let head = textHead text .head in jobWith head (textLists text (head .n))
 
--- ---- 25 and 26, by the first line at fault. No slice is lent here, so `untouched` means nothing.
+-- ---- 25 and 26, by the first line at fault
 
 -- the bytes read from standard input, and whether more followed
 pub record Input : Type 0 where
   pub text : List ℕ
   pub more : Bool
 
--- 26 at place 0: there is more input than 8,192 bytes
-unfoldable pub inputTest : Input → Verdict
-inputTest input = refusedIf (input .more || ltb inputBytes (length (input .text))) (answer 26 0 0) untouched
+-- 26 at place 0: there is more input than the program reads
+abbrev pub inputOver : Refusal Input
+inputOver =
+    when (λ input. input .more || ltb inputBytes (length (input .text))) (λ input. (input .more ≡ true) ⊎ (inputBytes < length (input .text)))
+    (λ input. answer 26 0 0)
 
--- line 1: 25 if it is bad text, then 26 if there are more than 256 columns
+-- finds 25 and 26 of line 1
 unfoldable pub headTest : Input → Verdict
 headTest input =
-    let head = textHead (input .text) in
-    elim (head .fine) [ false ↦ refused (answer 25 1 0) untouched | true ↦ refusedIf (ltb programColumns (head .n)) (answer 26 1 0) untouched ]
+    let line1 = textHead (input .text) in
+    elim (line1 .fine) [ false ↦ refused (answer 25 1 0) | true ↦ refusedIf (ltb programColumns (line1 .head .n)) (answer 26 1 0) ]
 
--- the fault of column j's line: 25 if it is missing or bad text, then 26 if the lines so far have more than 2,048 pattern rows; 0 if it has
--- none
+-- the faults of line 1: 25 bad text, then 26 too many columns
+pub data HeadFault (text : List ℕ) : Answer → Type 0 where
+  bad-head : ((head : JobHead) → ¬ HeadLine text head) → HeadFault text (answer 25 1 0)
+  columns-over : {head : JobHead} → HeadLine text head → programColumns < head .n → HeadFault text (answer 26 1 0)
+
+-- 25 and 26 of line 1
+abbrev pub badHead : Refusal Input
+badHead = record { test = headTest; gives = λ input. HeadFault (input .text) }
+
+-- the fault of column j's line: 25 if it is missing or bad text, then 26 if the lines so far have more pattern rows than the program takes;
+-- 0 if it has none
 unfoldable pub lineFault : List ℕ → ℕ → ℕ
 lineFault text j =
     elim (isRowLine (numbersAt text (suc j))) [
@@ -165,39 +212,50 @@ lineFault text j =
           [ true ↦ 26 | false ↦ 0 ]
     ]
 
--- the first of the n row lines at fault decides; column j's is line j + 1
+-- finds the first of the n row lines at fault; column j's is line j + 1
 unfoldable pub rowLinesTest : Input → Verdict
 rowLinesTest input =
-    elim (least (λ j. ltb 0 (lineFault (input .text) j)) (textHead (input .text) .n)) [
+    elim (least (λ j. ltb 0 (lineFault (input .text) j)) (textHead (input .text) .head .n)) [
       | zero ↦ passed
-      | suc j ↦ refused (answer (lineFault (input .text) (suc j)) (suc (suc j)) 0) untouched
+      | suc j ↦ refused (answer (lineFault (input .text) (suc j)) (suc (suc j)) 0)
     ]
 
--- 25 at line n + 2: text follows the last row line
+-- the faults of column j's line: 25 bad text, then 26 too many pattern rows in the lines so far
+pub data FaultyLine (text : List ℕ) (j : ℕ) : ℕ → Type 0 where
+  bad-line : ((rows : List ℕ) → ¬ RowLine text (suc j) rows) → FaultyLine text j 25
+  rows-over : (lists : List (List ℕ)) → length lists ≡ j → RowLines text 2 lists → programRows < length (flat lists) → FaultyLine text j 26
+
+-- 25 and 26 of the row lines: the first at fault decides; the place is its line
+abbrev pub badLine : Refusal Input
+badLine = record {
+  test = rowLinesTest;
+  gives = λ input a.
+      (head : JobHead) × HeadLine (input .text) head
+      × ((j number : ℕ) × ((1 ≤ j) × (j ≤ head .n))
+      × FaultyLine (input .text) j number
+      × ((k m : ℕ) → 1 ≤ k → k < j → ¬ FaultyLine (input .text) k m)
+      × (a ≡ answer number (suc j) 0));
+}
+
+-- finds text behind the last row line
 unfoldable pub endTest : Input → Verdict
 endTest input =
-    let n = textHead (input .text) .n in
-    refusedIf (ltb 0 (length (afterLines (suc n) (input .text)))) (answer 25 (n + 2) 0) untouched
+    let n = textHead (input .text) .head .n in
+    refusedIf (ltb 0 (length (afterLines (suc n) (input .text)))) (answer 25 (n + 2) 0)
 
--- the tests of a text: 26 at place 0, line 1, the row lines, the end
-unfoldable pub textTests : List (Input → Verdict)
-textTests = inputTest ∷ headTest ∷ rowLinesTest ∷ endTest ∷ []
+-- 25 at line n + 2: text follows the last row line
+abbrev pub textAfter : Refusal Input
+textAfter = record {
+  test = endTest;
+  gives = λ input a.
+      (head : JobHead) × HeadLine (input .text) head × (0 < length (afterLines (suc (head .n)) (input .text))) × (a ≡ answer 25 (head .n + 2) 0);
+}
+
+-- the refusals of a text: 26 at place 0, line 1, the row lines, the end
+unfoldable pub textRefusals : List (Refusal Input)
+textRefusals = inputOver ∷ badHead ∷ badLine ∷ textAfter ∷ []
 
 -- ---- what is printed
-
--- the digits of x, with at most f before the last
-unfoldable pub digitsOf : ℕ → ℕ → List ℕ
-digitsOf zero x = digit (x % 10) ∷ []
-digitsOf (suc f) x = elim (ltb x 10) [ true ↦ digit x ∷ [] | false ↦ digitsOf f (x / 10) ++ (digit (x % 10) ∷ []) ]
-
--- a number in decimal
-unfoldable pub decimalOf : ℕ → List ℕ
-decimalOf x = digitsOf x x
-
--- a printed line: a word and numbers, with single spaces between them, and a newline to end it
-unfoldable pub printed : List ℕ → List ℕ → List ℕ
-printed word [] = word ++ (newline ∷ [])
-printed word (x ∷ xs) = word ++ (space ∷ printed (decimalOf x) xs)
 
 -- the word `plan`
 abbrev pub wordPlan : List ℕ
@@ -211,7 +269,8 @@ wordRefused = 114 ∷ 101 ∷ 102 ∷ 117 ∷ 115 ∷ 101 ∷ 100 ∷ []
 unfoldable pub refusalLine : Answer → List ℕ
 refusalLine a = printed wordRefused (a .number ∷ a .place ∷ a .count ∷ [])
 
--- the lines of the steps: each with its column, its pops, its room in use and the rows of R
+-- the lines of the steps: each with its column, its pops, its room in use and the rows of R. There is a room for each step, so neither list
+-- ends before the other.
 unfoldable pub stepLines : ℕ → Pattern → List ℕ → List ℕ → List ℕ
 stepLines n A [] rooms = []
 stepLines n A (j ∷ js) [] = []
@@ -242,11 +301,19 @@ jobPrinted job a = elim (a .number) [ zero ↦ listingOf job (a .count) | suc k 
 -- what the program prints: the line of the text's refusal, or what is printed of its job
 unfoldable pub programPrints : Input → List ℕ
 programPrints input =
-    elim (first textTests input) [
-      | passed ↦ jobPrinted (textJob (input .text)) (analysed (textJob (input .text)) buffers .answer)
-      | refused a leaves ↦
+    elim (first textRefusals input) [
+      | passed ↦ jobPrinted (textJob (input .text)) (analysed (textJob (input .text)) buffers .answered)
+      | refused a ↦
           refusalLine a
     ]
+
+-- the refusals of the program: those of the text, then those of its job's analysis in the program's buffers
+abbrev pub programRefusals : List (Refusal Input)
+programRefusals = textRefusals ++ of (λ input. record { job = textJob (input .text); lent = buffers }) (analysisEarly ++ analysisLate)
+
+-- what is printed if nothing is refused
+abbrev pub programListing : Input → List ℕ
+programListing input = let job = textJob (input .text) in listingOf job (planOf job .peak)
 
 -- ---- the listing into a lent slice: 7 if the slice is shorter than any listing may need. If the text or its job is refused, that line is
 -- printed: the answer is 0, and the count is the bytes of the line.
@@ -256,14 +323,18 @@ pub record ListingCall : Type 0 where
   pub input : Input
   pub bytes : List ℕ
 
--- the tests of the listing: 7 alone
-unfoldable pub listingTests : List (ListingCall → Verdict)
-listingTests = (λ call. refusedIf (ltb (length (call .bytes)) listingBytes) (answer 7 0 0) untouched) ∷ []
+-- the fixed length of a listing's slice
+abbrev pub listingLengths : ListingCall → List Fixed
+listingLengths call = record { long = length (call .bytes); least = listingBytes } ∷ []
+
+-- the early refusals of the listing: 7 alone; there is no late one
+unfoldable pub listingEarly : List (Refusal ListingCall)
+listingEarly = on listingLengths sliceShort ∷ []
 
 -- a listing is done: the slice holds what is printed, then zeros, and the count is the number of these bytes
 unfoldable pub listingDone : ListingCall → Outcome (List ℕ)
-listingDone call = let out = programPrints (call .input) in record { answer = answer 0 0 (length out); lent = thenZeros out (call .bytes) }
+listingDone call = let out = programPrints (call .input) in record { answered = answer 0 0 (length out); lent = thenZeros out (call .bytes) }
 
 -- the whole outcome of a listing
 unfoldable pub listed : Input → List ℕ → Outcome (List ℕ)
-listed input bytes = outcome listingTests listingDone zeros (record { input = input; bytes = bytes }) bytes
+listed input bytes = outcome listingEarly [] listingDone zeros (record { input = input; bytes = bytes }) bytes

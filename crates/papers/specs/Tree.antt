@@ -38,7 +38,7 @@ pub data Under (par : ℕ → ℕ) (j : ℕ) : ℕ → Type 0 where
   top : Under par j j
   up : {k : ℕ} → 0 < par k → Under par j (par k) → Under par j k
 
--- tests whether k is in the subtree of j, climbing at most f parents
+-- tests whether k is in the subtree of j, climbing at most f parents; a parent is above its column, so n climbs lead to any top
 unfoldable pub isUnder : (ℕ → ℕ) → ℕ → ℕ → ℕ → Bool
 isUnder par zero j k = eqb k j
 isUnder par (suc f) j k = elim (eqb k j) [ true ↦ true | false ↦ elim (eqb (par k) 0) [ true ↦ false | false ↦ isUnder par f j (par k) ] ]

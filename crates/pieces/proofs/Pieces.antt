@@ -8,26 +8,21 @@ use mathlib.Core.List.{List, [], _∷_, _++_, flatMap}
 use lib.Dec.{eqb}
 use lib.ListN.{length, replicate, take, drop}
 use Rattle.papers.specs.Bounds.{workLength}
-use Rattle.papers.specs.Lists.{upTo, head0, member, same, every, keep, sum, greatest, merge, insert, sort, least, flat, startsFrom, thenZeros}
-use Rattle.papers.specs.Numbers.{groupsOf, bytesOf, encode, over, lastGroup, readFrom, readNumber}
-use Rattle.papers.specs.Job.{Job, start, columnOf, pattern}
+use Rattle.papers.specs.Lists.{upTo, head0, member, same, every, keep, sum, largest, merge, insert, sort, least, flat, startsFrom, thenZeros}
+use Rattle.papers.specs.Refusals.{answer, first, refusedIf, refusedAt, outcome}
+use Rattle.papers.specs.Job.{Job, start, columnOf, pattern, fallsAt, startsTest, rowFault, rowsFault, columnFault, rowsTest, jobRefusals}
 use Rattle.papers.specs.Fill.{gather, lists, R}
 use Rattle.papers.specs.Tree.{parent, t, children, isUnder, subtreeOf}
-use Rattle.papers.specs.Room.{topUpdate, roomAt, heldAfter, rooms, peakOf}
-use Rattle.papers.specs.Order.{columnAt, siblingKey, alone, arranged, stepsOf, orderOf, roomsOf, peak}
-use Rattle.papers.specs.Key.{gapsOf, listNumbers, listsNumbers, listsOf, keyNumbers, keyOf}
-use Rattle.papers.specs.Plan.{planOf, stepNumbers, planNumbers, planBytes, then, onto, inField, field, readStep}
-use Rattle.papers.specs.Plan.{readSteps, readRows, readList, readLists, atEnd, readPlan}
-use Rattle.papers.specs.Refusals.{answer, Lent, first, refusedIf, refusedAt, outcome, columnsTest, markTest, limitTest}
-use Rattle.papers.specs.Refusals.{falls, startsTest, rowFault, rowsFault, columnFault, rowsTest, jobTests, allZero, holding}
-use Rattle.papers.specs.Refusals.{lengthsTest, factorRowsTest, peakTest, bytesTest}
-use Rattle.papers.specs.Analysis.{holdingPlan, analysisTests, analysisDone, analysed, planTests, planDone, planZero, planWritten}
-use Rattle.papers.specs.Check.{keyDiffers, keyTest, planRead, readTest, repeated, repeatTest, listTest, scattered}
-use Rattle.papers.specs.Check.{subtreeTest, popsTest, truePeak, declaredTest, ofPlan, checkTests, checkDone, checked}
-use Rattle.papers.specs.Text.{isDigit, startingWith, cut, afterLines, onWord, wordsOf, isDecimal, allDecimal, valueOf}
-use Rattle.papers.specs.Text.{numbersOf, numbersAt, headOf, rowsOfLine, isRowLine, textHead, textLists, textJob}
-use Rattle.papers.specs.Text.{inputTest, headTest, lineFault, rowLinesTest, endTest, textTests, digitsOf, decimalOf}
-use Rattle.papers.specs.Text.{printed, refusalLine, stepLines, listingOf, buffers, jobPrinted, programPrints}
+use Rattle.papers.specs.Room.{topUpdate, roomAt, entriesAfter, rooms, peakOf, frontRoom}
+use Rattle.papers.specs.Order.{columnAt, siblingKey, alone, arranged, stepsOf, orderOf, roomsOf, orderPeak, scattered}
+use Rattle.papers.specs.Numbers.{groupsOf, bytesOf, encode, over, lastGroup, readFrom, readNumber, then, onto, inField, field, atEnd, differsAt}
+use Rattle.papers.specs.Key.{gapsOf, listNumbers, listsNumbers, listsOf, keyNumbers, keyOf, readRows, readList, readLists}
+use Rattle.papers.specs.Plan.{planOf, stepNumbers, planNumbers, planBytes, readStep, readSteps, readPlan, planRead, planFor}
+use Rattle.papers.specs.Analysis.{Lent, allZero, holding, holdingPlan, analysisDone, analysed, planDone, planZero, planWritten, someShort, earlyRefusals, analysisEarly, analysisLate, planEarly, planLate}
+use Rattle.papers.specs.Check.{readTest, repeatedAt, truePeak, ofPlan, checkDone, checked, judgeRefusals, planTest, planRefusals, checkEarly, checkLate}
+use Rattle.papers.specs.Text.{isDigit, startingWith, cut, afterLines, onWord, wordsOf, isDecimal, allDecimal, valueOf, numbersOf, numbersAt, headOf}
+use Rattle.papers.specs.Text.{rowsOfLine, isRowLine, textHead, textLists, textJob, headTest, lineFault, rowLinesTest, endTest, textRefusals}
+use Rattle.papers.specs.Text.{digitsOf, decimalOf, printed, refusalLine, stepLines, listingOf, buffers, jobPrinted, programPrints}
 use Rattle.papers.specs.declared.Answer.{Answer}
 use Rattle.pieces.proofs.Worked.{none, pair, pairBytes, loose, dense, filling, crossed, star, nine, nineText, nineListing}
 
@@ -63,25 +58,24 @@ sameAnswer : Answer → Answer → Bool
 sameAnswer a b = eqb (a .number) (b .number) && eqb (a .place) (b .place) && eqb (a .count) (b .count)
 
 pub holds : Piece → Bool
-unfolding lentFor sameAnswer flatMap upTo head0 member same every keep sum greatest merge insert sort least flat startsFrom thenZeros groupsOf bytesOf
-    encode over lastGroup readFrom readNumber start columnOf gather lists R parent t children isUnder subtreeOf topUpdate roomAt heldAfter rooms
-    peakOf columnAt siblingKey alone arranged stepsOf orderOf peak gapsOf listNumbers listsNumbers listsOf keyNumbers keyOf planOf stepNumbers
+unfolding lentFor sameAnswer flatMap upTo head0 member same every keep sum largest merge insert sort least flat startsFrom thenZeros groupsOf bytesOf
+    encode over lastGroup readFrom readNumber start columnOf gather lists R parent t children isUnder subtreeOf topUpdate frontRoom roomAt entriesAfter rooms
+    peakOf columnAt siblingKey alone arranged stepsOf orderOf orderPeak gapsOf listNumbers listsNumbers listsOf keyNumbers keyOf planFor planOf stepNumbers
     planNumbers planBytes then onto inField field readStep readSteps readRows readList readLists atEnd readPlan first refusedIf refusedAt outcome
-    columnsTest markTest limitTest falls startsTest rowFault rowsFault columnFault rowsTest jobTests allZero holding lengthsTest factorRowsTest
-    peakTest bytesTest holdingPlan analysisTests analysisDone analysed planTests planDone planZero planWritten keyDiffers keyTest planRead readTest
-    repeated repeatTest listTest scattered subtreeTest popsTest truePeak declaredTest ofPlan checkTests checkDone checked roomsOf isDigit startingWith
-    cut afterLines onWord wordsOf isDecimal allDecimal valueOf numbersOf numbersAt headOf rowsOfLine isRowLine textHead textLists textJob inputTest
-    headTest lineFault rowLinesTest endTest textTests digitsOf decimalOf printed refusalLine stepLines listingOf buffers jobPrinted programPrints
+    fallsAt startsTest rowFault rowsFault columnFault rowsTest jobRefusals allZero holding someShort earlyRefusals holdingPlan analysisEarly analysisLate analysisDone analysed planEarly planLate planDone planZero planWritten differsAt planRead readTest
+    repeatedAt scattered truePeak judgeRefusals planTest planRefusals checkEarly checkLate checkDone checked roomsOf isDigit startingWith
+    cut afterLines onWord wordsOf isDecimal allDecimal valueOf numbersOf numbersAt headOf rowsOfLine isRowLine textHead textLists textJob
+    headTest lineFault rowLinesTest endTest textRefusals digitsOf decimalOf printed refusalLine stepLines listingOf buffers jobPrinted programPrints
 holds (number x bytes) = same (bytesOf x) bytes
-holds (analysis job a) = sameAnswer (analysed job (lentFor (job .n)) .answer) a
+holds (analysis job a) = sameAnswer (analysed job (lentFor (job .n)) .answered) a
 holds (order job columns) = same (analysed job (lentFor (job .n)) .lent .order) columns
 holds (fill job j at rows) =
     same (R (pattern job) j) rows && same (take (length rows) (drop at (analysed job (lentFor (job .n)) .lent .factorRows))) rows
 holds (plan job bytes) =
     let written = planWritten job (record { analysis = lentFor (job .n); bytes = replicate (length bytes + 3) 7 }) in
-    sameAnswer (written .answer) (answer 0 0 (length bytes)) && same (written .lent .bytes) (bytes ++ (0 ∷ 0 ∷ 0 ∷ []))
+    sameAnswer (written .answered) (answer 0 0 (length bytes)) && same (written .lent .bytes) (bytes ++ (0 ∷ 0 ∷ 0 ∷ []))
 holds (prints text out) = same (programPrints (record { text = text; more = false })) out
-holds (check job bytes a) = sameAnswer (checked job bytes (lentFor (job .n)) .answer) a
+holds (check job bytes a) = sameAnswer (checked job bytes (lentFor (job .n)) .answered) a
 
 pub all : List Piece → Bool
 all [] = true

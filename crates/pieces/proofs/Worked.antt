@@ -2,21 +2,22 @@
 -- Assumes nothing.
 use Prim.Native.Nat.{ℕ}
 use mathlib.Core.List.{List, [], _∷_}
+use Rattle.papers.specs.Key.{jobWith}
 use Rattle.papers.specs.Lists.{flat, startsFrom}
 use Rattle.papers.specs.Job.{Job}
 
 -- a job by its columns' rows
-unfoldable pub jobOf : ℕ → ℕ → ℕ → List (List ℕ) → Job
+unfoldable pub byColumns : ℕ → ℕ → ℕ → List (List ℕ) → Job
 unfolding flat startsFrom
-jobOf n mark limit columns = record { n = n; starts = startsFrom 0 columns; rows = flat columns; mark = mark; limit = limit }
+byColumns n mark limit columns = jobWith (record { n = n; mark = mark; limit = limit }) columns
 
 unfoldable pub none : Job
-unfolding jobOf
-none = jobOf 0 0 0 []
+unfolding byColumns
+none = byColumns 0 0 0 []
 
 unfoldable pub pair : ℕ → Job
-unfolding jobOf
-pair limit = jobOf 2 0 limit ((2 ∷ []) ∷ [] ∷ [])
+unfolding byColumns
+pair limit = byColumns 2 0 limit ((2 ∷ []) ∷ [] ∷ [])
 
 -- the pair's plan bytes: its limit, the two steps' columns and pops, the peak, what follows
 unfoldable pub pairBytes : ℕ → ℕ → ℕ → ℕ → ℕ → ℕ → List ℕ → List ℕ
@@ -24,29 +25,29 @@ pairBytes limit c₁ p₁ c₂ p₂ peak rest =
     0x01 ∷ 0x02 ∷ 0x00 ∷ limit ∷ 0x01 ∷ 0x01 ∷ 0x00 ∷ c₁ ∷ p₁ ∷ c₂ ∷ p₂ ∷ 0x01 ∷ 0x01 ∷ 0x00 ∷ peak ∷ rest
 
 unfoldable pub loose : Job
-unfolding jobOf
-loose = jobOf 3 0 100 ([] ∷ [] ∷ [] ∷ [])
+unfolding byColumns
+loose = byColumns 3 0 100 ([] ∷ [] ∷ [] ∷ [])
 
 unfoldable pub dense : Job
-unfolding jobOf
-dense = jobOf 3 0 100 ((2 ∷ 3 ∷ []) ∷ (3 ∷ []) ∷ [] ∷ [])
+unfolding byColumns
+dense = byColumns 3 0 100 ((2 ∷ 3 ∷ []) ∷ (3 ∷ []) ∷ [] ∷ [])
 
 unfoldable pub filling : Job
-unfolding jobOf
-filling = jobOf 4 0 100 ((3 ∷ 4 ∷ []) ∷ (3 ∷ []) ∷ [] ∷ [] ∷ [])
+unfolding byColumns
+filling = byColumns 4 0 100 ((3 ∷ 4 ∷ []) ∷ (3 ∷ []) ∷ [] ∷ [] ∷ [])
 
 unfoldable pub crossed : Job
-unfolding jobOf
-crossed = jobOf 4 0 100 ((3 ∷ []) ∷ (4 ∷ []) ∷ (4 ∷ []) ∷ [] ∷ [])
+unfolding byColumns
+crossed = byColumns 4 0 100 ((3 ∷ []) ∷ (4 ∷ []) ∷ (4 ∷ []) ∷ [] ∷ [])
 
 unfoldable pub star : Job
-unfolding jobOf
-star = jobOf 4 0 100 ((4 ∷ []) ∷ (4 ∷ []) ∷ (4 ∷ []) ∷ [] ∷ [])
+unfolding byColumns
+star = byColumns 4 0 100 ((4 ∷ []) ∷ (4 ∷ []) ∷ (4 ∷ []) ∷ [] ∷ [])
 
 unfoldable pub nine : ℕ → Job
-unfolding jobOf
+unfolding byColumns
 nine mark =
-    jobOf 9 mark 20 ((2 ∷ 8 ∷ 9 ∷ []) ∷ [] ∷ (4 ∷ 7 ∷ []) ∷ (8 ∷ 9 ∷ []) ∷ (6 ∷ 8 ∷ []) ∷ (7 ∷ []) ∷ (9 ∷ []) ∷ [] ∷ [] ∷ [])
+    byColumns 9 mark 20 ((2 ∷ 8 ∷ 9 ∷ []) ∷ [] ∷ (4 ∷ 7 ∷ []) ∷ (8 ∷ 9 ∷ []) ∷ (6 ∷ 8 ∷ []) ∷ (7 ∷ []) ∷ (9 ∷ []) ∷ [] ∷ [] ∷ [])
 
 -- the rules' example of a job text, and what the program prints for it
 unfoldable pub nineText : List ℕ

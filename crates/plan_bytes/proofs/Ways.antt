@@ -1,5 +1,5 @@
--- Proves the outcome of writing a plan from the outcome of the analysis: if that refuses, so does the writing, with the same answer; if it is done,
--- the room for the bytes decides.
+-- Proves the outcome of writing a plan: a refusal of 1 to 7 keeps the slices; one of 8 and 9 clears them; and if the plan is made, the room for the
+-- bytes decides.
 -- Assumes nothing.
 use Prim.Native.Nat.{ℕ, _<_, _≤_}
 use mathlib.Core.Path.{_≡_, refl, sym, _∙_}
@@ -8,23 +8,27 @@ use mathlib.Core.List.{List}
 use lib.ListN.{length}
 use Rattle.papers.specs.declared.Answer.{Answer}
 use Rattle.papers.specs.Lists.{zeros, thenZeros}
+use Rattle.papers.specs.Refusals.{answer, Verdict, passed, refused, answerOf, first, Outcome, EndsAs}
 use Rattle.papers.specs.Job.{Job}
 use Rattle.papers.specs.Plan.{planOf, planBytes}
-use Rattle.papers.specs.Refusals.{answer, untouched, zeroed, Leaves, Verdict, passed, refused, first, Outcome, Lent, allZero, bytesTest}
-use Rattle.papers.specs.Analysis.{AnalysisCall, holdingPlan, analysisTests, analysisDone, analysed, PlanLent, PlanCall}
-use Rattle.papers.specs.Analysis.{planTests, planDone, planZero, planWritten}
+use Rattle.papers.specs.Analysis.{Lent, allZero, earlyRefusals, earlyOf, bytesShort, AnalysisCall, holdingPlan, analysisEarly, analysisLate}
+use Rattle.papers.specs.Analysis.{analysisDone, analysed, PlanLent, PlanCall, analysisOf, planEarly, planLate, planDone, planZero, planWritten}
 use Rattle.list_laws.proofs.Tests.{below-or}
-use Rattle.job_laws.proofs.Firsts.{first-append-passed, first-append-refused, first-map, first-last, over-refuses, over-passes-iff}
-use Rattle.job_laws.proofs.Outcomes.{outcome-untouched, outcome-zeroed, outcome-done}
-use Rattle.refusal_laws.proofs.Exactly.{Leaving}
-use Rattle.refusal_laws.proofs.Analysis.{analysis-leaving}
-use Rattle.plan_laws.proofs.Analysed.{same-answers, same-numbers, same-lent}
-use Rattle.write_stored.specs.Stored.{ClearedLate}
+use Rattle.job_laws.proofs.Firsts.{first-append-passed, first-append-refused, first-of, first-last, over-refuses, over-passes-iff}
+use Rattle.job_laws.proofs.Outcomes.{outcome-early, outcome-late, outcome-done, early-refused, early-passes-iff, early-passed}
+use Rattle.plan_laws.proofs.Analysed.{same-answers, same-numbers}
 use Rattle.plan_bytes.specs.Beside.{storedBeside}
 use Rattle.plan_bytes.proofs.Besides.{beside-short, beside-whole}
 
-abbrev analysisOf : PlanCall → AnalysisCall
-analysisOf call = record { job = call .job; lent = call .slices .analysis }
+module _ (job : Job) (lent : Lent) where
+  same-early : first analysisEarly (record { job = job; lent = lent }) ≡ first earlyRefusals (earlyOf job lent)
+  unfolding analysisEarly
+  same-early = first-of (λ (call : AnalysisCall). earlyOf (call .job) (call .lent)) earlyRefusals (record { job = job; lent = lent })
+
+  -- a job and slices that are not refused by 1 to 7
+  pub early-on : {r : Answer} → r ≡ answerOf (first earlyRefusals (earlyOf job lent)) → r .number ≡ 0
+      → first analysisEarly (record { job = job; lent = lent }) ≡ passed
+  early-on e z = same-early ∙ early-passes-iff (earlyOf job lent) .1 (early-passed (earlyOf job lent) e z)
 
 module _ (job : Job) (slices : PlanLent) where
   abbrev call : PlanCall
@@ -33,62 +37,67 @@ module _ (job : Job) (slices : PlanLent) where
   abbrev written : List ℕ
   written = planBytes job (planOf job)
 
-  -- ---- the analysis refuses
+  -- the early refusals are those of the analysis
+  early-of : first planEarly call ≡ first analysisEarly (analysisOf call)
+  unfolding planEarly
+  early-of = first-of analysisOf analysisEarly call
 
-  refused-on : {a : Answer} {l : Leaves} → first analysisTests (record { job = job; lent = slices .analysis }) ≡ refused a l
-      → first planTests (record { job = job; slices = slices }) ≡ refused a l
-  unfolding planTests
-  refused-on e = first-append-refused _ _ call (first-map analysisOf analysisTests call ∙ e)
+  -- 1 to 7
+  pub way-early : {r : Answer} → r ≡ answerOf (first earlyRefusals (earlyOf job (slices .analysis))) → r .number ≢ 0
+      → EndsAs r slices (planWritten job slices)
+  unfolding planWritten
+  way-early e z =
+      sym (outcome-early planEarly planLate planDone planZero call slices
+      (early-of ∙ same-early job (slices .analysis) ∙ early-refused (earlyOf job (slices .analysis)) e z))
 
-  -- 1 to 7 leave the bytes as they were, 8 and 9 leave zeros
-  pub way-refused : {r : Answer} {after : Lent} {bytes : List ℕ}
-      → _≡_ {A = Outcome Lent} (record { answer = r; lent = after }) (analysed job (slices .analysis)) → r .number ≢ 0
-      → ClearedLate (r .number) (slices .bytes) bytes
-      → _≡_ {A = Outcome PlanLent} (record { answer = r; lent = record { analysis = after; bytes = bytes } }) (planWritten job slices)
-  unfolding analysed analysisDone planWritten planZero
-  way-refused {r} {after} {bytes} e z cleared = go (first analysisTests (analysisOf call)) refl
+  -- 8 and 9
+  pub way-refused : {r : Answer} {after : Lent} {bytes : List ℕ} → first analysisEarly (record { job = job; lent = slices .analysis }) ≡ passed
+      → EndsAs r (allZero (slices .analysis)) (analysed job (slices .analysis)) → r .number ≢ 0
+      → after ≡ allZero (slices .analysis) → bytes ≡ zeros (slices .bytes)
+      → EndsAs r (record { analysis = after; bytes = bytes }) (planWritten job slices)
+  unfolding analysed analysisDone planWritten planZero planLate
+  way-refused {r} {after} {bytes} p e z a b = go (first analysisLate (analysisOf call)) refl
     where
-      go : (v : Verdict) → first analysisTests (analysisOf call) ≡ v
-          → _≡_ {A = Outcome PlanLent} (record { answer = r; lent = record { analysis = after; bytes = bytes } }) (planWritten job slices)
-      go passed q = absurd (z (same-numbers (e ∙ outcome-done analysisTests analysisDone allZero (analysisOf call) (slices .analysis) q)))
-      go (refused a untouched) q =
-          let f = e ∙ outcome-untouched analysisTests analysisDone allZero (analysisOf call) (slices .analysis) q in
-          let h : Leaving (refused a untouched) = rw q at (analysis-leaving (analysisOf call)) in
-          rw (same-answers f, same-lent f, cleared .early (rw (same-answers f) (h .1)))
-          (sym (outcome-untouched planTests planDone planZero call slices (refused-on q)))
-      go (refused a zeroed) q =
-          let f = e ∙ outcome-zeroed analysisTests analysisDone allZero (analysisOf call) (slices .analysis) q in
-          let h : Leaving (refused a zeroed) = rw q at (analysis-leaving (analysisOf call)) in
-          rw (same-answers f, same-lent f, cleared .late (rw (same-answers f) h))
-          (sym (outcome-zeroed planTests planDone planZero call slices (refused-on q)))
+      go : (v : Verdict) → first analysisLate (analysisOf call) ≡ v → EndsAs r (record { analysis = after; bytes = bytes }) (planWritten job slices)
+      go passed q =
+          absurd (z (same-numbers (e ∙ outcome-done analysisEarly analysisLate analysisDone allZero (analysisOf call) (slices .analysis) p q)))
+      go (refused c) q =
+          let f = e ∙ outcome-late analysisEarly analysisLate analysisDone allZero (analysisOf call) (slices .analysis) p q in
+          rw (same-answers f, a, b)
+          (sym (outcome-late planEarly planLate planDone planZero call slices (early-of ∙ p)
+          (first-append-refused _ _ call (first-of analysisOf analysisLate call ∙ q))))
 
-  -- ---- the analysis is done
+  -- ---- the plan is made
 
-  module _ (p : first analysisTests (record { job = job; lent = slices .analysis }) ≡ passed) where
-    last-test : first planTests (record { job = job; slices = slices }) ≡ bytesTest (planBytes job (planOf job)) (slices .bytes)
-    unfolding planTests
-    last-test = first-append-passed _ _ call (first-map analysisOf analysisTests call ∙ p) ∙ first-last _ call
+  module _ (p : first analysisEarly (record { job = job; lent = slices .analysis }) ≡ passed)
+      (l : first analysisLate (record { job = job; lent = slices .analysis }) ≡ passed) where
+    last-test : first planLate (record { job = job; slices = slices }) ≡ bytesShort (λ (s : PlanLent). planBytes job (planOf job)) (λ s. s .bytes) .test
+        slices
+    unfolding planLate
+    last-test = first-append-passed _ _ call (first-of analysisOf analysisLate call ∙ l) ∙ first-last _ call
 
     short-way : length (slices .bytes) < length (planBytes job (planOf job))
         → planWritten job slices ≡ record {
-          answer = answer 10 0 (length (planBytes job (planOf job)));
+          answered = answer 10 0 (length (planBytes job (planOf job)));
           lent = record { analysis = allZero (slices .analysis); bytes = zeros (slices .bytes) };
         }
-    unfolding planWritten planZero bytesTest
+    unfolding planWritten planZero
     short-way h =
-        outcome-zeroed planTests planDone planZero call slices (last-test ∙ over-refuses (length (slices .bytes)) (length written) _ zeroed h)
+        outcome-late planEarly planLate planDone planZero call slices (early-of ∙ p)
+        (last-test ∙ over-refuses (length (slices .bytes)) (length written) _ h)
 
     whole-way : length (planBytes job (planOf job)) ≤ length (slices .bytes)
         → planWritten job slices ≡ record {
-          answer = answer 0 0 (length (planBytes job (planOf job)));
+          answered = answer 0 0 (length (planBytes job (planOf job)));
           lent = record {
             analysis = holdingPlan job (planOf job) (slices .analysis);
             bytes = thenZeros (planBytes job (planOf job)) (slices .bytes);
           };
         }
-    unfolding planWritten planDone bytesTest
+    unfolding planWritten planDone
     whole-way h =
-        outcome-done planTests planDone planZero call slices (last-test ∙ over-passes-iff (length (slices .bytes)) (length written) _ zeroed .1 h)
+        outcome-done planEarly planLate planDone planZero call slices (early-of ∙ p)
+        (last-test ∙ over-passes-iff (length (slices .bytes)) (length written) _ .1 h)
 
     -- storing the bytes beside the analysis gives the outcome
     pub way-stored : {after : Lent} {found : Outcome PlanLent} → after ≡ holdingPlan job (planOf job) (slices .analysis)

@@ -4,12 +4,12 @@ use Prim.Native.Nat.{ℕ}
 use mathlib.Core.List.{List, [], _∷_}
 use lib.ListN.{length}
 use Rattle.papers.specs.Lists.{thenZeros}
-use Rattle.papers.specs.Refusals.{answer, Outcome, outcome, bytesTest}
-use Rattle.papers.specs.Analysis.{PlanLent, planZero}
+use Rattle.papers.specs.Refusals.{answer, Outcome, outcome}
+use Rattle.papers.specs.Analysis.{PlanLent, planZero, bytesShort}
 
 -- answers 10 if the bytes do not fit, and clears all slices; else stores them, then zeros, and keeps the other slices
 unfoldable pub storedBeside : List ℕ → PlanLent → Outcome PlanLent
 storedBeside written slices =
-    outcome ((λ lent. bytesTest written (lent .bytes)) ∷ [])
-    (λ lent. record { answer = answer 0 0 (length written); lent = record { analysis = lent .analysis; bytes = thenZeros written (lent .bytes) } })
+    outcome [] (bytesShort (λ lent. written) (λ lent. lent .bytes) ∷ [])
+    (λ lent. record { answered = answer 0 0 (length written); lent = record { analysis = lent .analysis; bytes = thenZeros written (lent .bytes) } })
     planZero slices slices

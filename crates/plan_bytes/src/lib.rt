@@ -1,12 +1,12 @@
 // The entry point of writing a plan into a lent slice.
 use papers::Answer;
 use papers::JobHead;
+ghost use Rattle.papers.specs.Refusals.{EndsAs};
 ghost use Rattle.papers.specs.Job.{jobOf};
 ghost use Rattle.papers.specs.Plan.{planOf, planBytes};
-ghost use Rattle.papers.specs.Refusals.{EndsAs};
 ghost use Rattle.papers.specs.Analysis.{planWritten};
-ghost use Rattle.lent.specs.Six.{six};
-ghost use Rattle.plan_bytes.specs.InFront.{InFront};
+ghost use Rattle.lent.specs.Six.{sixSlices};
+ghost use Rattle.plan_bytes.specs.AtStart.{JobPlanAtStart};
 ghost use Rattle.plan_bytes.specs.Beside.{storedBeside};
 
 // Stores the plan bytes of a job beside the slices of its analysis, which hold the plan. If the bytes do not fit, answers 10 with the bytes
@@ -24,17 +24,17 @@ fn store_beside(
     peak: u64,
     bytes: &mut [u8],
 ) -> Answer
-    requires { ⌜ InFront (jobOf head (now starts) (now rows)) (now order) (now pops) (now fstarts) (now frows) peak ⌝ }
+    requires { ⌜ JobPlanAtStart (jobOf head (now starts) (now rows)) (now order) (now pops) (now fstarts) (now frows) peak ⌝ }
     ensures { λ r. ⌜
         EndsAs r (record {
-          analysis = six (now (parents .exit)) (now (order .exit)) (now (pops .exit)) (now (fstarts .exit))
+          analysis = sixSlices (now (parents .exit)) (now (order .exit)) (now (pops .exit)) (now (fstarts .exit))
               (now (frows .exit)) (now (work .exit));
           bytes = now (bytes .exit);
         })
         (storedBeside (planBytes (jobOf head (now (starts .entry)) (now (rows .entry)))
         (planOf (jobOf head (now (starts .entry)) (now (rows .entry)))))
         (record {
-          analysis = six (now (parents .entry)) (now (order .entry)) (now (pops .entry)) (now (fstarts .entry))
+          analysis = sixSlices (now (parents .entry)) (now (order .entry)) (now (pops .entry)) (now (fstarts .entry))
               (now (frows .entry)) (now (work .entry));
           bytes = now (bytes .entry);
         }))
@@ -60,8 +60,8 @@ fn store_beside(
     stored
 }
 
-// Analyses a job and writes its plan. Tests 1 to 9 as the analysis does, then 10, which counts the bytes needed. When done, the slices hold
-// the analysis and the plan, then zeros, and the count is the plan's bytes.
+// Makes a job's plan and writes it. Tests 1 to 7, then 8 and 9 as the analysis does, then 10, which counts the bytes needed; behind 7 every
+// refusal clears all slices. When done, the slices hold the analysis and the plan, then zeros, and the count is the plan's bytes.
 pub fn write_plan(
     head: JobHead,
     starts: &[u64],
@@ -76,19 +76,32 @@ pub fn write_plan(
 ) -> Answer
     ensures { λ r. ⌜
         EndsAs r (record {
-          analysis = six (now (parents .exit)) (now (order .exit)) (now (pops .exit)) (now (fstarts .exit))
+          analysis = sixSlices (now (parents .exit)) (now (order .exit)) (now (pops .exit)) (now (fstarts .exit))
               (now (frows .exit)) (now (work .exit));
           bytes = now (bytes .exit);
         })
         (planWritten (jobOf head (now (starts .entry)) (now (rows .entry)))
         (record {
-          analysis = six (now (parents .entry)) (now (order .entry)) (now (pops .entry)) (now (fstarts .entry))
+          analysis = sixSlices (now (parents .entry)) (now (order .entry)) (now (pops .entry)) (now (fstarts .entry))
               (now (frows .entry)) (now (work .entry));
           bytes = now (bytes .entry);
         }))
         ⌝ }
 {
-    let analysed = analysis::analyse(
+    let fault = lent::early_fault(
+        head,
+        starts,
+        rows,
+        parents.len(),
+        order.len(),
+        pops.len(),
+        fstarts.len(),
+        work.len(),
+    );
+    if fault.number != 0 {
+        return fault;
+    }
+    let planned = lent_plan::planned(
         head,
         starts,
         rows,
@@ -99,9 +112,10 @@ pub fn write_plan(
         frows,
         work,
     );
-    if analysed.number != 0 {
-        write_stored::clear_late(analysed.number, bytes);
-        return analysed;
+    if planned.number != 0 {
+        lent::clear_all(parents, order, pops, fstarts, frows, work);
+        slices::clear8(bytes);
+        return planned;
     }
     store_beside(
         head,
@@ -113,7 +127,7 @@ pub fn write_plan(
         fstarts,
         frows,
         work,
-        analysed.count,
+        planned.count,
         bytes,
     )
 }

@@ -9,15 +9,13 @@ use Rattle.papers.specs.Lists.{upTo}
 use Rattle.papers.specs.Job.{Job, Pattern, Below, pattern}
 use Rattle.papers.specs.Fill.{R}
 use Rattle.papers.specs.Tree.{parent}
-use Rattle.papers.specs.Order.{childrenOf, popsOf, orderOf, peak}
-use Rattle.papers.specs.Plan.{Plan, columnsIn, planOf}
-use Rattle.papers.specs.Refusals.{passed, first, jobTests}
-use Rattle.papers.specs.Sound.{Sound}
+use Rattle.papers.specs.Order.{childrenOf, popsOf, orderOf, orderPeak}
+use Rattle.papers.specs.Plan.{Plan, columnsIn, planFor, planOf, Sound, Fit}
+use Rattle.job_laws.specs.Passed.{Passed}
 use Rattle.list_laws.proofs.Counts.{distinct-length}
 use Rattle.list_laws.proofs.UpTo.{upTo-into, length-upTo}
 use Rattle.fill_laws.proofs.Fill.{R-asc, R-range}
-use Rattle.bytes_laws.proofs.Plans.{Fit}
-use Rattle.job_laws.proofs.Passed.{passes-iff, passed-below}
+use Rattle.job_laws.proofs.Passed.{passed-below}
 use Rattle.job_laws.proofs.Laid.{length-lists}
 use Rattle.job_laws.proofs.Keys.{lists-fit}
 use Rattle.order_laws.proofs.Subtrees.{children-are, children-distinct}
@@ -36,9 +34,9 @@ pops-fit {n} {A} below j l u =
           (λ i m. let (a, b, e) = children-are (parent A) n j i .0 m in upTo-into (n - 1) i a (omega (arith, tree-of below .above i (omega arith)))),
     )
 
-module _ (job : Job) (valid : first jobTests job ≡ passed) where
+module _ (job : Job) (valid : Passed job) where
   below : Below (job .n) (pattern job)
-  below = passed-below job (passes-iff job .0 valid)
+  below = passed-below job valid
 
   -- every number of a sound plan is in its range
   pub sound-fits : (plan : Plan) → Sound job plan → Fit (job .n) plan
@@ -48,12 +46,12 @@ module _ (job : Job) (valid : first jobTests job ≡ passed) where
         (l, u, pops-fit below j l u)) (s .pops);
     all-lists = rw (s .rows) (length-lists (R (pattern job)) (job .n));
     lists = rw (s .rows) (lists-fit (job .n) (R (pattern job)) (λ j. (R-asc below j, λ i m. R-range below j i m .1)) (job .n));
-    peak = rw (s .greatest) (ordered-peak-fits below (passes-iff job .0 valid .few) (columnsIn (plan .steps)) (s .ordered));
+    peak = rw (s .declared) (ordered-peak-fits below (valid .few) (columnsIn (plan .steps)) (s .ordered));
   }
 
   -- the plan of a job is sound, under every mark
   pub planned-sound : planOf job .peak ≤ job .limit → Sound job (planOf job)
-  unfolding planOf
+  unfolding planOf planFor
   planned-sound h =
       let order = orderOf (job .mark) (job .n) (pattern job) in
       let columns = columns-made (popsOf (job .n) (pattern job)) order in
@@ -61,6 +59,6 @@ module _ (job : Job) (valid : first jobTests job ≡ passed) where
         ordered = rw columns (order-ordered below (job .mark));
         pops = rw columns (pops-made (popsOf (job .n) (pattern job)) order);
         rows = refl;
-        greatest = rw columns;
+        declared = rw columns;
         within = h;
       }

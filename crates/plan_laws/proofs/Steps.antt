@@ -6,8 +6,7 @@ use mathlib.Core.Logic.{_⊎_, inl, inr}
 use mathlib.Core.List.{List, [], _∷_, map, List·Memᴰ·head, List·Memᴰ·tail, List·Memᴰ·not-nil, List·Memᴰ·cases-cons}
 use native.Mathlib.Omega.{arith}
 use Rattle.papers.specs.Lists.{_∈_}
-use Rattle.papers.specs.Plan.{columnsIn, popsIn}
-use Rattle.bytes_laws.proofs.Plans.{StepsFit}
+use Rattle.papers.specs.Plan.{columnsIn, popsIn, StepsFit}
 
 -- the columns of steps that were made of columns with their pops
 pub columns-made : (pops : ℕ → ℕ) (order : List ℕ) → columnsIn (map (λ j. (j, pops j)) order) ≡ order
@@ -28,12 +27,3 @@ steps-fit n pops (x ∷ xs) h e =
     let own : x .1 ≡ pops (x .0) = cc in
     let rest : popsIn xs ≡ map pops (columnsIn xs) = cc in
     ((l, u, omega arith), steps-fit n pops xs (λ j m. h j (List·Memᴰ·tail m)) rest)
-
--- the columns of steps in their ranges are from 1 to n
-pub columns-within : (n : ℕ) (steps : List (ℕ × ℕ)) → StepsFit n steps → (j : ℕ) → j ∈ columnsIn steps → (1 ≤ j) × (j ≤ n)
-columns-within n [] f j m = absurd (List·Memᴰ·not-nil m)
-columns-within n (x ∷ xs) f j m = go (List·Memᴰ·cases-cons m) (λ k. columns-within n xs (f .1) j k)
-  where
-    go : (j ≡ x .0) ⊎ (j ∈ columnsIn xs) → (j ∈ columnsIn xs → (1 ≤ j) × (j ≤ n)) → (1 ≤ j) × (j ≤ n)
-    go (inl e) ih = rw e (f .0 .0, f .0 .1)
-    go (inr k) ih = ih k

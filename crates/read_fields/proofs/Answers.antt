@@ -9,13 +9,12 @@ use native.Mathlib.Omega.{arith}
 use lib.ListN.{length, getD}
 use borrow.Author.Tests.{lt-ltb, le-ltb}
 use Rattle.papers.specs.Bounds.{maxGroups}
-use Rattle.papers.specs.Numbers.{over, readNumber}
-use Rattle.papers.specs.Plan.{Read, got, bad, inField, field}
+use Rattle.papers.specs.Numbers.{over, readNumber, Read, got, bad, inField, field}
 use Rattle.papers.specs.declared.Number.the-variants.{Value, Ended, TooLong, NotShortest}
 use Rattle.papers.specs.declared.Number.{Number}
 use Rattle.bytes_laws.proofs.Fields as fields
 use Rattle.bytes_laws.proofs.NumberReading.{read-last, read-more, shown-some, last-shown}
-use Rattle.read_fields.specs.Reading.{reading, Told, finds, refuses}
+use Rattle.read_fields.specs.Reading.{reading, Told, finds, meets-fault}
 use Rattle.read_fields.specs.declared.Reading.the-variants.{Found, Refused}
 use Rattle.read_fields.specs.declared.Reading.{Reading}
 
@@ -115,15 +114,15 @@ pub record PartFound {A : Type 0} (f : A → ℕ) (Kept : A → Type 0) (found :
 module _ {A : Type 0} {f : A → ℕ} {Kept : A → Type 0} {found : Read A} where
   pub told-found : {r : Reading} {v next : ℕ} → Told f Kept found r → r ≡ Found v next → PartFound f Kept found v next
   told-found {next = next} (finds a m e g k) h = let y : m ≡ next = cc in record { part = a; read = e ∙ ap (got a) y; value = cc; kept = k }
-  told-found (refuses c p e g) h = absurd (let z : _≡_ {A = ℕ} 0 1 = cc in omega arith)
+  told-found (meets-fault c p e g) h = absurd (let z : _≡_ {A = ℕ} 0 1 = cc in omega arith)
 
   -- a part is refused
   pub told-refused : {r : Reading} {number place : ℕ} → Told f Kept found r → r ≡ Refused number place → found ≡ bad number place
   told-refused (finds a m e g k) h = absurd (let z : _≡_ {A = ℕ} 0 1 = cc in omega arith)
-  told-refused {number = number} {place = place} (refuses c p e g) h = let x : c ≡ number = cc in let y : p ≡ place = cc in rw (← x, ← y) e
+  told-refused {number = number} {place = place} (meets-fault c p e g) h = let x : c ≡ number = cc in let y : p ≡ place = cc in rw (← x, ← y) e
 
 -- what is told of one reading is told of any equal reading
 pub told-of : {A : Type 0} {f : A → ℕ} {Kept : A → Type 0} {found same : Read A} {r : Reading} → same ≡ found → Told f Kept found r
     → Told f Kept same r
 told-of e (finds a next g h k) = finds a next (e ∙ g) h k
-told-of e (refuses number place g h) = refuses number place (e ∙ g) h
+told-of e (meets-fault number place g h) = meets-fault number place (e ∙ g) h

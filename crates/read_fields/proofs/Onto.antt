@@ -4,7 +4,7 @@ use Prim.Native.Nat.{ℕ, _+_}
 use mathlib.Core.List.{List, [], _∷_, _++_, append-assoc, append-nil}
 use mathlib.Core.Path.{_≡_, refl, sym, ap, _∙_}
 use lib.ListN.{length, length-append}
-use Rattle.papers.specs.Plan.{Read, got, bad, onto}
+use Rattle.papers.specs.Numbers.{Read, got, bad, onto}
 use Rattle.bytes_laws.proofs.Fields.{onto-got, onto-bad}
 
 module _ {A : Type 0} where

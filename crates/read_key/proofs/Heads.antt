@@ -6,7 +6,7 @@ use mathlib.Core.Path.{_≡_, refl, sym, ap, _∙_}
 use mathlib.Core.List.{List}
 use native.Mathlib.Omega.{arith}
 use Rattle.papers.specs.Bounds.{edition, maxColumns, maxMark, maxLimit}
-use Rattle.papers.specs.Plan.{Read, got, bad, field}
+use Rattle.papers.specs.Numbers.{Read, got, bad, field}
 use Rattle.papers.specs.declared.JobHead.{JobHead}
 use Rattle.bytes_laws.proofs.Fields.{got-inj, then-got, then-bad, then-only, field-got}
 use Rattle.read_key.specs.Keys.{readMark, readHead, headReading, CountAsked}

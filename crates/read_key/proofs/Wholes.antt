@@ -10,13 +10,13 @@ use borrow.Author.Tests.{lt-ltb, le-ltb}
 use Rattle.papers.specs.Bounds.{edition, maxColumns, maxMark, maxLimit}
 use Rattle.papers.specs.Lists.{flat, startsFrom}
 use Rattle.papers.specs.Job.{Job, jobOf}
-use Rattle.papers.specs.Plan.{Read, got, bad, then, field, readLists, atEnd}
-use Rattle.papers.specs.Call.{readKey}
+use Rattle.papers.specs.Numbers.{Read, got, bad, then, field, atEnd}
+use Rattle.papers.specs.Key.{readLists, readKey}
 use Rattle.papers.specs.declared.JobHead.{JobHead}
 use Rattle.bytes_laws.proofs.Fields.{then-got, then-bad}
-use Rattle.read_fields.specs.Reading.{Told, finds, refuses}
+use Rattle.read_fields.specs.Reading.{Told, finds, meets-fault}
 use Rattle.read_fields.specs.declared.Reading.{Reading}
-use Rattle.read_key.specs.Keys.{readMark, readHead, KeyParts, KeyTold, reads, unreadable}
+use Rattle.read_key.specs.Keys.{readMark, readHead, KeyParts, KeyTold, reads, not-read}
 use Rattle.read_key.specs.declared.KeyReading.{KeyReading}
 use Rattle.read_key.specs.declared.KeyReading.the-variants.{Whole, Unreadable}
 use Rattle.read_key.proofs.Heads.{head-fits}
@@ -60,7 +60,7 @@ module _ (s : List ℕ) where
           then-then (field 0 maxColumns s at) (λ n at. readMark n s at) rest ∙ ap (then (field 0 maxColumns s at)) (λ i n at. from-mark n at i)
 
   pub no-head : {number place : ℕ} → readHead s ≡ bad number place → KeyTold s Unreadable
-  no-head e = unreadable (key-by-head ∙ then-bad _ e) refl
+  no-head e = not-read (key-by-head ∙ then-bad _ e) refl
 
   module _ {head : JobHead} {at : ℕ} (e : readHead s ≡ got head at) where
     behind-head : readKey s ≡ rest head at
@@ -68,7 +68,7 @@ module _ (s : List ℕ) where
 
     pub no-lists : {number place : ℕ} → readLists (head .n) 1 (head .n) s at ≡ bad number place → KeyTold s Unreadable
     unfolding rest
-    no-lists f = unreadable (behind-head ∙ then-bad _ f) refl
+    no-lists f = not-read (behind-head ∙ then-bad _ f) refl
 
     module _ {lists : List (List ℕ)} {end : ℕ} (f : readLists (head .n) 1 (head .n) s at ≡ got lists end) where
       at-end : readKey s ≡ atEnd (jobOf head (startsFrom 0 lists) (flat lists)) s end
@@ -78,7 +78,7 @@ module _ (s : List ℕ) where
       -- bytes after the lists
       pub bytes-after : end < length s → KeyTold s Unreadable
       unfolding atEnd
-      bytes-after h = unreadable {number = 15} {place = end + 1} (at-end ∙ rw (lt-ltb end (length s) h, atEnd)) refl
+      bytes-after h = not-read {number = 15} {place = end + 1} (at-end ∙ rw (lt-ltb end (length s) h, atEnd)) refl
 
       pub key-whole : {rows : ℕ} → rows ≡ length (flat lists) → length s ≤ end → KeyTold s (Whole head rows at)
       unfolding atEnd
@@ -97,7 +97,7 @@ module _ (s : List ℕ) where
 -- what is told of a part that is kept is told of it without keeping
 pub told-alone : {A : Type 0} {f : A → ℕ} {Kept : A → Type 0} {found : Read A} {r : Reading} → Told f Kept found r → Told f (λ a. Unit {0}) found r
 told-alone (finds a next e g k) = finds a next e g tt
-told-alone (refuses number place e g) = refuses number place e g
+told-alone (meets-fault number place e g) = meets-fault number place e g
 
 -- ---- what a caller has of the answer
 
@@ -108,9 +108,9 @@ told-whole {s} {head = head} {rows = rows} {at = at} (reads {head = h} {rows = c
     let y : c ≡ rows = cc in
     let z : p ≡ at = cc in
     rw (← x, ← y, ← z) parts
-told-whole (unreadable e f) g = absurd (let z : _≡_ {A = ℕ} 0 1 = cc in omega arith)
+told-whole (not-read e f) g = absurd (let z : _≡_ {A = ℕ} 0 1 = cc in omega arith)
 
 -- any other key does not read through
 pub told-unreadable : {s : List ℕ} {r : KeyReading} → KeyTold s r → r ≡ Unreadable → (number : ℕ) × (place : ℕ) × (readKey s ≡ bad number place)
 told-unreadable (reads parts e) g = absurd (let z : _≡_ {A = ℕ} 0 1 = cc in omega arith)
-told-unreadable (unreadable {number = number} {place = place} e f) g = (number, place, e)
+told-unreadable (not-read {number = number} {place = place} e f) g = (number, place, e)

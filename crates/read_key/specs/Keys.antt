@@ -7,8 +7,8 @@ use lib.ListN.{length}
 use Rattle.papers.specs.Bounds.{edition, maxColumns, maxMark, maxLimit}
 use Rattle.papers.specs.Lists.{flat, startsFrom}
 use Rattle.papers.specs.Job.{jobOf}
-use Rattle.papers.specs.Plan.{Read, got, bad, then, field, readLists}
-use Rattle.papers.specs.Call.{readKey}
+use Rattle.papers.specs.Numbers.{Read, got, bad, then, field}
+use Rattle.papers.specs.Key.{readLists, readKey}
 use Rattle.papers.specs.declared.JobHead.{JobHead}
 use Rattle.read_key.specs.declared.HeadReading.{HeadReading}
 use Rattle.read_key.specs.declared.HeadReading.the-variants.{Head, Faulty}
@@ -52,4 +52,4 @@ pub record KeyParts (key : List ℕ) (head : JobHead) (rows at : ℕ) : Type 0 w
 -- the answer for a key
 pub data KeyTold (key : List ℕ) (r : KeyReading) : Type 0 where
   reads : {head : JobHead} {rows at : ℕ} → KeyParts key head rows at → r ≡ Whole head rows at → KeyTold key r
-  unreadable : {number place : ℕ} → readKey key ≡ bad number place → r ≡ Unreadable → KeyTold key r
+  not-read : {number place : ℕ} → readKey key ≡ bad number place → r ≡ Unreadable → KeyTold key r

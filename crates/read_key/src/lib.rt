@@ -4,7 +4,7 @@ ghost use mathlib.Core.Path.{_≡_};
 ghost use Prim.Native.Nat.{_≤_};
 ghost use lib.ListN.{length};
 ghost use Rattle.papers.specs.Lists.{flat};
-ghost use Rattle.papers.specs.Plan.{readLists};
+ghost use Rattle.papers.specs.Key.{readLists};
 ghost use Rattle.read_fields.specs.Reading.{Told};
 ghost use Rattle.read_key.specs.Keys.{readMark, readHead, headReading, CountAsked, KeyTold};
 use papers::JobHead;

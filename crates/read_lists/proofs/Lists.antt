@@ -11,18 +11,19 @@ use lib.Seq.{sets}
 use mir.Facts.{fits-of-lt}
 use mir.Syntax.{w64}
 use mir.Val.{Fits}
-use Rattle.papers.specs.Plan.{readList, got, bad, field, readRows}
+use Rattle.papers.specs.Numbers.{got, bad, field}
+use Rattle.papers.specs.Key.{readList, readRows}
 use Rattle.list_laws.proofs.Stores.{sets-over}
 use Rattle.bytes_laws.proofs.Fields as fields
 use Rattle.bytes_laws.proofs.Fields.{then-got, then-bad}
 use Rattle.bytes_laws.proofs.Reaches.{rows-reach}
 use Rattle.read_fields.proofs.Onto.{fails, ends}
-use Rattle.read_fields.specs.Reading.{Told, finds, refuses}
+use Rattle.read_fields.specs.Reading.{Told, finds, meets-fault}
 use Rattle.read_fields.specs.declared.Reading.{Reading}
 use Rattle.read_fields.specs.declared.Reading.the-variants.{Found}
 use Rattle.read_rows.specs.Rows.{ListAsked, RowsAsked, RowsRead, QuickRead}
 use Rattle.read_rows.proofs.Rows.{rows-none}
-use Rattle.read_lists.specs.Lists.{RowsIn}
+use Rattle.read_lists.specs.Lists.{RowsKept}
 
 -- ---- the count and the rows behind it
 
@@ -70,20 +71,20 @@ module _ {n : ℕ} {s : List ℕ} {j count at t : ℕ} {rows₀ rows : List ℕ}
   pub rows-fault : {number place : ℕ} → 0 < left → field 1 (n - last) s k ≡ bad number place → readRows n j count s at ≡ bad number place
   rows-fault h e = fails (x .list) (x .whole) (rows-bad n last s k left h e)
 
-  pub rows-stop : left ≡ 0 → Told (λ list. t + length list) (RowsIn t rows₀ rows) (readRows n j count s at) (Found total k)
+  pub rows-stop : left ≡ 0 → Told (λ list. t + length list) (RowsKept t rows₀ rows) (readRows n j count s at) (Found total k)
   rows-stop z = finds (x .list) k (ends (x .list) (x .whole) (rows-none n last s k left z)) (ap (λ (v : ℕ). Found v k) (x .placed)) (x .kept)
 
 -- ---- rows read quickly
 
 module _ {n : ℕ} {s : List ℕ} {j count at t : ℕ} {rows₀ rows : List ℕ} {r : ℕ} (q : QuickRead n s j count at t rows₀ rows r) where
-  pub quick-told : r ≢ 0 → Told (λ list. t + length list) (RowsIn t rows₀ rows) (readRows n j count s at) (Found (t + count) r)
+  pub quick-told : r ≢ 0 → Told (λ list. t + length list) (RowsKept t rows₀ rows) (readRows n j count s at) (Found (t + count) r)
   quick-told h =
       finds (q .list) r (q .whole h) (ap (λ (v : ℕ). Found (t + v) r) (sym (q .many h))) (q .kept)
 
   -- the other reader's rows overwrite those kept before
-  pub quick-again : {rows′ : List ℕ} {a : Reading} → Told (λ list. t + length list) (RowsIn t rows rows′) (readRows n j count s at) a
-      → Told (λ list. t + length list) (RowsIn t rows₀ rows′) (readRows n j count s at) a
-  quick-again (refuses number place e g) = refuses number place e g
+  pub quick-again : {rows′ : List ℕ} {a : Reading} → Told (λ list. t + length list) (RowsKept t rows rows′) (readRows n j count s at) a
+      → Told (λ list. t + length list) (RowsKept t rows₀ rows′) (readRows n j count s at) a
+  quick-again (meets-fault number place e g) = meets-fault number place e g
   quick-again (finds list next e g k) =
       let l = rows-reach n s j count at list next e .0 in
       let f = q .few in

@@ -6,5 +6,5 @@ use mathlib.Core.List.{List}
 use lib.Seq.{sets}
 
 -- the rows are kept from place t on
-abbrev pub RowsIn : ℕ → List ℕ → List ℕ → List ℕ → Type 0
-RowsIn t rows₀ rows list = rows ≡ sets rows₀ t list
+abbrev pub RowsKept : ℕ → List ℕ → List ℕ → List ℕ → Type 0
+RowsKept t rows₀ rows list = rows ≡ sets rows₀ t list

@@ -2,10 +2,10 @@
 ghost use mathlib.Core.Path.{_≡_};
 ghost use Prim.Native.Nat.{_+_, _^_, _<_};
 ghost use lib.ListN.{length, set};
-ghost use Rattle.papers.specs.Plan.{readRows, readList};
+ghost use Rattle.papers.specs.Key.{readRows, readList};
 ghost use Rattle.read_fields.specs.Reading.{Told};
 ghost use Rattle.read_rows.specs.Rows.{ListAsked};
-ghost use Rattle.read_lists.specs.Lists.{RowsIn};
+ghost use Rattle.read_lists.specs.Lists.{RowsKept};
 use read_fields::Reading;
 
 // Keeps a row at place i, if the slice has that place.
@@ -32,7 +32,7 @@ fn read_rows(
 ) -> Reading
     requires { ⌜ ListAsked (now plan) at n j t ⌝ }
     ensures { λ r. ⌜
-        Told (λ list. t + length list) (RowsIn t (now (rows .entry)) (now (rows .exit))) (readRows n j count (now (plan .entry)) at) r
+        Told (λ list. t + length list) (RowsKept t (now (rows .entry)) (now (rows .exit))) (readRows n j count (now (plan .entry)) at) r
         ⌝ }
 {
     let mut k = at;
@@ -63,7 +63,7 @@ fn read_rows(
 pub fn read_list(plan: &[u8], at: usize, n: u64, j: u64, t: usize, rows: &mut [u32]) -> Reading
     requires { ⌜ ListAsked (now plan) at n j t ⌝ }
     ensures { λ r. ⌜
-        Told (λ list. t + length list) (RowsIn t (now (rows .entry)) (now (rows .exit))) (readList n j (now (plan .entry)) at) r
+        Told (λ list. t + length list) (RowsKept t (now (rows .entry)) (now (rows .exit))) (readList n j (now (plan .entry)) at) r
         ⌝ }
 {
     match read_fields::read_field(plan, at, 0, n - j) {

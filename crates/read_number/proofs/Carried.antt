@@ -46,9 +46,9 @@ pub record Carried (s : List ℕ) (at i low w k : ℕ) : Type 0 where
   pub weight : w ≡ 2 ^ (7 * (maxGroups - k))
   pub small : low < w
 
-pub start : (s : List ℕ) (at : ℕ) → Carried s at at 0 1 maxGroups
+pub carried-start : (s : List ℕ) (at : ℕ) → Carried s at at 0 1 maxGroups
 unfolding readNumber
-start s at =
+carried-start s at =
     record {
       found = rw (eq-eqb at at refl) (carry-none (readFrom maxGroups true s at));
       passed = omega arith;

@@ -8,17 +8,18 @@ use native.Mathlib.Omega.{arith}
 use lib.ListN.{length, set, length-append}
 use lib.Seq.{sets, length-sets, set-set}
 use Rattle.papers.specs.Lists.{flat, startsFrom}
-use Rattle.papers.specs.Plan.{got, bad, onto, readList, readLists}
+use Rattle.papers.specs.Numbers.{got, bad, onto}
+use Rattle.papers.specs.Key.{readList, readLists}
 use Rattle.list_laws.proofs.Stores.{sets-append, sets-more, starts-more, length-starts, flat-more, starts-again}
 use Rattle.bytes_laws.proofs.Fields.{then-got, then-bad}
 use Rattle.bytes_laws.proofs.Reaches.{list-reach}
 use Rattle.read_fields.proofs.Answers.{told-found, told-refused}
 use Rattle.read_fields.proofs.Onto.{onto-nil, more, fails, ends, length-more}
 use Rattle.read_fields.specs.Reading.{Told, finds}
-use Rattle.read_lists.specs.Lists.{RowsIn}
+use Rattle.read_lists.specs.Lists.{RowsKept}
 use Rattle.read_fields.specs.declared.Reading.the-variants.{Found, Refused}
 use Rattle.read_fields.specs.declared.Reading.{Reading}
-use Rattle.read_plan.specs.Plans.{ListsIn}
+use Rattle.read_plan.specs.Plans.{ListsKept}
 
 -- ---- a list and the lists behind it
 
@@ -78,7 +79,7 @@ module _ {n at k j total : ℕ} {s starts₀ rows₀ starts rows : List ℕ} (l 
   pub rows-long : length rows ≡ length rows₀
   rows-long = ap length (l .listed) ∙ length-sets rows₀ 0 (flat (l .done))
 
-  module _ {rows′ : List ℕ} {r : Reading} (h : j ≤ n) (t : Told (λ list. total + length list) (RowsIn total rows rows′) (readList n j s k) r) where
+  module _ {rows′ : List ℕ} {r : Reading} (h : j ≤ n) (t : Told (λ list. total + length list) (RowsKept total rows rows′) (readList n j s k) r) where
     pub lists-turn : {starts′ : List ℕ} {v m : ℕ} → r ≡ Found v m → starts′ ≡ set starts j v → Lists n s at starts₀ rows₀ starts′ rows′ m (j + 1) v
     lists-turn {v = v} {m = m} e y =
         let d = l .done in
@@ -109,7 +110,7 @@ module _ {n at k j total : ℕ} {s starts₀ rows₀ starts rows : List ℕ} (l 
     lists-fault e = fails (l .done) (l .whole) (lists-bad n j s k (n + 1 - j) (omega arith) (told-refused t e))
 
   pub lists-stop : (z : List ℕ) → starts₀ ≡ set z 0 0 → n < j
-      → Told (λ lists. length (flat lists)) (ListsIn z starts rows₀ rows) (readLists n 1 n s at) (Found total k)
+      → Told (λ lists. length (flat lists)) (ListsKept z starts rows₀ rows) (readLists n 1 n s at) (Found total k)
   lists-stop z e h =
       let u : starts ≡ sets (set z 0 0) 0 (startsFrom 0 (l .done)) = rw (← e) (l .begins) in
       finds (l .done) k (ends (l .done) (l .whole) (lists-none n j s k (n + 1 - j) (omega arith))) (ap (λ (x : ℕ). Found x k) (l .counted))

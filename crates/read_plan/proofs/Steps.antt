@@ -7,7 +7,8 @@ use native.Mathlib.Omega.{arith}
 use lib.ListN.{length, length-map}
 use lib.Seq.{sets, length-sets}
 use Rattle.papers.specs.Bounds.{maxColumns}
-use Rattle.papers.specs.Plan.{field, got, columnsIn, popsIn, bad, onto, readStep, readSteps}
+use Rattle.papers.specs.Numbers.{field, got, bad, onto}
+use Rattle.papers.specs.Plan.{columnsIn, popsIn, readStep, readSteps}
 use Rattle.list_laws.proofs.Stores.{sets-more}
 use Rattle.bytes_laws.proofs.Fields.{then-got, then-bad}
 use Rattle.bytes_laws.proofs.Reaches.{step-reach}
@@ -16,7 +17,7 @@ use Rattle.read_fields.proofs.Onto.{onto-nil, more, fails, ends, length-more}
 use Rattle.read_fields.specs.Reading.{Told, finds}
 use Rattle.read_fields.specs.declared.Reading.the-variants.{Found, Refused}
 use Rattle.read_fields.specs.declared.Reading.{Reading}
-use Rattle.read_plan.specs.Plans.{StepIn, StepsIn}
+use Rattle.read_plan.specs.Plans.{StepKept, StepsKept}
 
 -- ---- a column and its pops are numbers of 32 bits
 
@@ -82,7 +83,7 @@ module _ {n at k i : ℕ} {s order₀ pops₀ order pops : List ℕ} (l : Steps 
   pub pops-long : length pops ≡ length pops₀
   pops-long = ap length (l .popped) ∙ length-sets pops₀ 0 (popsIn (l .done))
 
-  module _ {order′ pops′ : List ℕ} {r : Reading} (h : i < n) (t : Told (λ step. step .0) (StepIn i order order′ pops pops′) (readStep n s k) r) where
+  module _ {order′ pops′ : List ℕ} {r : Reading} (h : i < n) (t : Told (λ step. step .0) (StepKept i order order′ pops pops′) (readStep n s k) r) where
     pub steps-turn : {v m : ℕ} → r ≡ Found v m → Steps n s at order₀ pops₀ order′ pops′ m (i + 1)
     steps-turn {m = m} e =
         let d = l .done in
@@ -105,7 +106,7 @@ module _ {n at k i : ℕ} {s order₀ pops₀ order pops : List ℕ} (l : Steps 
     pub steps-fault : {number place : ℕ} → r ≡ Refused number place → readSteps n n s at ≡ bad number place
     steps-fault e = fails (l .done) (l .whole) (steps-bad n s k (n - i) (omega arith) (told-refused t e))
 
-  pub steps-stop : n ≤ i → Told length (StepsIn order₀ order pops₀ pops) (readSteps n n s at) (Found n k)
+  pub steps-stop : n ≤ i → Told length (StepsKept order₀ order pops₀ pops) (readSteps n n s at) (Found n k)
   steps-stop h =
       let q = l .count in
       let f = l .few in

@@ -10,12 +10,14 @@ use lib.ListN.{length}
 use borrow.Author.Tests.{lt-ltb, le-ltb}
 use Rattle.papers.specs.Bounds.{maxPeak}
 use Rattle.papers.specs.Lists.{flat}
-use Rattle.papers.specs.Plan.{Plan, Read, got, bad, then, field, readSteps, readLists, atEnd, readPlan}
+use Rattle.papers.specs.Numbers.{Read, got, bad, then, field, atEnd}
+use Rattle.papers.specs.Key.{readLists}
+use Rattle.papers.specs.Plan.{Plan, readSteps, readPlan}
 use Rattle.bytes_laws.proofs.Fields.{got-bad, then-got, then-bad, then-only}
 use Rattle.bytes_laws.proofs.Plans.{end-only}
 use Rattle.bytes_laws.proofs.Reaches.{steps-reach, lists-reach}
 use Rattle.read_fields.proofs.Answers.{PartFound}
-use Rattle.read_plan.specs.Plans.{StepsIn, ListsIn, planReading, readPeak, peakReading, PlanIn, PlanTold}
+use Rattle.read_plan.specs.Plans.{StepsKept, ListsKept, planReading, readPeak, peakReading, PlanKept, PlanTold}
 use Rattle.read_plan.specs.declared.PlanReading.the-variants.{Whole, Faulty}
 use Rattle.read_plan.specs.declared.PlanReading.{PlanReading}
 
@@ -32,7 +34,7 @@ module _ (rows : ℕ) (s : List ℕ) (at : ℕ) where
     unfolding readPeak peakReading atEnd
     bytes-after h = rw (then-got _ e, lt-ltb end (length s) h, atEnd)
 
-    pub at-the-end : length s ≤ end → Whole peak rows ≡ peakReading rows (readPeak s at)
+    pub at-the-end : length s ≤ end → Whole (record { peak = peak; rows = rows }) ≡ peakReading rows (readPeak s at)
     unfolding readPeak peakReading atEnd
     at-the-end h = rw (then-got _ e, le-ltb end (length s) h, atEnd)
 
@@ -90,15 +92,15 @@ module _ (s : List ℕ) (steps : List (ℕ × ℕ)) (lists : List (List ℕ)) wh
 
 -- what is answered, and kept, of a plan whose steps and lists are read
 module _ (n : ℕ) (s : List ℕ) (at : ℕ) {order₀ order pops₀ pops starts₀ starts rows₀ rows : List ℕ} {count k total m : ℕ}
-    (steps : PartFound length (StepsIn order₀ order pops₀ pops) (readSteps n n s at) count k)
-    (lists : PartFound (λ lists. length (flat lists)) (ListsIn starts₀ starts rows₀ rows) (readLists n 1 n s k) total m) where
+    (steps : PartFound length (StepsKept order₀ order pops₀ pops) (readSteps n n s at) count k)
+    (lists : PartFound (λ lists. length (flat lists)) (ListsKept starts₀ starts rows₀ rows) (readLists n 1 n s k) total m) where
   -- the rest is the peak
   peak-left : readPlan n s at ≡ rest s (steps .part) (lists .part) (field 0 maxPeak s m)
   unfolding readPlan rest
   peak-left = then-got _ (steps .read) ∙ then-got _ (lists .read)
 
   parts-kept : (plan : Plan) → (steps .part ≡ plan .steps) × (lists .part ≡ plan .lists)
-      → PlanIn plan order₀ order pops₀ pops starts₀ starts rows₀ rows
+      → PlanKept plan order₀ order pops₀ pops starts₀ starts rows₀ rows
   parts-kept plan (p, q) =
       record {
         columns = rw (← p) (steps .kept .columns);

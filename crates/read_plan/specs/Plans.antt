@@ -8,7 +8,8 @@ use lib.ListN.{length, set}
 use lib.Seq.{sets}
 use Rattle.papers.specs.Bounds.{maxColumns, maxPeak}
 use Rattle.papers.specs.Lists.{flat, startsFrom}
-use Rattle.papers.specs.Plan.{Plan, columnsIn, popsIn, Read, got, bad, then, field, atEnd}
+use Rattle.papers.specs.Numbers.{Read, got, bad, then, field, atEnd}
+use Rattle.papers.specs.Plan.{Plan, columnsIn, popsIn}
 use Rattle.read_plan.specs.declared.PlanReading.{PlanReading}
 use Rattle.read_plan.specs.declared.PlanReading.the-variants.{Whole, Faulty}
 
@@ -46,16 +47,16 @@ pub record PlanAsked (n : ℕ) (plan : List ℕ) (at : ℕ) (order pops starts :
 -- ---- what the readers keep
 
 -- two slices keep step i, and all steps
-pub record StepIn (i : ℕ) (order₀ order pops₀ pops : List ℕ) (step : ℕ × ℕ) : Type 0 where
+pub record StepKept (i : ℕ) (order₀ order pops₀ pops : List ℕ) (step : ℕ × ℕ) : Type 0 where
   pub column : order ≡ set order₀ i (step .0)
   pub popped : pops ≡ set pops₀ i (step .1)
 
-pub record StepsIn (order₀ order pops₀ pops : List ℕ) (steps : List (ℕ × ℕ)) : Type 0 where
+pub record StepsKept (order₀ order pops₀ pops : List ℕ) (steps : List (ℕ × ℕ)) : Type 0 where
   pub columns : order ≡ sets order₀ 0 (columnsIn steps)
   pub popped : pops ≡ sets pops₀ 0 (popsIn steps)
 
 -- the slices keep the starts of the lists, and their rows
-pub record ListsIn (starts₀ starts rows₀ rows : List ℕ) (lists : List (List ℕ)) : Type 0 where
+pub record ListsKept (starts₀ starts rows₀ rows : List ℕ) (lists : List (List ℕ)) : Type 0 where
   pub begins : starts ≡ sets starts₀ 0 (startsFrom 0 lists)
   pub listed : rows ≡ sets rows₀ 0 (flat lists)
 
@@ -63,7 +64,7 @@ pub record ListsIn (starts₀ starts rows₀ rows : List ℕ) (lists : List (Lis
 
 -- the answer: the declared peak and the number of rows; or the refusal
 unfoldable pub planReading : Read Plan → PlanReading
-planReading (got plan next) = Whole (plan .peak) (length (flat (plan .lists)))
+planReading (got plan next) = Whole (record { peak = plan .peak; rows = length (flat (plan .lists)) })
 planReading (bad number place) = Faulty number place
 
 -- reads the last part: the peak, with nothing after it; then the answer for it, of a plan whose lists have so many rows
@@ -71,11 +72,11 @@ unfoldable pub readPeak : List ℕ → ℕ → Read ℕ
 readPeak s at = then (field 0 maxPeak s at) λ peak at. atEnd peak s at
 
 unfoldable pub peakReading : ℕ → Read ℕ → PlanReading
-peakReading rows (got peak next) = Whole peak rows
+peakReading rows (got peak next) = Whole (record { peak = peak; rows = rows })
 peakReading rows (bad number place) = Faulty number place
 
 -- what the slices keep of a plan that is read to its end
-pub record PlanIn (plan : Plan) (order₀ order pops₀ pops starts₀ starts rows₀ rows : List ℕ) : Type 0 where
+pub record PlanKept (plan : Plan) (order₀ order pops₀ pops starts₀ starts rows₀ rows : List ℕ) : Type 0 where
   pub columns : order ≡ sets order₀ 0 (columnsIn (plan .steps))
   pub popped : pops ≡ sets pops₀ 0 (popsIn (plan .steps))
   pub begins : starts ≡ sets starts₀ 0 (startsFrom 0 (plan .lists))
@@ -84,7 +85,7 @@ pub record PlanIn (plan : Plan) (order₀ order pops₀ pops starts₀ starts ro
 -- if the bytes hold a plan, the slices keep it
 abbrev pub Keeps : Read Plan → List ℕ → List ℕ → List ℕ → List ℕ → List ℕ → List ℕ → List ℕ → List ℕ → Type 0
 Keeps found order₀ order pops₀ pops starts₀ starts rows₀ rows =
-    (plan : Plan) (next : ℕ) → found ≡ got plan next → PlanIn plan order₀ order pops₀ pops starts₀ starts rows₀ rows
+    (plan : Plan) (next : ℕ) → found ≡ got plan next → PlanKept plan order₀ order pops₀ pops starts₀ starts rows₀ rows
 
 -- what is answered of the bytes behind a key, and what is kept of them
 pub record PlanTold (found : Read Plan) (order₀ order pops₀ pops starts₀ starts rows₀ rows : List ℕ) (r : PlanReading) : Type 0 where

@@ -3,15 +3,22 @@ ghost use mathlib.Core.Path.{_≡_};
 ghost use Prim.Native.Nat.{_≤_};
 ghost use lib.ListN.{length};
 ghost use Rattle.papers.specs.Lists.{flat};
-ghost use Rattle.papers.specs.Plan.{readStep, readSteps, readLists, readPlan};
+ghost use Rattle.papers.specs.Key.{readLists};
+ghost use Rattle.papers.specs.Plan.{readStep, readSteps, readPlan};
 ghost use Rattle.read_fields.specs.Reading.{Told};
 ghost use Rattle.read_plan.specs.Plans.{StepAsked, StepsAsked, ListsAsked, PlanAsked};
-ghost use Rattle.read_plan.specs.Plans.{StepIn, StepsIn, ListsIn, readPeak, peakReading, PlanTold};
+ghost use Rattle.read_plan.specs.Plans.{StepKept, StepsKept, ListsKept, readPeak, peakReading, PlanTold};
 use read_fields::Reading;
 
-// What reading a whole plan answers: the declared peak, and how many rows its lists have; or a refusal's number and place.
+// What is found in a plan that was read to its end: the declared peak, and how many rows its lists have.
+pub struct PlanFound {
+    pub peak: u64,
+    pub rows: u64,
+}
+
+// What reading a whole plan answers: what was found in it, or a refusal's number and place.
 pub enum PlanReading {
-    Whole { peak: u64, rows: u64 },
+    Whole { found: PlanFound },
     Faulty { number: u64, place: u64 },
 }
 
@@ -26,7 +33,7 @@ fn read_step(
 ) -> Reading
     requires { ⌜ StepAsked (now plan) at n i (now order) (now pops) ⌝ }
     ensures { λ r. ⌜
-        Told (λ step. step .0) (StepIn i (now (order .entry)) (now (order .exit)) (now (pops .entry)) (now (pops .exit)))
+        Told (λ step. step .0) (StepKept i (now (order .entry)) (now (order .exit)) (now (pops .entry)) (now (pops .exit)))
         (readStep n (now (plan .entry)) at) r
         ⌝ }
 {
@@ -63,7 +70,7 @@ fn read_step(
 fn read_steps(plan: &[u8], at: usize, n: u64, order: &mut [u32], pops: &mut [u32]) -> Reading
     requires { ⌜ StepsAsked (now plan) at n (now order) (now pops) ⌝ }
     ensures { λ r. ⌜
-        Told length (StepsIn (now (order .entry)) (now (order .exit)) (now (pops .entry)) (now (pops .exit)))
+        Told length (StepsKept (now (order .entry)) (now (order .exit)) (now (pops .entry)) (now (pops .exit)))
         (readSteps n n (now (plan .entry)) at) r
         ⌝ }
 {
@@ -88,7 +95,7 @@ fn read_steps(plan: &[u8], at: usize, n: u64, order: &mut [u32], pops: &mut [u32
 pub fn read_lists(plan: &[u8], at: usize, n: u64, starts: &mut [u64], rows: &mut [u32]) -> Reading
     requires { ⌜ ListsAsked (now plan) at n (now starts) ⌝ }
     ensures { λ r. ⌜
-        Told (λ lists. length (flat lists)) (ListsIn (now (starts .entry)) (now (starts .exit)) (now (rows .entry)) (now (rows .exit)))
+        Told (λ lists. length (flat lists)) (ListsKept (now (starts .entry)) (now (starts .exit)) (now (rows .entry)) (now (rows .exit)))
         (readLists n 1 n (now (plan .entry)) at) r
         ⌝ }
 {
@@ -131,7 +138,9 @@ fn read_peak(plan: &[u8], at: usize, rows: u64) -> PlanReading
                     place: next as u64 + 1,
                 };
             }
-            return PlanReading::Whole { peak, rows };
+            return PlanReading::Whole {
+                found: PlanFound { peak, rows },
+            };
         }
     }
 }

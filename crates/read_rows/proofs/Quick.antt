@@ -10,9 +10,8 @@ use native.Mathlib.Omega.{arith}
 use lib.Dec.{ltb, leb}
 use lib.ListN.{length, set, length-append}
 use borrow.Author.Tests.{ltb-false, leb-false}
-use Rattle.papers.specs.Numbers.{readNumber}
+use Rattle.papers.specs.Numbers.{readNumber, got, field}
 use Rattle.papers.specs.declared.Number.the-variants.{Value}
-use Rattle.papers.specs.Plan.{got, field}
 use Rattle.list_laws.proofs.Stores.{sets-append}
 use Rattle.bytes_laws.proofs.Fields as fields
 use Rattle.read_fields.proofs.Answers.{field-is}

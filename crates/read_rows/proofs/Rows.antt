@@ -8,7 +8,8 @@ use native.Mathlib.Omega.{arith}
 use lib.ListN.{length, set, length-append}
 use lib.Seq.{length-sets}
 use Rattle.papers.specs.Bounds.{maxColumns}
-use Rattle.papers.specs.Plan.{onto, got, field, readRows}
+use Rattle.papers.specs.Numbers.{onto, got, field}
+use Rattle.papers.specs.Key.{readRows}
 use Rattle.list_laws.proofs.Stores.{sets-append}
 use Rattle.bytes_laws.proofs.Fields as fields
 use Rattle.bytes_laws.proofs.Fields.{then-got}

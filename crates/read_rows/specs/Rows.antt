@@ -8,7 +8,8 @@ use mathlib.Core.List.{List}
 use lib.ListN.{length}
 use lib.Seq.{sets}
 use Rattle.papers.specs.Bounds.{maxColumns}
-use Rattle.papers.specs.Plan.{got, onto, readRows}
+use Rattle.papers.specs.Numbers.{got, onto}
+use Rattle.papers.specs.Key.{readRows}
 
 -- ---- what the readers require
 

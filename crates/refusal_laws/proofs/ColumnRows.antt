@@ -7,7 +7,7 @@ use mathlib.Core.Logic.{_↔_}
 use mathlib.Core.List.{List, [], _∷_}
 use native.Mathlib.Omega.{arith}
 use lib.ListN.{length, getD}
-use Rattle.papers.specs.Refusals.{rowFault, rowsFault}
+use Rattle.papers.specs.Job.{rowFault, rowsFault}
 use Rattle.list_laws.proofs.Tests.{Compare, below, level, above, compare}
 use Rattle.job_laws.proofs.Rows.{rows-fault, rows-next}
 

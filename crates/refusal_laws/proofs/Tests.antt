@@ -7,15 +7,14 @@ use mathlib.Core.Logic.{_↔_, _⊎_, inl, inr, _≢_}
 use mathlib.Core.Bool.{Bool, true, false, not, _||_}
 use native.Mathlib.Omega.{arith}
 use lib.Dec.{ltb, eqb}
-use borrow.Author.Tests.{ltb-true, lt-ltb, eqb-true, eq-eqb, not-true}
+use borrow.Author.Tests.{ltb-true, ltb-false, lt-ltb, eqb-true, eq-eqb, not-true}
 use Rattle.papers.specs.declared.Answer.{Answer}
-use Rattle.papers.specs.Lists.{least}
-use Rattle.papers.specs.Refusals.{answer, Leaves, Verdict, passed, refused, refusedIf, refusedAt}
-use Rattle.papers.specs.Conditions.{Least}
-use Rattle.list_laws.proofs.Tests.{Test, passes, fails, test, true-false}
+use Rattle.papers.specs.Lists.{least, Least}
+use Rattle.papers.specs.Refusals.{answer, Verdict, passed, refused, refusedIf, refusedAt}
+use Rattle.list_laws.proofs.Tests.{Test, passes, fails, test, Compare, below, level, above, compare, true-false}
 use Rattle.list_laws.proofs.Leasts.{least-zero-iff, least-found-iff}
 use Rattle.job_laws.proofs.Firsts.{refused-passed, refused-if, passed-if}
-use Rattle.refusal_laws.proofs.Agreements.{Refuses, Agree, agree-same, agree-by}
+use Rattle.refusal_laws.proofs.Agreements.{Agree, agree-by}
 
 -- ---- comparisons
 
@@ -48,12 +47,17 @@ either-iff false c {P} {Q} p q = (λ e. inr (q .0 e), back)
 -- ---- refused if something holds
 
 -- a test that refuses if P holds agrees with P and its answer
-pub agree-if : (b : Bool) (given : Answer) (leaves : Leaves) {P : Type 0} → (b ≡ true) ↔ P → Agree (refusedIf b given leaves) (λ a. P × (a ≡ given))
-agree-if b given leaves {P} i = agree-by _ _ (λ a h. (leaves, rw (h .1) (refused-if b given leaves (i .1 (h .0))))) (go (test b))
+pub agree-if : (b : Bool) (given : Answer) {P : Type 0} → 0 < given .number → (b ≡ true) ↔ P → Agree (refusedIf b given) (λ a. P × (a ≡ given))
+agree-if b given {P} some i = agree-by _ _ (λ a h. (rw (h .1) (refused-if b given (i .1 (h .0))), rw (h .1) some)) (go (test b))
   where
-    go : Test b → (refusedIf b given leaves ≡ passed) ⊎ ((a : Answer) × (P × (a ≡ given)))
+    go : Test b → (refusedIf b given ≡ passed) ⊎ ((a : Answer) × (P × (a ≡ given)))
     go (passes e) = inr (given, (i .0 e, refl))
-    go (fails e) = inl (passed-if b given leaves e)
+    go (fails e) = inl (passed-if b given e)
+
+-- a test that refuses if more is needed than given
+pub agree-exceeds : (number needed given : ℕ) → 0 < number
+    → Agree (refusedIf (ltb given needed) (answer number 0 needed)) (λ a. (given < needed) × (a ≡ answer number 0 needed))
+agree-exceeds number needed given some = agree-if (ltb given needed) (answer number 0 needed) some (below-iff given needed)
 
 -- ---- refused at the least place
 
@@ -79,56 +83,97 @@ module _ (f : ℕ → Bool) (n : ℕ) {P : ℕ → Type 0} (holds : (k : ℕ) �
           go (fails e) = e
 
   -- a verdict that names the least place agrees with P there
-  pub agree-least : (v : Verdict) (given : ℕ → Answer) (leaves : Leaves) → (least f n ≡ 0 → v ≡ passed)
-      → ((p : ℕ) → least f n ≡ suc p → v ≡ refused (given (suc p)) leaves)
+  pub agree-least : (v : Verdict) (given : ℕ → Answer) → ((p : ℕ) → 1 ≤ p → p ≤ n → P p → 0 < given p .number) → (least f n ≡ 0 → v ≡ passed)
+      → ((p : ℕ) → least f n ≡ suc p → v ≡ refused (given (suc p)))
       → Agree v (λ a. (p : ℕ) × Least P n p × (a ≡ given p))
-  agree-least v given leaves pass refuse = agree-by v _ (λ a h. back a (h .0) (h .1) (h .2)) (go (least f n) refl)
+  agree-least v given some pass refuse = agree-by v _ (λ a h. back a (h .0) (h .1) (h .2)) (go (least f n) refl)
     where
       go : (m : ℕ) → least f n ≡ m → (v ≡ passed) ⊎ ((a : Answer) × ((p : ℕ) × Least P n p × (a ≡ given p)))
       go zero e = inl (pass e)
       go (suc p) e = inr (given (suc p), (suc p, found-iff p .0 e, refl))
 
-      back : (a : Answer) (p : ℕ) → Least P n p → a ≡ given p → Refuses v a
+      back : (a : Answer) (p : ℕ) → Least P n p → a ≡ given p → (v ≡ refused a) × (0 < a .number)
       back a zero l q = absurd (omega (arith, l .0 .0))
-      back a (suc p) l q = (leaves, rw q (refuse p (found-iff p .1 l)))
+      back a (suc p) l q = (rw q (refuse p (found-iff p .1 l)), rw q (some (suc p) (l .0 .0) (l .0 .1) (l .1)))
 
   -- number and count may depend on the place
-  pub agree-at : (number count : ℕ → ℕ) (leaves : Leaves)
-      → Agree (let p = least f n in refusedAt (number p) p (count p) leaves) (λ a. (p : ℕ) × Least P n p × (a ≡ answer (number p) p (count p)))
+  pub agree-at : (number count : ℕ → ℕ) → ((p : ℕ) → 1 ≤ p → p ≤ n → P p → 0 < number p)
+      → Agree (let p = least f n in refusedAt (number p) p (count p)) (λ a. (p : ℕ) × Least P n p × (a ≡ answer (number p) p (count p)))
   unfolding refusedAt
-  agree-at number count leaves = agree-least _ (λ p. answer (number p) p (count p)) leaves (λ e. rw e) (λ p e. rw e)
+  agree-at number count some = agree-least _ (λ p. answer (number p) p (count p)) some (λ e. rw e) (λ p e. rw e)
 
   -- the test passes if P holds nowhere
-  pub at-passed : (number count : ℕ) (leaves : Leaves) → refusedAt number (least f n) count leaves ≡ passed → (k : ℕ) → 1 ≤ k → k ≤ n → ¬ P k
+  pub at-passed : (number count : ℕ) → refusedAt number (least f n) count ≡ passed → (k : ℕ) → 1 ≤ k → k ≤ n → ¬ P k
   unfolding refusedAt
-  at-passed number count leaves e k l u x = go (least f n) refl e
+  at-passed number count e k l u x = go (least f n) refl e
     where
-      go : (m : ℕ) → least f n ≡ m → refusedAt number m count leaves ≡ passed → ⊥
+      go : (m : ℕ) → least f n ≡ m → refusedAt number m count ≡ passed → ⊥
       go zero z p = true-false (holds k l u .1 x) (least-zero-iff f n .0 z k l u)
       go (suc m) z p = refused-passed refl p
 
 -- ---- refused with the fault of the least place that has one
 
--- the fault of place k: none, or m exactly when `Bad k m`
+-- the fault of place k, if no place before it has one: none, or m exactly when `Bad k m`
+pub record FirstFaults (fault : ℕ → ℕ) (Bad : ℕ → ℕ → Type 0) : Type 0 where
+  pub is : (k m : ℕ) → Bad k m → (fault k ≡ m) × (0 < m)
+  pub some : (k : ℕ) → ((i : ℕ) → 1 ≤ i → i < k → fault i ≡ 0) → (fault k ≡ 0) ⊎ Bad k (fault k)
+
+module _ {fault : ℕ → ℕ} {Bad : ℕ → ℕ → Type 0} (faults : FirstFaults fault Bad) (n : ℕ) where
+  -- a fault is found at p + 1: it is that of the condition, and no place before has one
+  first-fault : (p : ℕ) → least (λ k. ltb 0 (fault k)) n ≡ suc p
+      → (suc p ≤ n) × Bad (suc p) (fault (suc p)) × ((i : ℕ) → 1 ≤ i → i < suc p → fault i ≡ 0)
+  first-fault p e = (at .0, go (ltb-true 0 (fault (suc p)) (at .1)) (faults .some (suc p) before), before)
+    where
+      at : (suc p ≤ n) × (ltb 0 (fault (suc p)) ≡ true) × ((k : ℕ) → 1 ≤ k → k ≤ p → ltb 0 (fault k) ≡ false)
+      at = least-found-iff (λ k. ltb 0 (fault k)) n p .0 e
+
+      before : (i : ℕ) → 1 ≤ i → i < suc p → fault i ≡ 0
+      before i l h = omega (arith, ltb-false 0 (fault i) (at .2 i l (omega arith)))
+
+      go : 0 < fault (suc p) → (fault (suc p) ≡ 0) ⊎ Bad (suc p) (fault (suc p)) → Bad (suc p) (fault (suc p))
+      go h (inl z) = absurd (omega arith)
+      go h (inr b) = b
+
+  -- a verdict that names the least place at fault, with its fault
+  pub agree-first-faults : (v : Verdict) (given : ℕ → ℕ → Answer) → ((m k : ℕ) → 0 < m → 0 < given m k .number)
+      → (least (λ k. ltb 0 (fault k)) n ≡ 0 → v ≡ passed)
+      → ((p : ℕ) → least (λ k. ltb 0 (fault k)) n ≡ suc p → v ≡ refused (given (fault (suc p)) (suc p)))
+      → Agree v (λ a. (k m : ℕ) × ((1 ≤ k) × (k ≤ n)) × Bad k m × ((i m : ℕ) → 1 ≤ i → i < k → ¬ Bad i m) × (a ≡ given m k))
+  agree-first-faults v given some pass refuse =
+      agree-by v _ (λ a (k, m, r, b, none, q). rw q (is k m r b none (least (λ k. ltb 0 (fault k)) n) refl, some m k (faults .is k m b .1)))
+      (there (least (λ k. ltb 0 (fault k)) n) refl)
+    where
+      there : (p : ℕ) → least (λ k. ltb 0 (fault k)) n ≡ p
+          → (v ≡ passed) ⊎ ((a : Answer) × ((k m : ℕ) × ((1 ≤ k) × (k ≤ n)) × Bad k m × ((i m : ℕ) → 1 ≤ i → i < k → ¬ Bad i m) × (a ≡ given m k)))
+      there zero e = inl (pass e)
+      there (suc p) e =
+          let (l, b, before) = first-fault p e in
+          inr (_, (suc p, fault (suc p), (omega arith, l), b, λ i m f h x. let j = faults .is i m x in omega (arith, before i f h), refl))
+
+      is : (k m : ℕ) → (1 ≤ k) × (k ≤ n) → Bad k m → ((i m : ℕ) → 1 ≤ i → i < k → ¬ Bad i m) → (p : ℕ) → least (λ k. ltb 0 (fault k)) n ≡ p
+          → v ≡ refused (given m k)
+      is k m r b none zero e =
+          let (f, h) = faults .is k m b in
+          absurd (omega (arith, ltb-false 0 (fault k) (least-zero-iff (λ k. ltb 0 (fault k)) n .0 e k (r .0) (r .1))))
+      is k m r b none (suc p) e = go (compare k (suc p))
+        where
+          found : (suc p ≤ n) × Bad (suc p) (fault (suc p)) × ((i : ℕ) → 1 ≤ i → i < suc p → fault i ≡ 0)
+          found = first-fault p e
+
+          go : Compare k (suc p) → v ≡ refused (given m k)
+          go (below h) = let (f, s) = faults .is k m b in absurd (omega (arith, found .2 k (r .0) h))
+          go (level h) = rw (← faults .is k m b .0, h) (refuse p e)
+          go (above h) = absurd (none (suc p) (fault (suc p)) (omega arith) h (found .1))
+
+-- the fault of place k, whatever the places before it have: none, or m exactly when `Bad k m`
 pub record Faults (fault : ℕ → ℕ) (Bad : ℕ → ℕ → Type 0) : Type 0 where
   pub is : (k m : ℕ) → Bad k m → (fault k ≡ m) × (0 < m)
   pub some : (k : ℕ) → (fault k ≡ 0) ⊎ Bad k (fault k)
 
-module _ {fault : ℕ → ℕ} {Bad : ℕ → ℕ → Type 0} (faults : Faults fault Bad) (n : ℕ) where
-  faulty-iff : (k : ℕ) → (ltb 0 (fault k) ≡ true) ↔ ((m : ℕ) × Bad k m)
-  faulty-iff k = (λ e. go (ltb-true 0 (fault k) e) (faults .some k), λ h. lt-ltb 0 (fault k) (let i = faults .is k (h .0) (h .1) in omega arith))
-    where
-      go : 0 < fault k → (fault k ≡ 0) ⊎ Bad k (fault k) → (m : ℕ) × Bad k m
-      go p (inl z) = absurd (omega arith)
-      go p (inr b) = (fault k, b)
-
-  -- a verdict that names the least place at fault, with its fault
-  pub agree-faults : (v : Verdict) (given : ℕ → ℕ → Answer) (leaves : Leaves) → (least (λ k. ltb 0 (fault k)) n ≡ 0 → v ≡ passed)
-      → ((p : ℕ) → least (λ k. ltb 0 (fault k)) n ≡ suc p → v ≡ refused (given (fault (suc p)) (suc p)) leaves)
-      → Agree v (λ a. (k m : ℕ) × ((1 ≤ k) × (k ≤ n)) × Bad k m × ((i m : ℕ) → 1 ≤ i → i < k → ¬ Bad i m) × (a ≡ given m k))
-  agree-faults v given leaves pass refuse =
-      agree-same v (agree-least (λ k. ltb 0 (fault k)) n (λ k l h. faulty-iff k) v (λ k. given (fault k) k) leaves pass refuse)
-      (λ a. (
-        λ (k, (r, (m, b), none), q). (k, m, r, b, λ i m l h x. none i l h (m, x), let e = faults .is k m b .0 in rw (← e) q),
-        λ (k, m, r, b, none, q). (k, (r, (m, b), λ i l h x. none i (x .0) l h (x .1)), let e = faults .is k m b .0 in rw e q),
-      ))
+-- a verdict that names the least place at fault, with its fault
+pub agree-faults : {fault : ℕ → ℕ} {Bad : ℕ → ℕ → Type 0} → Faults fault Bad → (n : ℕ) (v : Verdict) (given : ℕ → ℕ → Answer)
+    → ((m k : ℕ) → 0 < m → 0 < given m k .number)
+    → (least (λ k. ltb 0 (fault k)) n ≡ 0 → v ≡ passed)
+    → ((p : ℕ) → least (λ k. ltb 0 (fault k)) n ≡ suc p → v ≡ refused (given (fault (suc p)) (suc p)))
+    → Agree v (λ a. (k m : ℕ) × ((1 ≤ k) × (k ≤ n)) × Bad k m × ((i m : ℕ) → 1 ≤ i → i < k → ¬ Bad i m) × (a ≡ given m k))
+agree-faults faults n = agree-first-faults (record { is = faults .is; some = λ k before. faults .some k }) n

@@ -1,1 +1,2 @@
 pub mod Exactly
+pub mod Written

@@ -6,8 +6,8 @@ ghost use lib.ListN.{length, getD};
 ghost use Rattle.papers.specs.Lists.{upTo};
 ghost use Rattle.papers.specs.Tree.{t};
 ghost use Rattle.papers.specs.Room.{peakOf};
-ghost use Rattle.room.specs.Rows.{countAt, ListAt, Column, RowsOf};
-ghost use Rattle.room.specs.Steps.{rowsAt, popsAt, Over, Held, PeakGiven, PopsGiven};
+ghost use Rattle.room.specs.Rows.{countAt, RisesAt, ColumnStarts, RowsCounted};
+ghost use Rattle.room.specs.Steps.{rowsAt, popsOfStep, UpdatesSummed, StepDone, PeakGiven, PopsGiven};
 
 // 0 for 0, and 1 for any other count.
 fn at_most_one(count: u64) -> usize
@@ -18,15 +18,15 @@ fn at_most_one(count: u64) -> usize
 
 // The number of rows of column j.
 pub fn rows_of(factor: &[u64], j: usize) -> u64
-    requires { ⌜ Column (now factor) j ⌝ }
-    ensures { λ r. ⌜ RowsOf (now (factor .entry)) j r ⌝ }
+    requires { ⌜ ColumnStarts (now factor) j ⌝ }
+    ensures { λ r. ⌜ RowsCounted (now (factor .entry)) j r ⌝ }
 {
     factor[j] - factor[j - 1]
 }
 
 // The length of the list from start i to the next one.
 fn count_at(starts: &[u64], i: usize) -> u64
-    requires { ⌜ ListAt (now starts) i ⌝ }
+    requires { ⌜ RisesAt (now starts) i ⌝ }
     ensures { λ r. ⌜ r ≡ countAt (now (starts .entry)) i ⌝ }
 {
     starts[i + 1] - starts[i]
@@ -48,7 +48,7 @@ pub fn count_pops(starts: &[u64], order: &[u32], pops: &mut [u32])
 // The room in use at a step with these pops and rows. below[d] is the sum of the entries of the lowest d of the updates held, so a front
 // over the top update begins at below[depth - 1].
 pub fn in_use(below: &[u64], depth: usize, pops: usize, rows: u64) -> u64
-    requires { ⌜ Over (now below) depth pops rows ⌝ }
+    requires { ⌜ UpdatesSummed (now below) depth pops rows ⌝ }
     ensures { λ r. ⌜ r ≡ getD (now (below .entry)) (depth - min pops 1) 0 + t (rows + 1) ⌝ }
 {
     below[depth - at_most_one(pops as u64)] + triangle::entries(rows + 1)
@@ -56,20 +56,24 @@ pub fn in_use(below: &[u64], depth: usize, pops: usize, rows: u64) -> u64
 
 // Does the step: its pops come off and its update goes on, in one store; a root puts none on. Answers how many updates are held afterwards.
 pub fn hold(below: &mut [u64], depth: usize, pops: usize, rows: u64) -> usize
-    requires { ⌜ Over (now below) depth pops rows ⌝ }
-    ensures { λ r. ⌜ Held (now (below .entry)) depth pops rows (now (below .exit)) r ⌝ }
+    requires { ⌜ UpdatesSummed (now below) depth pops rows ⌝ }
+    ensures { λ r. ⌜ StepDone (now (below .entry)) depth pops rows (now (below .exit)) r ⌝ }
 {
     let left = depth - pops;
     below[left + 1] = below[left] + triangle::entries(rows);
     left + at_most_one(rows)
 }
 
-// The peak: the greatest room in use of all steps, each with its column's rows and its pops. In the loop the first k steps are done, and
-// depth updates are held.
-pub fn peak(factor: &[u64], order: &[u32], pops: &[u32], below: &mut [u64]) -> u64
+// What the steps of an order need: the peak, which is the greatest room in use.
+pub struct Needs {
+    pub peak: u64,
+}
+
+// What all steps need, each with its column's rows and its pops. In the loop the first k steps are done, and depth updates are held.
+pub fn peak(factor: &[u64], order: &[u32], pops: &[u32], below: &mut [u64]) -> Needs
     requires { ⌜ PeakGiven (now factor) (now order) (now pops) (now below) ⌝ }
     ensures { λ r. ⌜
-        r ≡ peakOf (rowsAt (now (factor .entry)) (now (order .entry))) (popsAt (now (pops .entry))) (upTo (length (now (order .entry))))
+        r .peak ≡ peakOf (rowsAt (now (factor .entry)) (now (order .entry))) (popsOfStep (now (pops .entry))) (upTo (length (now (order .entry))))
         ⌝ }
 {
     below[0] = 0;
@@ -83,5 +87,5 @@ pub fn peak(factor: &[u64], order: &[u32], pops: &[u32], below: &mut [u64]) -> u
         depth = hold(below, depth, p, rows);
         k += 1;
     }
-    most
+    Needs { peak: most }
 }

@@ -15,7 +15,7 @@ use Rattle.list_laws.proofs.Slices.{At}
 use Rattle.column_laws.specs.Tested.{Tested}
 use Rattle.column_laws.proofs.Chains.{Linked, chain-end, chain-on, chain-ext}
 use Rattle.column_laws.proofs.Columns.{row-at, rows-rise}
-use Rattle.rows_needed.specs.Buckets.{cursor, Points, Place, UpTo, Bucket, Buckets}
+use Rattle.rows_needed.specs.Buckets.{cursor, Points, Place, ColumnUpTo, Bucket, Buckets}
 
 module _ (n : ℕ) (starts rows w w′ : List ℕ) where
   -- a column whose cursor stays points to the same row
@@ -66,18 +66,18 @@ buckets-ext {n} {i} {c} {starts} {rows} {w} {P} w′ f l b =
     stays d m = let q = b .range d m .0 in record { cursors = f (n + n + n + d) (omega arith); links = f (n + n + d) (omega arith) }
 
 -- all columns of row i are done, and row i + 1 begins
-module _ {n i : ℕ} {starts rows w : List ℕ} (b : Buckets n i starts rows w (UpTo n) 0) where
-  pub none-left : (d : ℕ) → UpTo n d → Points n starts rows w d i → ⊥
+module _ {n i : ℕ} {starts rows w : List ℕ} (b : Buckets n i starts rows w (ColumnUpTo n) 0) where
+  pub none-left : (d : ℕ) → ColumnUpTo n d → Points n starts rows w d i → ⊥
   none-left d m h = List·Memᴰ·not-nil (rw (chain-end w (n + n) 0 (b .left .list) (b .left .chain) refl) at (b .left .into d m h))
 
-  ahead-next : (d : ℕ) → UpTo n d → cursor n w d < getD starts d 0 → suc i ≤ getD rows (cursor n w d) 0
+  ahead-next : (d : ℕ) → ColumnUpTo n d → cursor n w d < getD starts d 0 → suc i ≤ getD rows (cursor n w d) 0
   ahead-next d m h =
       ⊎-elim
       (λ (u : i < getD rows (cursor n w d) 0). u)
       (λ (u : getD rows (cursor n w d) 0 ≤ i). absurd (none-left d m (h, omega (arith, b .place d m .ahead h))))
       (below-or i (getD rows (cursor n w d) 0))
 
-  pub next-row : suc i ≤ n → Buckets n (suc i) starts rows w (UpTo n) (getD w (n + suc i) 0)
+  pub next-row : suc i ≤ n → Buckets n (suc i) starts rows w (ColumnUpTo n) (getD w (n + suc i) 0)
   next-row l =
       record {
         range = b .range;
@@ -89,7 +89,7 @@ module _ {n i : ℕ} {starts rows w : List ℕ} (b : Buckets n i starts rows w (
       }
 
   -- if a column's pattern has row i + 1, that is its next row
-  pub leaf-points : Tested n starts rows → (d : ℕ) → UpTo n d → suc i ∈ columnOf starts rows d → Points n starts rows w d (suc i)
+  pub leaf-points : Tested n starts rows → (d : ℕ) → ColumnUpTo n d → suc i ∈ columnOf starts rows d → Points n starts rows w d (suc i)
   leaf-points t d m h = let s = row-at t d (m .1) (suc i) h in go s (compare (s .place) (cursor n w d))
     where
       k : Place n i starts rows w d
@@ -110,15 +110,15 @@ module _ {n i : ℕ} {starts rows w : List ℕ} (b : Buckets n i starts rows w (
 
 -- the columns without e
 abbrev pub But : ℕ → ℕ → ℕ → Type 0
-But n e d = UpTo n d × (d ≢ e)
+But n e d = ColumnUpTo n d × (d ≢ e)
 
 pub record Taken (n i : ℕ) (starts rows w : List ℕ) (c : ℕ) : Type 0 where
   pub rest : Buckets n i starts rows w (But n c) (getD w (n + n + c) 0)
-  pub column : UpTo n c
+  pub column : ColumnUpTo n c
   pub points : Points n starts rows w c i
   pub place : Place n i starts rows w c
 
-pub take-out : {n i : ℕ} {starts rows w : List ℕ} (c : ℕ) → Buckets n i starts rows w (UpTo n) c → c ≢ 0 → Taken n i starts rows w c
+pub take-out : {n i : ℕ} {starts rows w : List ℕ} (c : ℕ) → Buckets n i starts rows w (ColumnUpTo n) c → c ≢ 0 → Taken n i starts rows w c
 take-out {n} {i} {starts} {rows} {w} c b h =
     record {
       rest = record {
@@ -139,7 +139,7 @@ take-out {n} {i} {starts} {rows} {w} c b h =
     next : Linked w (n + n) c (b .left .list)
     next = chain-on w (n + n) c (b .left .list) (b .left .chain) h
 
-    here : UpTo n c × Points n starts rows w c i
+    here : ColumnUpTo n c × Points n starts rows w c i
     here = b .left .from c (rw (next .is) (List·Memᴰ·head refl))
 
     -- a column that points to a later row is another

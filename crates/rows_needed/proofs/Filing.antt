@@ -1,4 +1,4 @@
--- Proves that filing a column puts it at the front of the bucket of its next row, and that all other columns keep their places.
+-- Proves that filing a column puts it first in the bucket of its next row, and that all other columns keep their places.
 -- Assumes nothing.
 use Prim.Native.Nat.{ℕ, _+_, _-_, _<_, _≤_}
 use mathlib.Core.Path.{_≡_, refl, sym, ap, subst, _∙_}
@@ -8,12 +8,12 @@ use native.Mathlib.Omega.{arith}
 use lib.ListN.{length, getD}
 use Rattle.papers.specs.Lists.{_∈_}
 use Rattle.list_laws.proofs.Tests.{same-or}
-use Rattle.rows_needed.specs.Buckets.{cursor, Points, Place, UpTo, Bucket, Buckets}
+use Rattle.rows_needed.specs.Buckets.{cursor, Points, Place, ColumnUpTo, Bucket, Buckets}
 use Rattle.rows_needed.proofs.Buckets.{place-ext, Stays, bucket-move}
 
 -- e is not in P, and is in P′ with q as the place of its next row
 pub record New (n i e q : ℕ) (starts rows : List ℕ) (P P′ : ℕ → Type 0) : Type 0 where
-  pub column : UpTo n e
+  pub column : ColumnUpTo n e
   pub new : P e → ⊥
   pub out : (d : ℕ) → P′ d → P d ⊎ (d ≡ e)
   pub inn : (d : ℕ) → P d → P′ d
@@ -26,7 +26,7 @@ pub record New (n i e q : ℕ) (starts rows : List ℕ) (P P′ : ℕ → Type 0
 -- places column e at q, and moves nothing else
 pub record Moved (n e q : ℕ) (w w′ : List ℕ) : Type 0 where
   pub placed : cursor n w′ e ≡ q
-  pub stay : (d : ℕ) → UpTo n d → d ≢ e → Stays n w w′ d
+  pub stay : (d : ℕ) → ColumnUpTo n d → d ≢ e → Stays n w w′ d
   pub long : length w′ ≡ length w
 
 module _ {n i c e q : ℕ} {starts rows w : List ℕ} {P P′ : ℕ
@@ -34,7 +34,7 @@ module _ {n i c e q : ℕ} {starts rows w : List ℕ} {P P′ : ℕ
   stays : (d : ℕ) → P d → Stays n w w′ d
   stays d h = m .stay d (b .range d h) (λ z. k .new (subst P z h))
 
-  range : (d : ℕ) → P′ d → UpTo n d
+  range : (d : ℕ) → P′ d → ColumnUpTo n d
   range d h = ⊎-elim (λ (u : P d). b .range d u) (λ (u : d ≡ e). rw u (k .column)) (k .out d h)
 
   place-e : Place n i starts rows w′ e
@@ -56,7 +56,7 @@ module _ {n i c e q : ℕ} {starts rows w : List ℕ} {P P′ : ℕ
       (λ d h z. ⊎-elim (λ (y : P d). y) (λ (y : d ≡ e). absurd (away (subst (λ x. Points n starts rows w′ x r) y z))) (k .out d h))
       stays
 
-  -- e goes to the front of this bucket
+  -- e becomes the first of this bucket
   pushes : {r s : ℕ} → Bucket n r starts rows w P s → Points n starts rows w′ e r → getD w′ (n + n + e) 0 ≡ s → Bucket n r starts rows w′ P′ e
   pushes {r} {s} u at link =
       record {
@@ -88,7 +88,7 @@ module _ {n i c e q : ℕ} {starts rows w : List ℕ} {P P′ : ℕ
       ended : (r : ℕ) → Points n starts rows w′ e r → ⊥
       ended r z = omega (arith, m .placed, z .0)
 
-  -- the column goes to the front of the bucket of its next row
+  -- the column becomes the first of the bucket of its next row
   pub file-some : q < getD starts e 0 → getD w′ (n + getD rows q 0) 0 ≡ e → getD w′ (n + n + e) 0 ≡ getD w (n + getD rows q 0) 0
       → ((r : ℕ) → r ≤ n → r ≢ getD rows q 0 → getD w′ (n + r) 0 ≡ getD w (n + r) 0) → Buckets n i starts rows w′ P′ c
   file-some g head link heads =

@@ -10,18 +10,18 @@ use lib.ListN.{length, getD, set}
 use lib.Seq.{getD-set-same, getD-set-other}
 use Rattle.papers.specs.Lists.{_∈_, flat}
 use Rattle.papers.specs.Job.{Pattern, Below}
-use Rattle.papers.specs.Key.{listsOf}
 use Rattle.papers.specs.Fill.{R}
 use Rattle.papers.specs.Tree.{parent, Under, top, up}
+use Rattle.papers.specs.Key.{listsOf}
 use Rattle.list_laws.proofs.Tests.{below-or, same-or}
 use Rattle.fill_laws.proofs.Fill.{R-asc, R-range}
 use Rattle.fill_laws.proofs.Parents.{parent-mem, parent-above}
 use Rattle.fill_laws.proofs.Subtrees.{under-le, row-subtree}
-use Rattle.needed_climb.specs.Sums.{sumTo, under}
+use Rattle.needed_climb.specs.Sums.{sumTo, countBelow}
 use Rattle.needed_climb.specs.Row.{tally, Row}
 use Rattle.needed_climb.proofs.Sums.{hit-yes, hit-no, sum-same, sum-bump}
 use Rattle.rows_needed.specs.Walk.{Between}
-use Rattle.rows_needed.proofs.Counts.{sum-none, sum-lengths, under-none, under-all, under-miss, under-hit}
+use Rattle.rows_needed.proofs.Counts.{sum-none, sum-lengths, below-none, below-all, below-miss, below-hit}
 
 -- row i begins: its own column is marked
 pub opened : {n i t : ℕ} {A : Pattern} {p w : List ℕ} → Between n i A p w t → 1 ≤ i → i ≤ n → n < length w → Row n i A p (set w i i) t i
@@ -47,7 +47,7 @@ opened {n} {i} {t} {A} {p} {w} r a b l =
     sum : sumTo n (tally A (set w i i) i) ≡ t + 1
     sum =
         let more =
-        sum-bump n i (λ c. under i (R A c)) (tally A (set w i i) i) a b
+        sum-bump n i (λ c. countBelow i (R A c)) (tally A (set w i i) i) a b
         (rw (here, hit-yes i i refl) refl)
         (λ x h k z. rw (other x z, hit-no (getD w x 0) i (λ q. omega (arith, r .low x h k))) (omega arith)) in
         omega (arith, r .sum)
@@ -78,26 +78,26 @@ module _ {n i t : ℕ} {A : Pattern} {p w : List ℕ} (good : Below n A) (r : Ro
         let v = under-le (parent A) (parent-above good) c (q .column) (q .under) in
         marked-up c (q .column) (q .under) (q .above) o (leaves (q .column) o (omega (arith, q .above)) (q .given))
 
-    tally-is : (c : ℕ) → 1 ≤ c → c ≤ n → c ≢ i → tally A w i c ≡ under (suc i) (R A c)
+    tally-is : (c : ℕ) → 1 ≤ c → c ≤ n → c ≢ i → tally A w i c ≡ countBelow (suc i) (R A c)
     tally-is c h k z =
         ⊎-elim
-        (λ (d : getD w c 0 ≡ i). rw (hit-yes (getD w c 0) i d, under-hit i c (R A c) (R-asc good c) (r .marked c h k d z .0)) refl)
-        (λ (d : getD w c 0 ≢ i). rw (hit-no (getD w c 0) i d, under-miss i (R A c) (λ m. d (all-marked c m))) (omega arith))
+        (λ (d : getD w c 0 ≡ i). rw (hit-yes (getD w c 0) i d, below-hit i c (R A c) (R-asc good c) (r .marked c h k d z .0)) refl)
+        (λ (d : getD w c 0 ≢ i). rw (hit-no (getD w c 0) i d, below-miss i (R A c) (λ m. d (all-marked c m))) (omega arith))
         (same-or (getD w c 0) i)
 
-    tally-own : tally A w i i ≡ under (suc i) (R A i) + 1
+    tally-own : tally A w i i ≡ countBelow (suc i) (R A i) + 1
     tally-own =
         rw (
           hit-yes (getD w i 0) i (r .own),
-          under-none i i (R A i) (R-asc good i) (omega arith),
-          under-none (suc i) i (R A i) (R-asc good i) (omega arith),
+          below-none i i (R A i) (R-asc good i) (omega arith),
+          below-none (suc i) i (R A i) (R-asc good i) (omega arith),
         ) refl
 
     pub row-done : Between n (suc i) A p w t
     row-done =
         record {
           known = record { right = r .known .right; known = known };
-          sum = omega (arith, r .sum, sum-bump n i (λ c. under (suc i) (R A c)) (tally A w i) a b tally-own tally-is);
+          sum = omega (arith, r .sum, sum-bump n i (λ c. countBelow (suc i) (R A c)) (tally A w i) a b tally-own tally-is);
           low = λ x h k. omega (arith, r .low x h k);
         }
       where
@@ -117,7 +117,7 @@ pub first-row : {n : ℕ} {A : Pattern} {p w : List ℕ} → Below n A → ((x :
 first-row {n} {A} {p} {w} good zp zw =
     record {
       known = record { right = λ c h k. inl (zp (c - 1)); known = λ c h k u v. absurd (omega arith) };
-      sum = sum-same n (λ c. 0) (λ c. under 1 (R A c)) (λ c h k. under-none 1 c (R A c) (R-asc good c) (omega arith)) ∙ sum-none n;
+      sum = sum-same n (λ c. 0) (λ c. countBelow 1 (R A c)) (λ c h k. below-none 1 c (R A c) (R-asc good c) (omega arith)) ∙ sum-none n;
       low = λ c h k. rw (zw c k) (omega arith);
     }
 
@@ -125,5 +125,5 @@ first-row {n} {A} {p} {w} good zp zw =
 pub last-row : {n t : ℕ} {A : Pattern} {p w : List ℕ} → Below n A → Between n (suc n) A p w t → t ≡ length (flat (listsOf n (R A)))
 last-row {n} {t} {A} good r =
     sym (r .sum)
-    ∙ sum-same n (λ c. length (R A c)) (λ c. under (suc n) (R A c)) (λ c h k. under-all (suc n) (R A c) (λ x m. omega (arith, R-range good c x m .1)))
+    ∙ sum-same n (λ c. length (R A c)) (λ c. countBelow (suc n) (R A c)) (λ c h k. below-all (suc n) (R A c) (λ x m. omega (arith, R-range good c x m .1)))
     ∙ sum-lengths (R A) n

@@ -10,14 +10,14 @@ use lib.ListN.{length, getD, set, length-set, length-replicate}
 use lib.Seq.{getD-set-other}
 use Rattle.papers.specs.Lists.{flat, zeros}
 use Rattle.papers.specs.Job.{columnOf}
-use Rattle.papers.specs.Key.{listsOf}
 use Rattle.papers.specs.Fill.{R}
+use Rattle.papers.specs.Key.{listsOf}
 use Rattle.list_laws.proofs.Tests.{same-or}
 use Rattle.list_laws.proofs.Stores.{zero-at}
 use Rattle.column_laws.specs.Tested.{Tested}
 use Rattle.column_laws.proofs.Columns.{tested-below, starts-long, starts-rise, row-range}
-use Rattle.rows_needed.specs.Buckets.{Points, UpTo, Bucket, Buckets, filed}
-use Rattle.rows_needed.specs.Walk.{Filing, Between, Walk, Fileable, Begun, Countable}
+use Rattle.rows_needed.specs.Buckets.{Points, ColumnUpTo, Bucket, Buckets, filed}
+use Rattle.rows_needed.specs.Walk.{Filing, Between, Walk, Fileable, FirstFiled, RowsCountable}
 use Rattle.rows_needed.proofs.RowEnds.{opened, row-done, first-row, last-row}
 use Rattle.rows_needed.proofs.Buckets.{points-ext, buckets-ext, none-left, next-row, leaf-points}
 use Rattle.rows_needed.proofs.Filing.{New}
@@ -28,7 +28,7 @@ use Rattle.rows_needed.proofs.Stores.{file}
 -- the first m columns are filed
 pub record FiledTo (n m : ℕ) (starts rows w₀ w : List ℕ) : Type 0 where
   pub tested : Tested n starts rows
-  pub begun : Begun n m starts rows w
+  pub begun : FirstFiled n m starts rows w
   pub most : m ≤ n
   pub long : length w ≡ length w₀
 
@@ -52,7 +52,7 @@ file-none {n} {starts} {rows} {w₀} f e =
       long = refl;
     }
   where
-    empty : (r : ℕ) {c : ℕ} → c ≡ 0 → Bucket n r starts rows (zeros w₀) (UpTo 0) c
+    empty : (r : ℕ) {c : ℕ} → c ≡ 0 → Bucket n r starts rows (zeros w₀) (ColumnUpTo 0) c
     empty r z = record { list = []; chain = z; from = λ d m. absurd (List·Memᴰ·not-nil m); into = λ d m h. absurd (omega arith); once = tt }
 
 module _ {n m : ℕ} {starts rows w₀ w : List ℕ} (f : FiledTo n m starts rows w₀ w) (l : m < n) where
@@ -64,7 +64,7 @@ module _ {n m : ℕ} {starts rows w₀ w : List ℕ} (f : FiledTo n m starts row
       let g = row-range (f .tested) (suc m) (omega arith) (getD starts m 0) (rw e (omega arith)) u in
       (omega (arith, g .1 .0), (g .1 .1 .0, g .1 .1 .1))
 
-  new : New n 0 (suc m) (getD starts m 0) starts rows (UpTo m) (UpTo (suc m))
+  new : New n 0 (suc m) (getD starts m 0) starts rows (ColumnUpTo m) (ColumnUpTo (suc m))
   new =
       let e : suc m - 1 ≡ m = omega arith in
       record {
@@ -100,7 +100,7 @@ module _ {n m : ℕ} {starts rows w₀ w : List ℕ} (f : FiledTo n m starts row
         long = k ∙ f .long;
       }
 
-pub file-all : {n m : ℕ} {starts rows w₀ w : List ℕ} → FiledTo n m starts rows w₀ w → n ≤ m → Begun n n starts rows w
+pub file-all : {n m : ℕ} {starts rows w₀ w : List ℕ} → FiledTo n m starts rows w₀ w → n ≤ m → FirstFiled n n starts rows w
 file-all {n} {m} f l = let e : m ≡ n = omega (arith, f .most) in rw e at (f .begun)
 
 -- ---- the rows one by one
@@ -109,13 +109,13 @@ file-all {n} {m} f l = let e : m ≡ n = omega (arith, f .most) in rw e at (f .b
 pub record Rows (n m : ℕ) (starts rows p₀ w₀ p w : List ℕ) (t : ℕ) : Type 0 where
   pub tested : Tested n starts rows
   pub between : Between n (suc m) (columnOf starts rows) p w t
-  pub buckets : Buckets n m starts rows w (UpTo n) 0
+  pub buckets : Buckets n m starts rows w (ColumnUpTo n) 0
   pub most : m ≤ n
   pub room-p : n ≤ length p
   pub long-p : length p ≡ length p₀
   pub long-w : length w ≡ length w₀
 
-pub rows-first : {n : ℕ} {starts rows p₀ w₀ p w : List ℕ} → Countable n starts rows p₀ w₀ → p ≡ zeros p₀ → Begun n n starts rows w
+pub rows-first : {n : ℕ} {starts rows p₀ w₀ p w : List ℕ} → RowsCountable n starts rows p₀ w₀ → p ≡ zeros p₀ → FirstFiled n n starts rows w
     → Rows n 0 starts rows p w p w 0
 rows-first {p₀ = p₀} c e b =
     record {

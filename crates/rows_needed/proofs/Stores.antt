@@ -9,11 +9,11 @@ use lib.ListN.{length, getD, set, length-set}
 use lib.Seq.{getD-set-same, getD-set-other}
 use borrow.Author.Tests.{lt-ltb, le-ltb}
 use Rattle.list_laws.proofs.Tests.{below-or}
-use Rattle.rows_needed.specs.Buckets.{UpTo, Buckets, pushed, filed}
+use Rattle.rows_needed.specs.Buckets.{ColumnUpTo, Buckets, putFirst, filed}
 use Rattle.rows_needed.proofs.Filing.{New, Moved, file-none, file-some}
 
 pub filed-some : (n c q : ℕ) (starts rows w : List ℕ) → q < getD starts c 0
-    → filed n c q starts rows w ≡ pushed n (getD rows q 0) c (set w (n + n + n + c) q)
+    → filed n c q starts rows w ≡ putFirst n (getD rows q 0) c (set w (n + n + n + c) q)
 unfolding filed
 filed-some n c q starts rows w h = rw (lt-ltb q (getD starts c 0) h, filed)
 
@@ -21,11 +21,11 @@ pub filed-none : (n c q : ℕ) (starts rows w : List ℕ) → getD starts c 0 �
 unfolding filed
 filed-none n c q starts rows w h = rw (le-ltb q (getD starts c 0) h, filed)
 
-pub pushed-is : (n r c : ℕ) (w : List ℕ) → pushed n r c w ≡ set (set w (n + n + c) (getD w (n + r) 0)) (n + r) c
-unfolding pushed
+pub pushed-is : (n r c : ℕ) (w : List ℕ) → putFirst n r c w ≡ set (set w (n + n + c) (getD w (n + r) 0)) (n + r) c
+unfolding putFirst
 pushed-is n r c w = refl
 
-module _ (n e q : ℕ) (w : List ℕ) (column : UpTo n e) (long : n + n + n + n < length w) where
+module _ (n e q : ℕ) (w : List ℕ) (column : ColumnUpTo n e) (long : n + n + n + n < length w) where
   placed : Moved n e q w (set w (n + n + n + e) q)
   placed =
       record {
@@ -41,10 +41,10 @@ module _ (n e q : ℕ) (w : List ℕ) (column : UpTo n e) (long : n + n + n + n 
   low : (x : ℕ) → x ≤ n + n → getD (set w (n + n + n + e) q) x 0 ≡ getD w x 0
   low x h = getD-set-other w (n + n + n + e) x q 0 (λ y. omega arith)
 
-  -- puts the column in front of the bucket of row r
+  -- puts the column first in the bucket of row r
   module _ (r : ℕ) (first : 1 ≤ r) (most : r ≤ n) where
     abbrev w₂ : List ℕ
-    w₂ = pushed n r e (set w (n + n + n + e) q)
+    w₂ = putFirst n r e (set w (n + n + n + e) q)
 
     push-other : (x : ℕ) → x ≢ n + r → x ≢ n + n + e → getD w₂ x 0 ≡ getD (set w (n + n + n + e) q) x 0
     push-other x a b =
@@ -110,7 +110,7 @@ module _ {n i c e q : ℕ} {starts rows w : List ℕ} {P P′ : ℕ → Type 0} 
           let f = k .column in
           record {
             buckets = rw z
-                (file-some (pushed n (getD rows q 0) e (set w (n + n + n + e) q)) b k m h
+                (file-some (putFirst n (getD rows q 0) e (set w (n + n + n + e) q)) b k m h
                 (push-head n e q w (k .column) (b .long) (getD rows q 0) first (a .1))
                 (push-link n e q w (k .column) (b .long) (getD rows q 0) first (a .1))
                 (λ r u y. o (n + r) (λ v. y (omega arith)) (λ v. omega arith) ∙ l (n + r) (omega arith)));

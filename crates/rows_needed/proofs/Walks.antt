@@ -13,10 +13,10 @@ use Rattle.list_laws.proofs.Tests.{same-or}
 use Rattle.fill_laws.proofs.Fill.{R-pattern}
 use Rattle.column_laws.proofs.Columns.{tested-below, starts-long, starts-fit, row-range, rows-rise}
 use Rattle.needed_climb.specs.Sums.{sumTo}
-use Rattle.needed_climb.specs.Row.{Start, Climbing, Climbed}
+use Rattle.needed_climb.specs.Row.{ClimbStart, Climbing, Climbed}
 use Rattle.needed_climb.proofs.Sums.{sum-bump}
 use Rattle.needed_climb.proofs.Marking.{row-ext}
-use Rattle.rows_needed.specs.Buckets.{cursor, Points, UpTo, filed}
+use Rattle.rows_needed.specs.Buckets.{cursor, Points, ColumnUpTo, filed}
 use Rattle.rows_needed.specs.Walk.{Filing, Walk}
 use Rattle.rows_needed.proofs.Buckets.{points-ext, buckets-ext, But, Taken, take-out}
 use Rattle.rows_needed.proofs.Filing.{New}
@@ -39,12 +39,12 @@ module _ {n i t c : ℕ} {starts rows p w : List ℕ} (r : Walk n i starts rows 
   taken : Taken n i starts rows w c
   taken = take-out c (r .buckets) h
 
-  pub column : UpTo n c
+  pub column : ColumnUpTo n c
   column = taken .column
 
   -- ---- the climb
 
-  start : Start n i c (columnOf starts rows) p w t
+  start : ClimbStart n i c (columnOf starts rows) p w t
   start =
       let o = taken in
       let leaf = row-range (r .tested) c (o .column .1) (cursor n w c) (o .place .from-start) (o .points .0) .0 in
@@ -92,7 +92,7 @@ module _ {n i t c : ℕ} {starts rows p w : List ℕ} (r : Walk n i starts rows 
           long = out .rest .long;
         }
 
-    new : New n i c (cursor n w₁ c + 1) starts rows (But n c) (UpTo n)
+    new : New n i c (cursor n w₁ c + 1) starts rows (But n c) (ColumnUpTo n)
     new =
         let o = out in
         record {
@@ -116,7 +116,7 @@ module _ {n i t c : ℕ} {starts rows p w : List ℕ} (r : Walk n i starts rows 
     done : Filed (out .rest) new
     done = file (out .rest) new
 
-    cursors : (d : ℕ) → UpTo n d → d ≢ c → cursor n after d ≡ cursor n w d
+    cursors : (d : ℕ) → ColumnUpTo n d → d ≢ c → cursor n after d ≡ cursor n w d
     cursors d u z = done .moved .stay d u z .cursors ∙ same (n + n + n + d) (omega arith)
 
     module _ {w₂ : List ℕ} (e : w₂ ≡ after) where
@@ -134,10 +134,10 @@ module _ {n i t c : ℕ} {starts rows p w : List ℕ} (r : Walk n i starts rows 
             long-parents = rw lp (r .long-parents);
           })
         where
-          mark : (d : ℕ) → UpTo n d → getD w₁ d 0 ≡ i → (getD after d 0 ≡ i) ⊎ Points n starts rows after d i
+          mark : (d : ℕ) → ColumnUpTo n d → getD w₁ d 0 ≡ i → (getD after d 0 ≡ i) ⊎ Points n starts rows after d i
           mark d u m = inl (done .marks d (u .1) ∙ m)
 
-          leaf : (d : ℕ) → UpTo n d → i ∈ columnOf starts rows d → (getD after d 0 ≡ i) ⊎ Points n starts rows after d i
+          leaf : (d : ℕ) → ColumnUpTo n d → i ∈ columnOf starts rows d → (getD after d 0 ≡ i) ⊎ Points n starts rows after d i
           leaf d u m =
               ⊎-elim
               (λ (y : getD w d 0 ≡ i). mark d u (k .kept d y))

@@ -26,8 +26,8 @@ pub record Place (n i : ℕ) (starts rows work : List ℕ) (c : ℕ) : Type 0 wh
   pub ahead : cursor n work c < getD starts c 0 → i ≤ getD rows (cursor n work c) 0
 
 -- d is one of the columns 1 to m
-abbrev pub UpTo : ℕ → ℕ → Type 0
-UpTo m d = (1 ≤ d) × (d ≤ m)
+abbrev pub ColumnUpTo : ℕ → ℕ → Type 0
+ColumnUpTo m d = (1 ≤ d) × (d ≤ m)
 
 -- links from c on list the columns of P whose next row is r
 pub record Bucket (n r : ℕ) (starts rows work : List ℕ) (P : ℕ → Type 0) (c : ℕ) : Type 0 where
@@ -39,17 +39,17 @@ pub record Bucket (n r : ℕ) (starts rows work : List ℕ) (P : ℕ → Type 0)
 
 -- for the columns in P: links list each bucket above row i, and from c on the columns at row i that are left to do
 pub record Buckets (n i : ℕ) (starts rows work : List ℕ) (P : ℕ → Type 0) (c : ℕ) : Type 0 where
-  pub range : (d : ℕ) → P d → UpTo n d
+  pub range : (d : ℕ) → P d → ColumnUpTo n d
   pub place : (d : ℕ) → P d → Place n i starts rows work d
   pub bucket : (r : ℕ) → i < r → r ≤ n → Bucket n r starts rows work P (getD work (n + r) 0)
   pub left : Bucket n i starts rows work P c
   pub long : n + n + n + n < length work
 
--- puts column c at the front of the bucket of row r
-unfoldable pub pushed : ℕ → ℕ → ℕ → List ℕ → List ℕ
-pushed n r c work = set (set work (n + n + c) (getD work (n + r) 0)) (n + r) c
+-- puts column c first in the bucket of row r
+unfoldable pub putFirst : ℕ → ℕ → ℕ → List ℕ → List ℕ
+putFirst n r c work = set (set work (n + n + c) (getD work (n + r) 0)) (n + r) c
 
 -- gives column c the place q of its next row, and puts it in the bucket of that row if it has one
 unfoldable pub filed : ℕ → ℕ → ℕ → List ℕ → List ℕ → List ℕ → List ℕ
 filed n c q starts rows work =
-    elim (ltb q (getD starts c 0)) [ true ↦ pushed n (getD rows q 0) c (set work (n + n + n + c) q) | false ↦ set work (n + n + n + c) q ]
+    elim (ltb q (getD starts c 0)) [ true ↦ putFirst n (getD rows q 0) c (set work (n + n + n + c) q) | false ↦ set work (n + n + n + c) q ]

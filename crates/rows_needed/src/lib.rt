@@ -5,10 +5,10 @@ ghost use Prim.Native.Nat.{_+_};
 ghost use lib.ListN.{length, getD};
 ghost use Rattle.papers.specs.Lists.{flat};
 ghost use Rattle.papers.specs.Job.{columnOf};
-ghost use Rattle.papers.specs.Key.{listsOf};
 ghost use Rattle.papers.specs.Fill.{R};
+ghost use Rattle.papers.specs.Key.{listsOf};
 ghost use Rattle.rows_needed.specs.Buckets.{filed};
-ghost use Rattle.rows_needed.specs.Walk.{Filing, Walk, Fileable, Begun, Countable};
+ghost use Rattle.rows_needed.specs.Walk.{Filing, Walk, Fileable, FirstFiled, RowsCountable};
 
 // Files column c under its next pattern row, which is at place q, if it has one.
 pub fn file(n: usize, c: usize, q: u64, starts: &[u64], rows: &[u32], work: &mut [u64])
@@ -52,7 +52,7 @@ pub fn walk(
 // Clears work and files every column under its first pattern row.
 pub fn begin(n: usize, starts: &[u64], rows: &[u32], work: &mut [u64])
     requires { ⌜ Fileable n (now starts) (now rows) (now work) ⌝ }
-    ensures { λ _. ⌜ Begun n n (now (starts .entry)) (now (rows .entry)) (now (work .exit)) ⌝ }
+    ensures { λ _. ⌜ FirstFiled n n (now (starts .entry)) (now (rows .entry)) (now (work .exit)) ⌝ }
 {
     slices::clear64(work);
     let mut m = 0;
@@ -71,7 +71,7 @@ pub fn rows_needed(
     parents: &mut [u32],
     work: &mut [u64],
 ) -> u64
-    requires { ⌜ Countable n (now starts) (now rows) (now parents) (now work) ⌝ }
+    requires { ⌜ RowsCountable n (now starts) (now rows) (now parents) (now work) ⌝ }
     ensures { λ r. ⌜ r ≡ length (flat (listsOf n (R (columnOf (now (starts .entry)) (now (rows .entry)))))) ⌝ }
 {
     slices::clear32(parents);

@@ -7,10 +7,11 @@ use native.Mathlib.Omega.{arith}
 use lib.ListN.{length, getD}
 use Rattle.papers.specs.Lists.{Asc}
 use Rattle.papers.specs.Job.{start, columnOf}
+use Rattle.job_laws.specs.Passed.{PassedLists}
 use Rattle.list_laws.specs.Parts.{part}
 use Rattle.list_laws.proofs.Ascending.{asc-weaken, asc-length}
 use Rattle.job_laws.proofs.Starts.{start-at, start-within, part-column}
-use Rattle.job_laws.proofs.Passed.{PassedLists, lists-iff}
+use Rattle.job_laws.proofs.Passed.{lists-iff}
 use Rattle.column_laws.specs.Tested.{Tested}
 use Rattle.run_front.specs.Column.{Column, ColumnIn}
 

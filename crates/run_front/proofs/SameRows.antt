@@ -11,10 +11,10 @@ use lib.Seq.{getD-drop}
 use Rattle.list_laws.specs.Parts.{part}
 use Rattle.list_laws.proofs.Tests.{Compare, below, level, above, compare}
 use Rattle.list_laws.proofs.Parts.{part-last}
-use Rattle.run_front.specs.Search.{Same, Alike}
+use Rattle.run_front.specs.Search.{SameFirst, Alike}
 
-module _ {a b : List ℕ} {i : ℕ} (s : Same a b i) where
-  pub same-next : i < min (length a) (length b) → getD a i 0 ≡ getD b i 0 → Same a b (i + 1)
+module _ {a b : List ℕ} {i : ℕ} (s : SameFirst a b i) where
+  pub same-next : i < min (length a) (length b) → getD a i 0 ≡ getD b i 0 → SameFirst a b (i + 1)
   same-next h e = record { in-first = omega arith; in-second = omega arith; same = λ k l. go k l (compare k i) }
     where
       go : (k : ℕ) → k < i + 1 → Compare k i → getD a k 0 ≡ getD b k 0

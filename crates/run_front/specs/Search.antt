@@ -25,12 +25,12 @@ pub record BothAscend (rows update : List ℕ) : Type 0 where
   pub update-ascends : Asc 0 update
 
 -- the first `count` rows of two lists are equal
-pub record Same (a b : List ℕ) (count : ℕ) : Type 0 where
+pub record SameFirst (a b : List ℕ) (count : ℕ) : Type 0 where
   pub in-first : count ≤ length a
   pub in-second : count ≤ length b
   pub same : (k : ℕ) → k < count → getD a k 0 ≡ getD b k 0
 
 -- exactly `count` first rows are equal: the next rows differ, or one list has ended
 pub record Alike (a b : List ℕ) (count : ℕ) : Type 0 where
-  pub first : Same a b count
+  pub first : SameFirst a b count
   pub differ : count < length a → count < length b → getD a count 0 ≢ getD b count 0

@@ -11,9 +11,10 @@ use Rattle.papers.specs.Job.{Pattern, Below, columnOf}
 use Rattle.papers.specs.Fill.{R}
 use Rattle.papers.specs.Key.{listsOf}
 use Rattle.papers.specs.Run.{RunCall, rowsIn}
+use Rattle.job_laws.specs.Passed.{PassedLists}
 use Rattle.list_laws.proofs.Tests.{below-or}
 use Rattle.fill_laws.proofs.Fill.{R-asc, R-range}
-use Rattle.job_laws.proofs.Passed.{PassedLists, no-column-over, lists-below}
+use Rattle.job_laws.proofs.Passed.{no-column-over, lists-below}
 use Rattle.job_laws.proofs.Laid.{length-lists, lists-at, laid-column}
 use Rattle.job_laws.proofs.Keys.{lists-fit}
 use Rattle.job_laws.proofs.Readable.{laid-pass}

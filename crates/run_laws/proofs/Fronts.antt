@@ -14,12 +14,12 @@ use Rattle.papers.specs.Job.{Pattern}
 use Rattle.papers.specs.Fill.{R}
 use Rattle.papers.specs.Tree.{parent}
 use Rattle.papers.specs.Order.{childrenOf, popsOf}
-use Rattle.papers.specs.Run.{RunCall, rowsIn, popsAt, stateAfter, stepColumn, heldAt}
-use Rattle.papers.specs.Conditions.{Known, AllFit}
+use Rattle.papers.specs.Run.{RunCall, rowsIn, popsAt, stateAfter, stepColumn, heldAt, KnownColumn, AllFit}
+use Rattle.fill_laws.specs.Rows.{FromChild}
 use Rattle.list_laws.proofs.Ascending.{drop-head}
 use Rattle.fill_laws.proofs.Fill.{R-pattern}
 use Rattle.fill_laws.proofs.Parents.{parent-least, hands-on}
-use Rattle.fill_laws.proofs.Children.{FromChild, R-children}
+use Rattle.fill_laws.proofs.Children.{R-children}
 use Rattle.order_laws.specs.Stack.{heldColumns}
 use Rattle.order_laws.proofs.Subtrees.{children-of, children-distinct}
 use Rattle.order_laws.proofs.Patterns.{tree-of}
@@ -36,7 +36,7 @@ module _ {A : Pattern} {call : RunCall} (f : Follows A call) where
   held-at : (s : ℕ) → suc s ≤ call .n → heldAt call (suc s) ≡ heldColumns (parent A) (popsOf (call .n) A) (call .columns) s
   held-at s h = ap (λ k. stateAfter call k .held) (omega arith) ∙ held-in f s (omega arith)
 
-  pub step-known : (s : ℕ) → IsStep call s → Known call s
+  pub step-known : (s : ℕ) → IsStep call s → KnownColumn call s
   step-known s i = f .ordered .each (stepColumn call s) .0 (column-in (call .columns) s (i .0) (omega (arith, columns-long f)))
 
   step-pops : (s : ℕ) → IsStep call s → popsAt call s ≡ popsOf (call .n) A (stepColumn call s)

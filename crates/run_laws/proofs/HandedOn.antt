@@ -5,12 +5,10 @@ use mathlib.Core.Path.{_≡_, refl}
 use mathlib.Core.List.{List}
 use Rattle.papers.specs.Lists.{flat, startsFrom}
 use Rattle.papers.specs.Job.{Job}
-use Rattle.papers.specs.Plan.{Plan, columnsIn, popsIn}
-use Rattle.papers.specs.Refusals.{Lent, holding}
-use Rattle.papers.specs.Analysis.{holdingPlan}
-use Rattle.papers.specs.Sound.{handedOn}
+use Rattle.papers.specs.Plan.{Plan, columnsIn, popsIn, Fit}
+use Rattle.papers.specs.Analysis.{Lent, holding, holdingPlan}
+use Rattle.papers.specs.Run.{handedOn}
 use Rattle.list_laws.proofs.Stores.{take-then-zeros}
-use Rattle.bytes_laws.proofs.Plans.{Fit}
 use Rattle.job_laws.proofs.Parts.{length-columns, length-pops, length-begins, last-begin}
 use Rattle.run_laws.specs.Runs.{planRun}
 

@@ -9,7 +9,7 @@ use lib.ListN.{length}
 use lib.Seq.{take-length}
 use Rattle.papers.specs.Job.{Pattern}
 use Rattle.papers.specs.Tree.{parent, rowCount}
-use Rattle.papers.specs.Order.{columnAt, popsOf, roomsOf, peak}
+use Rattle.papers.specs.Order.{columnAt, popsOf, roomsOf, orderPeak}
 use Rattle.papers.specs.Run.{RunCall, roomIn, stateAfter}
 use Rattle.order_laws.specs.Stack.{heldColumns}
 use Rattle.order_laws.proofs.Patterns.{tree-of}
@@ -40,19 +40,19 @@ module _ {A : Pattern} {call : RunCall} (f : Follows A call) where
       ∙ sym (ap (λ k. roomIn call (suc s) (stateAfter call k)) (omega arith) ∙ room-in f s (i .1))
 
   -- no step uses more room than the peak
-  pub room-bound : (s : ℕ) → IsStep call s → roomUsed call s ≤ peak (call .n) A (call .columns)
+  pub room-bound : (s : ℕ) → IsStep call s → roomUsed call s ≤ orderPeak (call .n) A (call .columns)
   room-bound s i =
       rw (← room-is s i) (room-under-peak (call .n) A (call .columns) (columnAt used s) (column-in used s (i .0) (omega (arith, long-rooms))))
 
   -- some step uses as much
-  pub room-reached : 0 < call .n → (s : ℕ) × IsStep call s × (roomUsed call s ≡ peak (call .n) A (call .columns))
+  pub room-reached : 0 < call .n → (s : ℕ) × IsStep call s × (roomUsed call s ≡ orderPeak (call .n) A (call .columns))
   room-reached h =
-      let p = step-of used (peak (call .n) A (call .columns)) (peak-reached (call .n) A (call .columns) (omega (arith, columns-long f))) in
+      let p = step-of used (orderPeak (call .n) A (call .columns)) (peak-reached (call .n) A (call .columns) (omega (arith, columns-long f))) in
       let i : IsStep call (p .step) = (p .behind, omega (arith, p .within, long-rooms)) in
       (p .step, i, sym (room-is (p .step) i) ∙ p .is)
 
   -- if the peak is not 0 there is a step
-  pub peak-step : 0 < peak (call .n) A (call .columns) → 0 < call .n
+  pub peak-step : 0 < orderPeak (call .n) A (call .columns) → 0 < call .n
   peak-step h = go (call .columns) refl
     where
       go : (order : List ℕ) → call .columns ≡ order → 0 < call .n
@@ -60,8 +60,8 @@ module _ {A : Pattern} {call : RunCall} (f : Follows A call) where
       go (j ∷ js) e = omega (arith, ap length e, columns-long f)
 
   -- the greatest room of all steps is the peak
-  pub greatest-peak : stateAfter call (call .n) .greatest ≡ peak (call .n) A (call .columns)
-  unfolding peak
+  pub greatest-peak : stateAfter call (call .n) .greatest ≡ orderPeak (call .n) A (call .columns)
+  unfolding orderPeak
   greatest-peak = rw (greatest-in f (call .n) (omega arith), ← columns-long f, take-length (call .columns))
 
   -- nothing is held at the end

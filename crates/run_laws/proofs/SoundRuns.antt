@@ -6,20 +6,20 @@ use mathlib.Core.Path.{_≡_, ap}
 use mathlib.Core.List.{List}
 use lib.ListN.{length}
 use Rattle.papers.specs.Lists.{flat, startsFrom}
-use Rattle.papers.specs.Job.{Job, pattern}
-use Rattle.papers.specs.Plan.{Plan}
-use Rattle.papers.specs.Refusals.{passed, first, jobTests}
-use Rattle.papers.specs.Sound.{Sound}
+use Rattle.papers.specs.Refusals.{passed, first}
+use Rattle.papers.specs.Job.{Job, pattern, jobRefusals}
+use Rattle.papers.specs.Plan.{Plan, Sound}
+use Rattle.job_laws.specs.Passed.{Passed}
 use Rattle.job_laws.proofs.Passed.{passes-iff, passed-below}
 use Rattle.run_laws.specs.Runs.{planRun, Runs, LacksRoom}
 use Rattle.run_laws.specs.Follows.{Follows}
 use Rattle.run_laws.proofs.Completes.{follows-runs, less-refused}
 
-module _ (job : Job) (plan : Plan) (valid : first jobTests job ≡ passed) (sound : Sound job plan) (room : ℕ) (stack : List ℕ)
+module _ (job : Job) (plan : Plan) (valid : Passed job) (sound : Sound job plan) (room : ℕ) (stack : List ℕ)
     (long : job .n ≤ length stack) where
   follows : Follows (pattern job) (planRun (job .n) plan room stack)
   follows =
-      let p = passes-iff job .0 valid in
+      let p = valid in
       record {
         few = p .few;
         below = passed-below job p;
@@ -32,8 +32,8 @@ module _ (job : Job) (plan : Plan) (valid : first jobTests job ≡ passed) (soun
 
   -- a sound plan of a valid job runs, with a room of its declared peak or more
   pub sound-plan-runs : plan .peak ≤ room → Runs (pattern job) (plan .peak) (planRun (job .n) plan room stack)
-  sound-plan-runs h = rw (sound .greatest) (follows-runs follows (rw (← sound .greatest) h))
+  sound-plan-runs h = rw (sound .declared) (follows-runs follows (rw (← sound .declared) h))
 
   -- with less room than the peak it is refused with 23
   pub less-room-refused : room < plan .peak → LacksRoom (planRun (job .n) plan room stack)
-  less-room-refused h = less-refused follows (rw (← sound .greatest) h)
+  less-room-refused h = less-refused follows (rw (← sound .declared) h)

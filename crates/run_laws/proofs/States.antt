@@ -7,7 +7,7 @@ use mathlib.Core.List.{List, [], _∷_, map, List·Memᴰ·head}
 use native.Mathlib.Omega.{arith}
 use lib.ListN.{getD, take, drop}
 use lib.Seq.{take-suc}
-use Rattle.papers.specs.Lists.{head0, greatest}
+use Rattle.papers.specs.Lists.{head0, largest}
 use Rattle.papers.specs.Job.{Pattern}
 use Rattle.papers.specs.Fill.{R}
 use Rattle.papers.specs.Tree.{t, parent, rowCount}
@@ -16,7 +16,7 @@ use Rattle.papers.specs.Order.{columnAt, popsOf}
 use Rattle.papers.specs.Run.{RunCall, popsAt, entries, roomIn, pushed, stepped, stateAfter}
 use Rattle.list_laws.proofs.Members.{map-at}
 use Rattle.fill_laws.proofs.Fill.{R-range}
-use Rattle.order_laws.specs.Held.{heldAfterAll}
+use Rattle.order_laws.specs.Entries.{entriesAfterAll}
 use Rattle.order_laws.specs.Stack.{pushedOn, heldColumns}
 use Rattle.order_laws.proofs.Patterns.{root-rows}
 use Rattle.order_laws.proofs.Steps.{column-at}
@@ -70,7 +70,7 @@ module _ {A : Pattern} {call : RunCall} (f : Follows A call) where
   -- the room in use at a step, from what the steps before it leave
   pub room-in : (s : ℕ) → s < call .n
       → roomIn call (suc s) (stateAfter call s)
-      ≡ roomAt (popsOf (call .n) A (getD (call .columns) s 0)) (rowCount A (getD (call .columns) s 0)) (heldAfterAll (rowCount A) (popsOf (call .n) A)
+      ≡ roomAt (popsOf (call .n) A (getD (call .columns) s 0)) (rowCount A (getD (call .columns) s 0)) (entriesAfterAll (rowCount A) (popsOf (call .n) A)
       [] (take s (call .columns)))
   unfolding roomIn
   room-in s h =
@@ -85,7 +85,7 @@ module _ {A : Pattern} {call : RunCall} (f : Follows A call) where
 
   -- the greatest room in use of the steps done is their peak
   pub greatest-in : (s : ℕ) → s ≤ call .n → stateAfter call s .greatest ≡ peakOf (rowCount A) (popsOf (call .n) A) (take s (call .columns))
-  unfolding stateAfter stepped peakOf rooms greatest
+  unfolding stateAfter stepped peakOf rooms largest
   greatest-in zero h = refl
   greatest-in (suc s) h =
       rw (take-suc order s 0 (omega (arith, columns-long f)), peak-next (rowCount A) pops (take s order) (getD order s 0), ← room-in s h)

@@ -6,15 +6,15 @@ use mathlib.Core.Logic.{_⊎_, _↔_, _≢_}
 use mathlib.Core.List.{List, [], _∷_, map}
 use lib.ListN.{length, take, drop}
 use Rattle.papers.specs.Lists.{_∈_, Distinct, flat, startsFrom, zeros}
+use Rattle.papers.specs.Refusals.{answer}
 use Rattle.papers.specs.Job.{Job, Pattern, pattern}
 use Rattle.papers.specs.Tree.{t, parent, front, update}
 use Rattle.papers.specs.Room.{roomAt}
 use Rattle.papers.specs.Order.{Ordered}
-use Rattle.papers.specs.Plan.{Plan, columnsIn, popsIn, planBytes}
-use Rattle.papers.specs.Refusals.{answer, Lent}
+use Rattle.papers.specs.Plan.{Plan, columnsIn, popsIn, planBytes, Sound}
+use Rattle.papers.specs.Analysis.{Lent}
 use Rattle.papers.specs.Check.{checked}
-use Rattle.papers.specs.Run.{RunCall, rowsIn, popsAt, roomIn, stateAfter, ran, frontIn, stepColumn, heldAt}
-use Rattle.papers.specs.Sound.{handedOn}
+use Rattle.papers.specs.Run.{RunCall, rowsIn, popsAt, roomIn, stateAfter, ran, frontIn, stepColumn, heldAt, handedOn}
 
 -- the run of a plan's own lists
 abbrev pub planRun : ℕ → Plan → ℕ → List ℕ → RunCall
@@ -77,23 +77,25 @@ pub record Runs (A : Pattern) (peak : ℕ) (call : RunCall) : Type 0 where
   -- after the last step nothing is held
   pub empty : stateAfter call (call .n) .held ≡ []
   -- all steps are done, and nothing is refused
-  pub completes : ran call ≡ record { answer = answer 0 0 peak; lent = zeros (call .stack) }
+  pub completes : ran call ≡ record { answered = answer 0 0 peak; lent = zeros (call .stack) }
 
 -- a run is refused with 23 at a step that needs more room than is given
 pub record LacksRoom (call : RunCall) : Type 0 where
   pub step : ℕ
   pub is : IsStep call step
   pub over : call .room < roomUsed call step
-  pub refused : ran call ≡ record { answer = answer 23 step (stateAfter call (step - 1) .greatest); lent = zeros (call .stack) }
+  pub refused : ran call ≡ record { answered = answer 23 step (stateAfter call (step - 1) .greatest); lent = zeros (call .stack) }
 
 -- lists in lent slices run with the declared peak as room, and are refused with any less
 pub record RunsInPeak (job : Job) (lent : Lent) (peak : ℕ) (stack : List ℕ) : Type 0 where
   pub runs : Runs (pattern job) peak (handedOn (job .n) lent peak stack)
   pub less : (room : ℕ) → room < peak → LacksRoom (handedOn (job .n) lent room stack)
 
--- plan bytes that passed the check: they encode a plan, and the lists that the check delivers run in the peak it declares
+-- plan bytes that passed the check: they are those of a sound plan, which they determine, and the lists that the check delivers run in its
+-- peak
 pub record CheckedRun (job : Job) (bytes : List ℕ) (lent : Lent) (stack : List ℕ) : Type 0 where
   pub plan : Plan
   pub declared : bytes ≡ planBytes job plan
-  pub counted : checked job bytes lent .answer ≡ answer 0 0 (plan .peak)
+  pub sound : Sound job plan
+  pub counted : checked job bytes lent .answered ≡ answer 0 0 (plan .peak)
   pub in-peak : RunsInPeak job (checked job bytes lent .lent) (plan .peak) stack

@@ -15,13 +15,13 @@ use Rattle.list_laws.proofs.Tests.{below-or}
 use Rattle.order_laws.proofs.Steps.{column-at}
 use Rattle.run_held.specs.declared.Held.{Held}
 use Rattle.run_front.specs.Column.{Column}
-use Rattle.run_updates.specs.Kept.{heldIn, stateOf, callOf, factorOf}
+use Rattle.run_updates.specs.Kept.{heldIn, stateOf, runOf, factorOf}
 use Rattle.run_updates.proofs.Stack.{held-length}
 use Rattle.run_updates.proofs.Step.{pops-at, used, used-is}
 
 module _ (n : ℕ) (starts rows columns pops : List ℕ) (room : ℕ) (stack : List ℕ) (held : Held) (done : ℕ) where
   abbrev call : RunCall
-  call = callOf n starts rows columns pops room []
+  call = runOf n starts rows columns pops room []
 
   abbrev state : State
   state = stateOf held stack

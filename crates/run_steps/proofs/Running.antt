@@ -9,15 +9,15 @@ use native.Mathlib.Omega.{arith}
 use native.Mathlib.Numerals.{add-one}
 use lib.ListN.{length}
 use Rattle.papers.specs.Lists.{least}
-use Rattle.papers.specs.Run.{RunCall, State, rowsIn, popsAt, entries, roomIn, fits, stepFault, pushed, stepped, stateAfter, faultAt}
 use Rattle.papers.specs.Refusals.{answer}
+use Rattle.papers.specs.Run.{RunCall, State, rowsIn, popsAt, entries, roomIn, fits, stepFault, pushed, stepped, stateAfter, faultAt}
 use Rattle.job_laws.proofs.Faults.{faulty, faults-next}
 use Rattle.run_held.specs.declared.Held.{Held}
-use Rattle.run_updates.specs.Kept.{stateOf, callOf, Kept}
+use Rattle.run_updates.specs.Kept.{stateOf, runOf, Kept}
 use Rattle.run_updates.proofs.Stack.{held-none, held-length}
 use Rattle.run_updates.proofs.Entries.{total-none}
 use Rattle.run_steps.proofs.Faults.{fault-zero}
-use Rattle.run_steps.specs.Ready.{StepsAsked, Ready, StepTaken}
+use Rattle.run_steps.specs.Ready.{StepsGiven, Ready, StepTaken}
 use Rattle.run_steps.specs.Steps.{stepsAnswer}
 use Rattle.run_steps.proofs.Answers.{answer-fault, answer-left, answer-done}
 
@@ -37,13 +37,13 @@ module _ (call : RunCall) where
 
 module _ (n : ℕ) (starts rows columns pops : List ℕ) (room : ℕ) (stack : List ℕ) where
   abbrev call : RunCall
-  call = callOf n starts rows columns pops room stack
+  call = runOf n starts rows columns pops room stack
 
-  fault-apart : (s : ℕ) (state : State) → stepFault (callOf n starts rows columns pops room []) s state ≡ stepFault call s state
+  fault-apart : (s : ℕ) (state : State) → stepFault (runOf n starts rows columns pops room []) s state ≡ stepFault call s state
   unfolding stepFault fits rowsIn popsAt roomIn entries
   fault-apart s state = refl
 
-  step-apart : (s : ℕ) (state : State) → stepped (callOf n starts rows columns pops 0 []) s state ≡ stepped call s state
+  step-apart : (s : ℕ) (state : State) → stepped (runOf n starts rows columns pops 0 []) s state ≡ stepped call s state
   unfolding stepped pushed rowsIn popsAt roomIn entries
   step-apart s state = refl
 
@@ -74,13 +74,13 @@ module _ (n : ℕ) (starts rows columns pops : List ℕ) (room : ℕ) (stack : L
   }
 
   module _ {now : List ℕ} {held : Held} {done : ℕ} (run : Running now held done) (more : done < n) {fault : ℕ}
-      (f : fault ≡ stepFault (callOf n starts rows columns pops room []) (suc done) (stateOf held now)) where
+      (f : fault ≡ stepFault (runOf n starts rows columns pops room []) (suc done) (stateOf held now)) where
     -- the fault found is the step's
     pub fault-is : faultAt call (suc done) ≡ fault
     fault-is = fault-next call done ∙ (rw (← run .state) (sym (f ∙ fault-apart (suc done) (stateOf held now))))
 
     -- a step without a fault can be taken
-    pub ready : StepsAsked n starts rows columns pops stack → fault ≡ 0 → Ready n starts rows columns pops now held done
+    pub ready : StepsGiven n starts rows columns pops stack → fault ≡ 0 → Ready n starts rows columns pops now held done
     ready asked z =
         let fine = fault-zero n starts rows columns pops room now held done (sym f ∙ z) in
         let few = run .few in

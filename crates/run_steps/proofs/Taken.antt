@@ -16,7 +16,7 @@ use Rattle.order_laws.proofs.Steps.{column-at}
 use Rattle.run_held.specs.declared.Held.{Held}
 use Rattle.run_held.specs.Record.{steppedOf, Takes}
 use Rattle.run_front.specs.Column.{Column}
-use Rattle.run_updates.specs.Kept.{heldIn, stateOf, callOf, Kept}
+use Rattle.run_updates.specs.Kept.{heldIn, stateOf, runOf, Kept}
 use Rattle.run_updates.proofs.Stack.{held-drop, held-push}
 use Rattle.run_updates.proofs.Entries.{total, total-cons, total-parts, total-small, update-small}
 use Rattle.run_updates.proofs.Step.{pops-at, used, used-is}
@@ -81,7 +81,7 @@ module _ {n : ℕ} {starts rows columns pops stack : List ℕ} {held : Held} {do
     grown = omega (arith, counted)
 
     abbrev call : RunCall
-    call = callOf n starts rows columns pops 0 []
+    call = runOf n starts rows columns pops 0 []
 
     -- the state after the step
     abbrev after : State

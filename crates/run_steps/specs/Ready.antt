@@ -8,17 +8,17 @@ use Rattle.papers.specs.Run.{stepped}
 use Rattle.column_laws.specs.Tested.{Tested}
 use Rattle.run_held.specs.declared.Held.{Held}
 use Rattle.run_front.specs.Column.{Column}
-use Rattle.run_updates.specs.Kept.{callOf, stateOf, Kept}
+use Rattle.run_updates.specs.Kept.{runOf, stateOf, Kept}
 
 -- the lists have places for n steps, on a factor that passes 1, 4, 5 and 6
-pub record StepsAsked (n : ℕ) (starts rows columns pops stack : List ℕ) : Type 0 where
+pub record StepsGiven (n : ℕ) (starts rows columns pops stack : List ℕ) : Type 0 where
   pub tested : Tested n starts rows
   pub columns-long : n ≤ length columns
   pub pops-long : n ≤ length pops
   pub stack-long : n ≤ length stack
 
 -- the lists hold the step after `done` steps, and the stack list and the record keep the updates
-pub record StepAsked (n : ℕ) (starts rows columns pops stack : List ℕ) (held : Held) (done : ℕ) : Type 0 where
+pub record StepGiven (n : ℕ) (starts rows columns pops stack : List ℕ) (held : Held) (done : ℕ) : Type 0 where
   pub tested : Tested n starts rows
   pub kept : Kept n starts rows stack held
   pub column-listed : done < length columns
@@ -38,4 +38,4 @@ pub record Ready (n : ℕ) (starts rows columns pops stack : List ℕ) (held : H
 pub record StepTaken (n : ℕ) (starts rows columns pops stack : List ℕ) (held : Held) (done : ℕ) (stack′ : List ℕ) (held′ : Held) : Type 0 where
   pub kept : Kept n starts rows stack′ held′
   pub grows : held′ .count ≤ held .count + 1
-  pub state : stateOf held′ stack′ ≡ stepped (callOf n starts rows columns pops 0 []) (suc done) (stateOf held stack)
+  pub state : stateOf held′ stack′ ≡ stepped (runOf n starts rows columns pops 0 []) (suc done) (stateOf held stack)

@@ -5,8 +5,8 @@ ghost use mathlib.Core.Path.{_≡_};
 ghost use mathlib.Core.List.{[]};
 ghost use Prim.Native.Nat.{suc};
 ghost use Rattle.papers.specs.Run.{stepFault};
-ghost use Rattle.run_updates.specs.Kept.{callOf, stateOf};
-ghost use Rattle.run_steps.specs.Ready.{StepsAsked, StepAsked, Ready, StepTaken};
+ghost use Rattle.run_updates.specs.Kept.{runOf, stateOf};
+ghost use Rattle.run_steps.specs.Ready.{StepsGiven, StepGiven, Ready, StepTaken};
 ghost use Rattle.run_steps.specs.Steps.{stepsAnswer};
 
 // Takes a step that has no fault, after `done` steps: pops its updates, and puts its own column on the stack list, unless it is a root.
@@ -52,9 +52,9 @@ fn step_fault(
     held: Held,
     done: u64,
 ) -> u64
-    requires { ⌜ StepAsked n (now starts) (now rows) (now columns) (now pops) (now stack) held done ⌝ }
+    requires { ⌜ StepGiven n (now starts) (now rows) (now columns) (now pops) (now stack) held done ⌝ }
     ensures { λ r. ⌜
-        r ≡ stepFault (callOf n (now (starts .entry)) (now (rows .entry)) (now (columns .entry)) (now (pops .entry)) room []) (suc done)
+        r ≡ stepFault (runOf n (now (starts .entry)) (now (rows .entry)) (now (columns .entry)) (now (pops .entry)) room []) (suc done)
         (stateOf held (now (stack .entry)))
         ⌝ }
 {
@@ -89,9 +89,9 @@ pub fn steps(
     room: u64,
     stack: &mut [u32],
 ) -> Answer
-    requires { ⌜ StepsAsked n (now starts) (now rows) (now columns) (now pops) (now stack) ⌝ }
+    requires { ⌜ StepsGiven n (now starts) (now rows) (now columns) (now pops) (now stack) ⌝ }
     ensures { λ r. ⌜
-        r ≡ stepsAnswer (callOf n (now (starts .entry)) (now (rows .entry)) (now (columns .entry)) (now (pops .entry)) room
+        r ≡ stepsAnswer (runOf n (now (starts .entry)) (now (rows .entry)) (now (columns .entry)) (now (pops .entry)) room
         (now (stack .entry)))
         ⌝ }
 {

@@ -6,7 +6,7 @@ use mathlib.Core.Path.{_≡_, refl}
 use mathlib.Core.List.{List, [], _∷_, List·Memᴰ·head, List·Memᴰ·tail}
 use native.Mathlib.Omega.{arith}
 use lib.ListN.{length, take, drop}
-use Rattle.papers.specs.Bounds.{maxColumns}
+use Rattle.papers.specs.Bounds.{maxColumns, maxPeak}
 use Rattle.papers.specs.Lists.{_∈_, sum}
 use Rattle.papers.specs.Job.{columnOf}
 use Rattle.papers.specs.Tree.{t}
@@ -58,7 +58,7 @@ module _ (n : ℕ) (starts rows : List ℕ) where
         omega (arith, total-cons c held, update-small (h c (List·Memᴰ·head refl)), total-each held (λ d m. h d (List·Memᴰ·tail m)))
 
     -- all updates held together have few entries
-    pub total-small : {stack : List ℕ} {held : Held} → Kept n starts rows stack held → total (heldIn (held .count) stack) < 2 ^ 40
+    pub total-small : {stack : List ℕ} {held : Held} → Kept n starts rows stack held → total (heldIn (held .count) stack) < maxPeak
     unfolding t
     total-small {stack} {held} kept =
         let few = kept .few in
@@ -70,5 +70,5 @@ module _ (n : ℕ) (starts rows : List ℕ) where
         )
 
     -- so the popped updates have few entries too
-    pub popped-small : {stack : List ℕ} {held : Held} → Kept n starts rows stack held → (p : ℕ) → total (take p (heldIn (held .count) stack)) < 2 ^ 40
+    pub popped-small : {stack : List ℕ} {held : Held} → Kept n starts rows stack held → (p : ℕ) → total (take p (heldIn (held .count) stack)) < maxPeak
     popped-small {stack} {held} kept p = omega (arith, total-small kept, total-parts p (heldIn (held .count) stack))

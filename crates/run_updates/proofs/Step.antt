@@ -10,7 +10,7 @@ use Rattle.papers.specs.Room.{roomAt}
 use Rattle.papers.specs.Run.{RunCall, entries, rowsIn, popsAt, roomIn}
 use Rattle.order_laws.proofs.Steps.{column-at}
 use Rattle.run_held.specs.declared.Held.{Held}
-use Rattle.run_updates.specs.Kept.{heldIn, stateOf, callOf, factorOf}
+use Rattle.run_updates.specs.Kept.{heldIn, stateOf, runOf, factorOf}
 
 pub pops-at : (call : RunCall) (s : ℕ) → popsAt call (suc s) ≡ getD (call .pops) s 0
 unfolding popsAt
@@ -22,6 +22,6 @@ module _ (n : ℕ) (starts rows columns pops stack : List ℕ) (held : Held) (do
   used =
       roomAt (getD pops done 0) (length (columnOf starts rows (getD columns done 0))) (entries (factorOf n starts rows) (heldIn (held .count) stack))
 
-  pub used-is : (room : ℕ) → roomIn (callOf n starts rows columns pops room []) (suc done) (stateOf held stack) ≡ used
+  pub used-is : (room : ℕ) → roomIn (runOf n starts rows columns pops room []) (suc done) (stateOf held stack) ≡ used
   unfolding roomIn rowsIn entries
-  used-is room = rw (pops-at (callOf n starts rows columns pops room []) done, column-at columns done)
+  used-is room = rw (pops-at (runOf n starts rows columns pops room []) done, column-at columns done)

@@ -20,30 +20,30 @@ abbrev pub stateOf : Held → List ℕ → State
 stateOf held stack = record { held = heldIn (held .count) stack; greatest = held .greatest }
 
 -- the call of a run
-abbrev pub callOf : ℕ → List ℕ → List ℕ → List ℕ → List ℕ → ℕ → List ℕ → RunCall
-callOf n starts rows columns pops room stack =
+abbrev pub runOf : ℕ → List ℕ → List ℕ → List ℕ → List ℕ → ℕ → List ℕ → RunCall
+runOf n starts rows columns pops room stack =
     record { n = n; starts = starts; rows = rows; columns = columns; pops = pops; room = room; stack = stack }
 
 -- the call without steps, for what depends on the factor alone
 abbrev pub factorOf : ℕ → List ℕ → List ℕ → RunCall
-factorOf n starts rows = callOf n starts rows [] [] 0 []
+factorOf n starts rows = runOf n starts rows [] [] 0 []
 
 -- the first k numbers of the stack list are columns of 1 to n
-abbrev pub Columns : ℕ → ℕ → List ℕ → Type 0
-Columns n k stack = (i : ℕ) → i < k → Column n (getD stack i 0)
+abbrev pub AllColumns : ℕ → ℕ → List ℕ → Type 0
+AllColumns n k stack = (i : ℕ) → i < k → Column n (getD stack i 0)
 
 -- the stack list holds columns of 1 to n, at most n of them, and the record counts the entries of their updates
 pub record Kept (n : ℕ) (starts rows stack : List ℕ) (held : Held) : Type 0 where
   pub few : held .count ≤ n
   pub listed : n ≤ length stack
-  pub columns : Columns n (held .count) stack
+  pub columns : AllColumns n (held .count) stack
   pub entries-are : held .entries ≡ sum (entries (factorOf n starts rows) (heldIn (held .count) stack))
 
 -- ---- what the functions require and promise
 
 -- the stack list holds columns up to this place, counted from 1
 pub record PlaceHeld (n : ℕ) (stack : List ℕ) (place : ℕ) : Type 0 where
-  pub columns : Columns n place stack
+  pub columns : AllColumns n place stack
   pub low : 1 ≤ place
   pub listed : place ≤ length stack
 

@@ -12,20 +12,20 @@ use Rattle.papers.specs.Lists.{_∈_, sum}
 use Rattle.papers.specs.Tree.{t}
 use Rattle.list_laws.proofs.Members.{at-place}
 use Rattle.order_laws.specs.Subtrees.{inTurn, butLast}
-use Rattle.order_laws.proofs.Greatest.{sum-append}
+use Rattle.order_laws.proofs.Largest.{sum-append}
 use Rattle.order_laws.proofs.Needs.{in-turn-next, but-last-next}
 use Rattle.tree.proofs.Sums.{sum-nil, sum-cons}
-use Rattle.room.specs.Rows.{rowsIn, Column, RowsOf, mostEntries}
+use Rattle.room.specs.Rows.{rowCountIn, ColumnStarts, RowsCounted, mostEntries}
 use Rattle.room.proofs.Entries.{entries-fit}
 use Rattle.sibling_keys.specs.Kids.{needAt, Kids}
 
 -- the first i children are done
-pub record Turned (factor rooms kids : List ℕ) (most before held i : ℕ) : Type 0 where
-  pub so-far : most ≡ inTurn (rowsIn factor) (λ c. getD rooms c 0) 0 (take i kids)
-  pub but-last : before ≡ butLast (rowsIn factor) (take i kids)
-  pub updates : held ≡ sum (map (λ c. t (rowsIn factor c)) (take i kids))
-  pub light : held ≤ i * mostEntries
-  pub lighter : before ≤ held
+pub record Turned (factor rooms kids : List ℕ) (most before below i : ℕ) : Type 0 where
+  pub so-far : most ≡ inTurn (rowCountIn factor) (λ c. getD rooms c 0) 0 (take i kids)
+  pub but-last : before ≡ butLast (rowCountIn factor) (take i kids)
+  pub updates : below ≡ sum (map (λ c. t (rowCountIn factor c)) (take i kids))
+  pub light : below ≤ i * mostEntries
+  pub lighter : before ≤ below
   pub seen : i ≤ length kids
 
 module _ (factor rooms kids : List ℕ) (j : ℕ) where
@@ -33,39 +33,39 @@ module _ (factor rooms kids : List ℕ) (j : ℕ) where
   unfolding inTurn butLast sum
   turned-start = record { so-far = refl; but-last = refl; updates = refl; light = omega arith; lighter = omega arith; seen = omega arith }
 
-  module _ {most before held i : ℕ} (inv : Turned factor rooms kids most before held i) where
+  module _ {most before below i : ℕ} (inv : Turned factor rooms kids most before below i) where
     -- all children are done: then the front is over the last update
-    pub turned-stop : length kids ≤ i → {u r : ℕ} → u ≡ t (rowsIn factor j + 1) → r ≡ max most (before + u) → r ≡ needAt factor rooms kids j
+    pub turned-stop : length kids ≤ i → {u r : ℕ} → u ≡ t (rowCountIn factor j + 1) → r ≡ max most (before + u) → r ≡ needAt factor rooms kids j
     turned-stop h {u} {r} eu er =
         let all : take i kids ≡ kids = take-all i kids h in
-        let a : most ≡ inTurn (rowsIn factor) (λ c. getD rooms c 0) 0 kids = rw all at (inv .so-far) in
-        let b : before ≡ butLast (rowsIn factor) kids = rw all at (inv .but-last) in
-        let e : u ≡ t (suc (rowsIn factor j)) = rw (add-one (rowsIn factor j)) at eu in
+        let a : most ≡ inTurn (rowCountIn factor) (λ c. getD rooms c 0) 0 kids = rw all at (inv .so-far) in
+        let b : before ≡ butLast (rowCountIn factor) kids = rw all at (inv .but-last) in
+        let e : u ≡ t (suc (rowCountIn factor j)) = rw (add-one (rowCountIn factor j)) at eu in
         rw (← a, ← b, ← e) er
 
     module _ (pre : Kids factor rooms kids j) (more : i < length kids) where
       child : getD kids i 0 ∈ kids
       child = at-place kids i more
 
-      pub turned-column : Column factor (getD kids i 0)
+      pub turned-column : ColumnStarts factor (getD kids i 0)
       turned-column = pre .column (getD kids i 0) child
 
       pub turned-known : getD kids i 0 < length rooms
       turned-known = pre .known (getD kids i 0) child
 
       -- the room of a child above the earlier updates does not exceed so many largest fronts
-      pub turned-light : held + getD rooms (getD kids i 0) 0 ≤ 2 * (maxColumns * mostEntries)
+      pub turned-light : below + getD rooms (getD kids i 0) 0 ≤ 2 * (maxColumns * mostEntries)
       turned-light = omega (arith, inv .light, pre .few, pre .light (getD kids i 0) child)
 
-      pub turned-turn : {m r v : ℕ} → m ≡ max most (held + getD rooms (getD kids i 0) 0) → RowsOf factor (getD kids i 0) r → v ≡ t r
-          → Turned factor rooms kids m held (held + v) (i + 1)
+      pub turned-turn : {m r v : ℕ} → m ≡ max most (below + getD rooms (getD kids i 0) 0) → RowsCounted factor (getD kids i 0) r → v ≡ t r
+          → Turned factor rooms kids m below (below + v) (i + 1)
       turned-turn {m} {r} {v} em er ev =
           let c = getD kids i 0 in
           let need : ℕ → ℕ = λ c. getD rooms c 0 in
-          let entries : ℕ → ℕ = λ c. t (rowsIn factor c) in
+          let entries : ℕ → ℕ = λ c. t (rowCountIn factor c) in
           let one : take (i + 1) kids ≡ take i kids ++ (c ∷ []) = rw add-one (take-suc kids i 0 more) in
-          let turn = in-turn-next (rowsIn factor) need 0 (take i kids) c in
-          let last = but-last-next (rowsIn factor) (take i kids) c in
+          let turn = in-turn-next (rowCountIn factor) need 0 (take i kids) c in
+          let last = but-last-next (rowCountIn factor) (take i kids) c in
           let sums : sum (map entries (take i kids ++ (c ∷ []))) ≡ sum (map entries (take i kids)) + entries c =
           rw (map-append entries (take i kids) (c ∷ []), sum-append (map entries (take i kids)) (entries c ∷ []))
           (omega (arith, sum-cons (entries c) [], sum-nil)) in

@@ -10,21 +10,21 @@ use Rattle.papers.specs.Tree.{t}
 use Rattle.papers.specs.Order.{siblingKey}
 use Rattle.order_laws.specs.Subtrees.{inTurn, butLast}
 use Rattle.list_laws.specs.Parts.{part}
-use Rattle.room.specs.Rows.{rowsIn, Column, mostEntries}
+use Rattle.room.specs.Rows.{rowCountIn, ColumnStarts, mostEntries}
 
 -- the key of child c of column j, where rooms holds the W of each column
 abbrev pub keyAt : ℕ → List ℕ → List ℕ → ℕ → ℕ → ℕ
-keyAt mark factor rooms j c = siblingKey mark (rowsIn factor j) (rowsIn factor c) (getD rooms c 0)
+keyAt mark factor rooms j c = siblingKey mark (rowCountIn factor j) (rowCountIn factor c) (getD rooms c 0)
 
 -- computes the W of column j from its children's, done in this order: each is above the updates of the earlier ones, and the front is over
 -- the update of the last
 abbrev pub needAt : List ℕ → List ℕ → List ℕ → ℕ → ℕ
-needAt factor rooms kids j = max (inTurn (rowsIn factor) (λ c. getD rooms c 0) 0 kids) (butLast (rowsIn factor) kids + t (suc (rowsIn factor j)))
+needAt factor rooms kids j = max (inTurn (rowCountIn factor) (λ c. getD rooms c 0) 0 kids) (butLast (rowCountIn factor) kids + t (suc (rowCountIn factor j)))
 
 -- column j and its children, whose W rooms holds; no W exceeds so many largest fronts
 pub record Kids (factor rooms kids : List ℕ) (j : ℕ) : Type 0 where
-  pub top : Column factor j
-  pub column : (c : ℕ) → c ∈ kids → Column factor c
+  pub top : ColumnStarts factor j
+  pub column : (c : ℕ) → c ∈ kids → ColumnStarts factor c
   pub known : (c : ℕ) → c ∈ kids → c < length rooms
   pub light : (c : ℕ) → c ∈ kids → getD rooms c 0 ≤ maxColumns * mostEntries
   pub few : length kids ≤ maxColumns

@@ -51,7 +51,7 @@ pub fn store_keys(
     }
 }
 
-// The W of column j, from those of its children, which are done in this order. In the loop held is the sum of the entries of the children's
+// The W of column j, from those of its children, which are done in this order. In the loop below is the sum of the entries of the children's
 // updates so far, and before the sum of all these but the last.
 pub fn room_alone(factor: &[u64], rooms: &[u64], kids: &[u32], j: usize) -> u64
     requires { ⌜ Kids (now factor) (now rooms) (now kids) j ⌝ }
@@ -59,13 +59,13 @@ pub fn room_alone(factor: &[u64], rooms: &[u64], kids: &[u32], j: usize) -> u64
 {
     let mut most = 0;
     let mut before = 0;
-    let mut held = 0;
+    let mut below = 0;
     let mut i = 0;
     while i < kids.len() {
         let c = kids[i] as usize;
-        most = basics::greater(most, held + rooms[c]);
-        before = held;
-        held = held + triangle::entries(room::rows_of(factor, c));
+        most = basics::greater(most, below + rooms[c]);
+        before = below;
+        below = below + triangle::entries(room::rows_of(factor, c));
         i += 1;
     }
     basics::greater(

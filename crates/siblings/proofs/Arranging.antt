@@ -12,8 +12,8 @@ use Rattle.list_laws.specs.Parts.{part}
 use Rattle.list_laws.proofs.Parts.{part-slice, part-length}
 use Rattle.tree.specs.Blocks.{kidsAt}
 use Rattle.tree.proofs.Blocks.{kids-are, arranged-zero}
-use Rattle.room.specs.Rows.{rowsIn}
-use Rattle.siblings.specs.Arranged.{siblingsAt, Placed, aloneIn, arrangedIn, startsIn, Arrangeable, AllArranged}
+use Rattle.room.specs.Rows.{rowCountIn}
+use Rattle.siblings.specs.Arranged.{siblingsAt, SiblingsPlaced, aloneIn, arrangedIn, startsIn, Arrangeable, AllArranged}
 use Rattle.siblings.proofs.Works.{alone-light}
 
 pub record Arranging (mark : ℕ) (factor list₀ work₀ list work : List ℕ) (scratch₀ scratch w k j : ℕ) : Type 0 where
@@ -41,7 +41,7 @@ module _ {mark : ℕ} {factor list₀ work₀ : List ℕ} {scratch₀ w k : ℕ}
 
   -- mark 0 leaves all lists as they are
   pub none-arranged : mark ≡ 0 → AllArranged mark factor list₀ work₀ list₀ work₀ w
-  none-arranged e = record { lists = λ j l u. rw e (sym (arranged-zero (rowsIn factor) kids _ j)); roots = refl; same = refl }
+  none-arranged e = record { lists = λ j l u. rw e (sym (arranged-zero (rowCountIn factor) kids _ j)); roots = refl; same = refl }
 
   pub arranging-start : Arranging mark factor list₀ work₀ list₀ work₀ scratch₀ scratch₀ w k 1
   arranging-start = record {
@@ -102,7 +102,7 @@ module _ {mark : ℕ} {factor list₀ work₀ : List ℕ} {scratch₀ w k : ℕ}
       known c m = let (l, u) = lower c m in inv .rooms c l u
 
       -- what arranging column j requires
-      pub arranging-placed : Placed factor list work scratch j w k
+      pub arranging-placed : SiblingsPlaced factor list work scratch j w k
       arranging-placed = record {
         kids = rw here (record {
           top = pre .family .column j (inv .low) more;

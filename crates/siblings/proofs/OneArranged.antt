@@ -13,15 +13,15 @@ use Rattle.list_laws.proofs.Tests.{Compare, below, level, above, compare}
 use Rattle.order_laws.proofs.Arranged.{arranged-length}
 use Rattle.tree.specs.Blocks.{kidsAt}
 use Rattle.tree.proofs.Blocks.{kids-are}
-use Rattle.room.specs.Rows.{rowsIn}
-use Rattle.siblings.specs.Arranged.{sortedIn, Arranged, aloneIn, arrangedIn, startsIn, Arrangeable}
+use Rattle.room.specs.Rows.{rowCountIn}
+use Rattle.siblings.specs.Arranged.{sortedIn, SiblingsArranged, aloneIn, arrangedIn, startsIn, Arrangeable}
 use Rattle.tree.proofs.Parts.{slice-behind, slice-before, slice-run}
 use Rattle.siblings.proofs.Works.{sorted-arranged, need-alone}
 use Rattle.siblings.proofs.Arranging.{Arranging, start-at, starts-rise, read, here, inside, rooms-length, known}
 
 module _ {mark : ℕ} {factor list₀ work₀ list work : List ℕ} {scratch₀ scratch w k j : ℕ} (pre : Arrangeable mark factor list₀ work₀ scratch₀ w k)
     (inv : Arranging mark factor list₀ work₀ list work scratch₀ scratch w k j) (more : j ≤ length list₀) {list′ work′ : List ℕ} {scratch′ : ℕ}
-    (d : Arranged mark factor list work list′ work′ j w k) (list-kept : length list′ ≡ length list) (work-kept : length work′ ≡ length work)
+    (d : SiblingsArranged mark factor list work list′ work′ j w k) (list-kept : length list′ ≡ length list) (work-kept : length work′ ≡ length work)
     (scratch-kept : scratch′ ≡ scratch)
   where
     abbrev n : ℕ
@@ -48,7 +48,7 @@ module _ {mark : ℕ} {factor list₀ work₀ list work : List ℕ} {scratch₀ 
 
     count : length (arrangedIn mark factor kids n j) ≡ e - a
     count =
-        arranged-length mark (rowsIn factor) kids _ j
+        arranged-length mark (rowCountIn factor) kids _ j
         ∙ rw (kids-are starts list₀ j, start-at pre j (omega arith), start-at pre (j + 1) (omega arith)) (length-slice a e list₀ (pre .inside j more))
 
     own-list : kidsAt starts list′ j ≡ arrangedIn mark factor kids n j

@@ -14,7 +14,7 @@ use Rattle.list_laws.proofs.SortOrder.{sort-same}
 use Rattle.list_laws.proofs.Parts.{part-length, part-at, part-same, part-set}
 use Rattle.sibling_sort.specs.Joining.{keyIn}
 use Rattle.sibling_keys.specs.Kids.{keyAt, needAt, Kids, Keyed}
-use Rattle.siblings.specs.Arranged.{Sortable, sortedBy, Sorted, siblingsAt, Placed, Arranged}
+use Rattle.siblings.specs.Arranged.{Sortable, sortedBy, SiblingsSorted, siblingsAt, SiblingsPlaced, SiblingsArranged}
 use Rattle.tree.proofs.Parts.{back-sets}
 
 -- another order has the same children
@@ -47,7 +47,7 @@ module _ (mark : ℕ) {factor kids work work₁ ys : List ℕ} {scratch j w k : 
     pub sorted-kids : Kids factor (part w k work₁) ys j
     sorted-kids = rw (rooms-same, sorted) (kids-sorted _ (pre .children))
 
-    pub sorted-done : {r : ℕ} → r ≡ needAt factor (part w k work₁) ys j → Sorted mark factor kids work ys (set work₁ (w + j) r) j w k
+    pub sorted-done : {r : ℕ} → r ≡ needAt factor (part w k work₁) ys j → SiblingsSorted mark factor kids work ys (set work₁ (w + j) r) j w k
     sorted-done {r} er =
         let need : r ≡ needAt factor (part w k work) (sortedBy mark factor kids work j w k) j = rw (rooms-same, sorted) at er in
         record {
@@ -58,7 +58,7 @@ module _ (mark : ℕ) {factor kids work work₁ ys : List ℕ} {scratch j w k : 
         }
 
 -- ---- in their place
-module _ {factor list work : List ℕ} {scratch j w k : ℕ} (pre : Placed factor list work scratch j w k) where
+module _ {factor list work : List ℕ} {scratch j w k : ℕ} (pre : SiblingsPlaced factor list work scratch j w k) where
   abbrev a : ℕ
   a = getD work j 0
 
@@ -72,8 +72,8 @@ module _ {factor list work : List ℕ} {scratch j w k : ℕ} (pre : Placed facto
   pub placed-kids : Sortable factor (siblingsAt work list j) work scratch j w k
   placed-kids = record { children = pre .kids; own = pre .own; room = pre .room; enough = omega (arith, kids-length, pre .inside, pre .enough) }
 
-  pub placed-done : {mark : ℕ} {ys work′ : List ℕ} → Sorted mark factor (siblingsAt work list j) work ys work′ j w k
-      → Arranged mark factor list work (take a list ++ (ys ++ drop (e - a) (drop a list))) work′ j w k
+  pub placed-done : {mark : ℕ} {ys work′ : List ℕ} → SiblingsSorted mark factor (siblingsAt work list j) work ys work′ j w k
+      → SiblingsArranged mark factor list work (take a list ++ (ys ++ drop (e - a) (drop a list))) work′ j w k
   placed-done {mark} {ys} d =
       let l : length ys ≡ e - a = ap length (d .sorted) ∙ (sort-length _ (siblingsAt work list j) ∙ kids-length) in
       record { lists = back-sets list ys a e (pre .rise) (pre .inside) l ∙ ap (sets list a) (d .sorted); rooms = d .rooms; same = d .same }

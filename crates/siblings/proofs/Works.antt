@@ -13,11 +13,11 @@ use Rattle.papers.specs.Order.{siblingKey, alone, arranged, stepsOf}
 use Rattle.list_laws.proofs.Sorts.{sort-elements}
 use Rattle.list_laws.proofs.SortOrder.{sort-same}
 use Rattle.order_laws.specs.Subtrees.{inTurn}
-use Rattle.order_laws.proofs.Greatest.{greatest-least}
+use Rattle.order_laws.proofs.Largest.{largest-least}
 use Rattle.order_laws.proofs.Arranged.{steps-enough}
 use Rattle.order_laws.proofs.RoomBounds.{rooms-bound}
 use Rattle.order_laws.proofs.Needs.{need-children}
-use Rattle.room.specs.Rows.{rowsIn, mostEntries}
+use Rattle.room.specs.Rows.{rowCountIn, mostEntries}
 use Rattle.room.proofs.Entries.{entries-fit}
 use Rattle.sibling_keys.specs.Kids.{keyAt, needAt}
 use Rattle.siblings.specs.Arranged.{Family, aloneIn, arrangedIn}
@@ -34,12 +34,12 @@ module _ {mark : ℕ} {factor : List ℕ} {kids : ℕ → List ℕ} {n : ℕ} (f
   pub alone-light : (j : ℕ) → 0 < j → j ≤ n → aloneIn mark factor kids n j ≤ maxColumns * mostEntries
   unfolding alone peakOf
   alone-light j l u =
-      let steps = stepsOf mark (rowsIn factor) kids n j in
+      let steps = stepsOf mark (rowCountIn factor) kids n j in
       let pops : ℕ → ℕ = λ i. length (kids i) in
       omega (
         arith,
-        greatest-least (rooms (rowsIn factor) pops [] steps) (n * mostEntries)
-            (rooms-bound (rowsIn factor) pops n mostEntries [] steps (λ i m. entries-fit (suc (rowsIn factor i)) (omega (arith, family .rows i)))
+        largest-least (rooms (rowCountIn factor) pops [] steps) (n * mostEntries)
+            (rooms-bound (rowCountIn factor) pops n mostEntries [] steps (λ i m. entries-fit (suc (rowCountIn factor i)) (omega (arith, family .rows i)))
             (λ x m. absurd (List·Memᴰ·not-nil m)) (omega (arith, family .short j l u))),
         family .few,
       )
@@ -48,7 +48,7 @@ module _ {mark : ℕ} {factor : List ℕ} {kids : ℕ → List ℕ} {n : ℕ} (f
     -- sorting the children by the keys gives their order by the mark
     pub sorted-arranged : sort (keyAt mark factor rooms j) (kids j) ≡ arrangedIn mark factor kids n j
     unfolding arranged
-    sorted-arranged = sort-same _ _ (kids j) (λ c m. ap (siblingKey mark (rowsIn factor j) (rowsIn factor c)) (known c m))
+    sorted-arranged = sort-same _ _ (kids j) (λ c m. ap (siblingKey mark (rowCountIn factor j) (rowCountIn factor c)) (known c m))
 
     -- the W computed from the children's is that of the column
     pub need-alone : needAt factor rooms (arrangedIn mark factor kids n j) j ≡ aloneIn mark factor kids n j
@@ -56,7 +56,7 @@ module _ {mark : ℕ} {factor : List ℕ} {kids : ℕ → List ℕ} {n : ℕ} (f
     need-alone =
         let cs = arrangedIn mark factor kids n j in
         let own : ℕ → ℕ = λ c. aloneIn mark factor kids n c in
-        let same = in-turn-same (rowsIn factor) (λ c. getD rooms c 0) own 0 cs (λ c m. known c (sort-elements _ c (kids j) .0 m)) in
-        let deeper = ap (peakOf (rowsIn factor) (λ i. length (kids i))) (steps-enough mark (rowsIn factor) kids (family .kin .lower) n (suc n) j low
+        let same = in-turn-same (rowCountIn factor) (λ c. getD rooms c 0) own 0 cs (λ c m. known c (sort-elements _ c (kids j) .0 m)) in
+        let deeper = ap (peakOf (rowCountIn factor) (λ i. length (kids i))) (steps-enough mark (rowCountIn factor) kids (family .kin .lower) n (suc n) j low
         high (omega arith)) in
-        rw same (sym (deeper ∙ need-children mark (rowsIn factor) kids (family .kin) n j low (omega arith)))
+        rw same (sym (deeper ∙ need-children mark (rowCountIn factor) kids (family .kin) n j low (omega arith)))

@@ -11,7 +11,7 @@ use Rattle.papers.specs.Order.{alone, arranged, stepsOf}
 use Rattle.list_laws.specs.Parts.{part}
 use Rattle.order_laws.specs.Subtrees.{Kin}
 use Rattle.tree.specs.Blocks.{kidsAt}
-use Rattle.room.specs.Rows.{rowsIn, Column}
+use Rattle.room.specs.Rows.{rowCountIn, ColumnStarts}
 use Rattle.sibling_keys.specs.Kids.{keyAt, needAt, Kids}
 
 -- ---- the children of one column: work holds the W of the columns from w to k, and has room for the keys behind them
@@ -27,7 +27,7 @@ abbrev pub sortedBy : ℕ → List ℕ → List ℕ → List ℕ → ℕ → ℕ
 sortedBy mark factor kids work j w k = sort (keyAt mark factor (part w k work) j) kids
 
 -- the children are sorted, and the W of j is stored in its place; the places before the W keep their numbers
-pub record Sorted (mark : ℕ) (factor kids work kids′ work′ : List ℕ) (j w k : ℕ) : Type 0 where
+pub record SiblingsSorted (mark : ℕ) (factor kids work kids′ work′ : List ℕ) (j w k : ℕ) : Type 0 where
   pub sorted : kids′ ≡ sortedBy mark factor kids work j w k
   pub rooms : part w k work′ ≡ set (part w k work) j (needAt factor (part w k work) (sortedBy mark factor kids work j w k) j)
   pub same : take w work′ ≡ take w work
@@ -38,7 +38,7 @@ pub record Sorted (mark : ℕ) (factor kids work kids′ work′ : List ℕ) (j 
 abbrev pub siblingsAt : List ℕ → List ℕ → ℕ → List ℕ
 siblingsAt work list j = part (getD work j 0) (getD work (j + 1) 0) list
 
-pub record Placed (factor list work : List ℕ) (scratch j w k : ℕ) : Type 0 where
+pub record SiblingsPlaced (factor list work : List ℕ) (scratch j w k : ℕ) : Type 0 where
   pub kids : Kids factor (part w k work) (siblingsAt work list j) j
   pub rise : getD work j 0 ≤ getD work (j + 1) 0
   pub inside : getD work (j + 1) 0 ≤ length list
@@ -52,7 +52,7 @@ abbrev pub sortedIn : ℕ → List ℕ → List ℕ → List ℕ → ℕ → ℕ
 sortedIn mark factor list work j w k = sortedBy mark factor (siblingsAt work list j) work j w k
 
 -- they are stored in their place, and the W of j in its own; the places before the W keep their numbers
-pub record Arranged (mark : ℕ) (factor list work list′ work′ : List ℕ) (j w k : ℕ) : Type 0 where
+pub record SiblingsArranged (mark : ℕ) (factor list work list′ work′ : List ℕ) (j w k : ℕ) : Type 0 where
   pub lists : list′ ≡ sets list (getD work j 0) (sortedIn mark factor list work j w k)
   pub rooms : part w k work′ ≡ set (part w k work) j (needAt factor (part w k work) (sortedIn mark factor list work j w k) j)
   pub same : take w work′ ≡ take w work
@@ -61,19 +61,19 @@ pub record Arranged (mark : ℕ) (factor list work list′ work′ : List ℕ) (
 
 -- lists of children: children are lower columns and have rows; no subtree has more than n steps
 pub record Family (mark : ℕ) (factor : List ℕ) (kids : ℕ → List ℕ) (n : ℕ) : Type 0 where
-  pub kin : Kin (rowsIn factor) kids
-  pub column : (j : ℕ) → 0 < j → j ≤ n → Column factor j
-  pub rows : (j : ℕ) → rowsIn factor j ≤ maxColumns
-  pub short : (j : ℕ) → 0 < j → j ≤ n → length (stepsOf mark (rowsIn factor) kids n j) ≤ n
+  pub kin : Kin (rowCountIn factor) kids
+  pub column : (j : ℕ) → 0 < j → j ≤ n → ColumnStarts factor j
+  pub rows : (j : ℕ) → rowCountIn factor j ≤ maxColumns
+  pub short : (j : ℕ) → 0 < j → j ≤ n → length (stepsOf mark (rowCountIn factor) kids n j) ≤ n
   pub few : n ≤ maxColumns
 
 -- the W of column j
 abbrev pub aloneIn : ℕ → List ℕ → (ℕ → List ℕ) → ℕ → ℕ → ℕ
-aloneIn mark factor kids n j = alone (rowsIn factor) kids (stepsOf mark (rowsIn factor) kids n j)
+aloneIn mark factor kids n j = alone (rowCountIn factor) kids (stepsOf mark (rowCountIn factor) kids n j)
 
 -- the children of j by the mark
 abbrev pub arrangedIn : ℕ → List ℕ → (ℕ → List ℕ) → ℕ → ℕ → List ℕ
-arrangedIn mark factor kids n j = arranged mark (rowsIn factor) kids (stepsOf mark (rowsIn factor) kids n) j
+arrangedIn mark factor kids n j = arranged mark (rowCountIn factor) kids (stepsOf mark (rowCountIn factor) kids n) j
 
 -- the starts of the lists: the first numbers of work, two more than there are columns
 abbrev pub startsIn : List ℕ → List ℕ → List ℕ

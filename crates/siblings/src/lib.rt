@@ -1,6 +1,6 @@
 // Arranges siblings by the mark: sorts each list by its keys, in its place, and stores the W of each column.
 ghost use lib.ListN.{length};
-ghost use Rattle.siblings.specs.Arranged.{Sortable, Sorted, Placed, Arranged, Arrangeable, AllArranged};
+ghost use Rattle.siblings.specs.Arranged.{Sortable, SiblingsSorted, SiblingsPlaced, SiblingsArranged, Arrangeable, AllArranged};
 
 // Sorts the children of column j by the mark and stores the W of j: computes the keys, sorts, and computes W from the sorted children.
 fn sort_kids(
@@ -15,7 +15,7 @@ fn sort_kids(
 )
     requires { ⌜ Sortable (now factor) (now kids) (now work) (length (now scratch)) j w k ⌝ }
     ensures { λ _. ⌜
-        Sorted mark (now (factor .entry)) (now (kids .entry)) (now (work .entry)) (now (kids .exit)) (now (work .exit)) j w k
+        SiblingsSorted mark (now (factor .entry)) (now (kids .entry)) (now (work .entry)) (now (kids .exit)) (now (work .exit)) j w k
         ⌝ }
 {
     sibling_keys::store_keys(mark, factor, kids, j, work, w, k);
@@ -34,9 +34,9 @@ fn arrange_at(
     w: usize,
     k: usize,
 )
-    requires { ⌜ Placed (now factor) (now list) (now work) (length (now scratch)) j w k ⌝ }
+    requires { ⌜ SiblingsPlaced (now factor) (now list) (now work) (length (now scratch)) j w k ⌝ }
     ensures { λ _. ⌜
-        Arranged mark (now (factor .entry)) (now (list .entry)) (now (work .entry)) (now (list .exit)) (now (work .exit)) j w k
+        SiblingsArranged mark (now (factor .entry)) (now (list .entry)) (now (work .entry)) (now (list .exit)) (now (work .exit)) j w k
         ⌝ }
 {
     let a = work[j] as usize;

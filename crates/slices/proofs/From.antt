@@ -1,4 +1,4 @@
--- Proves that clearing the places from one on keeps those before it; so a result at the front of a slice is then followed by zeros.
+-- Proves that clearing the places from one on keeps those before it; so a result at the start of a slice is then followed by zeros.
 -- Assumes nothing.
 use Prim.Native.Nat.{ℕ, _+_, _-_, _≤_}
 use mathlib.Core.Path.{_≡_}
@@ -18,7 +18,7 @@ cleared-from k l {rest} h z =
     let many : length (take (length l - k) (drop k l)) ≡ length (drop k l) = omega (arith, length-take (length l - k) (drop k l), length-drop k l) in
     rw (last, append-nil rest, z, many)
 
--- once the places behind it are cleared, a result of k numbers at the front is followed by zeros
+-- once the places behind it are cleared, a result of k numbers at the start is followed by zeros
 pub stored-from : {k : ℕ} (xs l : List ℕ) → length xs ≡ k → k ≤ length l → zerosFrom k (sets l 0 xs) ≡ thenZeros xs l
 unfolding zerosFrom thenZeros
 stored-from {k} xs l e h =

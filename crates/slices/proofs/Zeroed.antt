@@ -10,17 +10,17 @@ use Rattle.papers.specs.Lists.{zeros}
 
 -- the first i places are zero in s, and the others are as in s₀
 pub record Zeroed (s₀ s : List ℕ) (i : ℕ) : Type 0 where
-  pub front : s ≡ replicate i 0 ++ drop i s₀
+  pub zeroed : s ≡ replicate i 0 ++ drop i s₀
   pub passed : i ≤ length s₀
   pub long : length s ≡ length s₀
 
-pub start : (s : List ℕ) → Zeroed s s 0
-start s = record { front = refl; passed = omega arith; long = refl }
+pub zeroed-start : (s : List ℕ) → Zeroed s s 0
+zeroed-start s = record { zeroed = refl; passed = omega arith; long = refl }
 
 pub turn : {s₀ s : List ℕ} {i : ℕ} → Zeroed s₀ s i → i < length s → Zeroed s₀ (set s i 0) (i + 1)
 turn {s₀} {s} {i} z h =
     let l = z .long in
-    record { front = ap (λ (d : List ℕ). set d i 0) (z .front) ∙ fill-more i 0 s₀ (omega arith); passed = omega arith; long = length-set s i 0 ∙ l }
+    record { zeroed = ap (λ (d : List ℕ). set d i 0) (z .zeroed) ∙ fill-more i 0 s₀ (omega arith); passed = omega arith; long = length-set s i 0 ∙ l }
 
 pub stop : {s₀ s : List ℕ} {i : ℕ} → Zeroed s₀ s i → length s ≤ i → s ≡ zeros s₀
 stop {s₀} {s} {i} z h =
@@ -28,4 +28,4 @@ stop {s₀} {s} {i} z h =
     let p = z .passed in
     let e : i ≡ length s₀ = omega arith in
     let q : length s₀ ≤ i = omega arith in
-    z .front ∙ rw (drop-of-length-le s₀ q, append-nil, e)
+    z .zeroed ∙ rw (drop-of-length-le s₀ q, append-nil, e)

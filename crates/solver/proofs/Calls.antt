@@ -6,12 +6,13 @@ use mathlib.Core.Path.{_≡_, sym, ap}
 use mathlib.Core.Logic.{_⊎_}
 use mathlib.Core.List.{List}
 use Rattle.papers.specs.Bounds.{programColumns, programRows}
-use Rattle.papers.specs.Plan.{bad}
-use Rattle.papers.specs.Call.{readKey, solverAnswer, called}
+use Rattle.papers.specs.Numbers.{bad}
+use Rattle.papers.specs.Key.{readKey}
+use Rattle.papers.specs.Call.{solverAnswer, called}
 use Rattle.papers.specs.declared.Answer.{Answer}
 use Rattle.papers.specs.declared.JobHead.{JobHead}
-use Rattle.refusal_laws.proofs.Bounded.{Within}
-use Rattle.refusal_laws.proofs.Called.{call-unreadable, call-over, call-bounded}
+use Rattle.call_laws.proofs.Bounded.{Within}
+use Rattle.call_laws.proofs.Called.{call-unreadable, call-over, call-bounded}
 use Rattle.read_key.specs.Keys.{KeyParts}
 
 module _ (key plan : List ℕ) where

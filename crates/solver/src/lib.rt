@@ -11,7 +11,7 @@ ghost use Rattle.solver.specs.Within.{WithinSizes};
 
 // Checks a plan's bytes for a job, in zeroed buffers of the program's sizes.
 fn check_in_buffers(head: JobHead, starts: &[u64], rows: &[u32], plan: &[u8]) -> Answer
-    ensures { λ r. ⌜ r ≡ checked (jobOf head (now (starts .entry)) (now (rows .entry))) (now (plan .entry)) buffers .answer ⌝ }
+    ensures { λ r. ⌜ r ≡ checked (jobOf head (now (starts .entry)) (now (rows .entry))) (now (plan .entry)) buffers .answered ⌝ }
 {
     let mut parents = [0u32; program_sizes::COLUMNS];
     let mut order = [0u32; program_sizes::COLUMNS];

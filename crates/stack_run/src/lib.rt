@@ -1,16 +1,14 @@
 // The entry point of the run of a plan's steps on a stack of updates.
 use papers::Answer;
 ghost use mathlib.Core.Path.{_≡_};
-ghost use mathlib.Core.Bool.{_||_};
-ghost use lib.Dec.{ltb};
-ghost use lib.ListN.{length};
 ghost use Rattle.papers.specs.Refusals.{EndsAs};
-ghost use Rattle.papers.specs.Run.{ran};
+ghost use Rattle.papers.specs.Analysis.{someShort};
+ghost use Rattle.papers.specs.Run.{runFixed, ran};
 
 // Test 7: whether columns, pops or stack list have fewer than n places.
 fn too_short(n: u64, columns: &[u32], pops: &[u32], stack: &[u32]) -> bool
     ensures { λ r. ⌜
-        r ≡ (ltb (length (now (columns .entry))) n || ltb (length (now (pops .entry))) n || ltb (length (now (stack .entry))) n)
+        r ≡ someShort (runFixed n (now (columns .entry)) (now (pops .entry)) (now (stack .entry)))
         ⌝ }
 {
     if (columns.len() as u64) < n {

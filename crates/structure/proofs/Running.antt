@@ -10,9 +10,9 @@ use lib.ListN.{length, getD, set, length-set, length-map}
 use lib.Seq.{sets, length-sets, getD-set-same, set-set}
 use Rattle.papers.specs.Lists.{head0, upTo, flat, startsFrom, zeros}
 use Rattle.papers.specs.Job.{Pattern, Below, columnOf}
-use Rattle.papers.specs.Key.{listsOf}
 use Rattle.papers.specs.Fill.{R}
 use Rattle.papers.specs.Tree.{parent}
+use Rattle.papers.specs.Key.{listsOf}
 use Rattle.list_laws.proofs.Ascending.{asc-length}
 use Rattle.list_laws.proofs.UpTo.{length-upTo}
 use Rattle.list_laws.proofs.Stores.{sets-append, length-starts, starts-again}
@@ -22,16 +22,16 @@ use Rattle.column_laws.specs.Tested.{Tested}
 use Rattle.column_laws.proofs.Columns.{tested-below}
 use Rattle.column_laws.proofs.Families.{flat-more, length-more, starts-next}
 use Rattle.list_laws.proofs.UpTo.{map-upTo}
-use Rattle.child_lists.specs.Buffers.{held}
-use Rattle.column_list.specs.Stored.{rowsTo, Stored, Gatherable, Gathers, Buffered}
-use Rattle.structure.specs.Listed.{Storable, Stores, Listable, Listed}
+use Rattle.child_lists.specs.Buffers.{listInTurn}
+use Rattle.column_list.specs.Stored.{rowsTo, ListsStored, Gatherable, Gathers, Buffered}
+use Rattle.structure.specs.Listed.{Storable, Stores, Listable, ColumnsListed}
 use Rattle.structure.proofs.Storing.{parent-is, stored-none, lacks, storable, stored-on}
 
 -- m columns are done, and the first start in s₀ is 0
 pub record Running (n : ℕ) (starts rows p₀ s₀ f₀ w₀ x₀ y₀ p s f w x y : List ℕ) (m : ℕ) : Type 0 where
   pub tested : Tested n starts rows
   pub most : m ≤ n
-  pub stored : Stored n m (columnOf starts rows) s f w
+  pub stored : ListsStored n m (columnOf starts rows) s f w
   pub parents-are : p ≡ sets p₀ 0 (map (parent (columnOf starts rows)) (upTo m))
   pub starts-are : s ≡ sets s₀ 0 (startsFrom 0 (listsOf m (R (columnOf starts rows))))
   pub rows-are : f ≡ sets f₀ 0 (rowsTo (columnOf starts rows) m)
@@ -92,7 +92,7 @@ module _ {n m : ℕ} {starts rows p₀ s₀ f₀ w₀ x₀ y₀ p s f w x y : Li
   run-end = (omega (arith, r .stored .starts-are m (omega arith), r .stored .rows-fit), omega (arith, r .stored .starts-long, r .most))
 
   -- the lists of the columns done
-  listed : {s₁ : List ℕ} → s₀ ≡ set s₁ 0 0 → (m < n → length f < length (rowsTo A (suc m))) → Listed n m A p₀ s₁ f₀ p s f
+  listed : {s₁ : List ℕ} → s₀ ≡ set s₁ 0 0 → (m < n → length f < length (rowsTo A (suc m))) → ColumnsListed n m A p₀ s₁ f₀ p s f
   listed {s₁} e h =
       record {
         most = r .most;
@@ -105,22 +105,22 @@ module _ {n m : ℕ} {starts rows p₀ s₀ f₀ w₀ x₀ y₀ p s f w x y : Li
 
   -- the next list does not fit
   pub run-short : {s₁ w₁ x₁ y₁ : List ℕ} {turn len : ℕ} → s₀ ≡ set s₁ 0 0 → m < n → Gathers n m A w w₁ x₁ y₁ turn len
-      → length f - getD s m 0 < len → Listed n m A p₀ s₁ f₀ p s f
+      → length f - getD s m 0 < len → ColumnsListed n m A p₀ s₁ f₀ p s f
   run-short e l g h = listed e (λ k. lacks good (r .stored) l (R A (m + 1)) refl (rw (← g .holds .count) h))
 
   -- all columns are done
-  pub run-all : {s₁ : List ℕ} → s₀ ≡ set s₁ 0 0 → n ≤ m → Listed n n A p₀ s₁ f₀ p s f
+  pub run-all : {s₁ : List ℕ} → s₀ ≡ set s₁ 0 0 → n ≤ m → ColumnsListed n n A p₀ s₁ f₀ p s f
   run-all {s₁} e l = let z : m ≡ n = omega (arith, r .most) in rw z at (listed {s₁ = s₁} e (λ k. absurd (omega arith)))
 
   -- ---- column m + 1
 
   module _ (l : m < n) {w₁ x₁ y₁ : List ℕ} {turn len : ℕ} (g : Gathers n m A w w₁ x₁ y₁ turn len) where
-    pub run-held : length x₁ ≡ length x → length y₁ ≡ length y → Buffered len x₁ y₁
-    run-held lx ly =
+    pub run-buffered : length x₁ ≡ length x → length y₁ ≡ length y → Buffered len x₁ y₁
+    run-buffered lx ly =
         let k = asc-length n (m + 1) (R A (m + 1)) (R-asc good (m + 1)) (λ i t. R-range good (m + 1) i t .1) in
         record { in-x = omega (arith, g .holds .count, r .long-x, r .room-x); in-y = omega (arith, g .holds .count, r .long-y, r .room-y) }
 
-    module _ {list : List ℕ} (q : list ≡ held turn len x₁ y₁) (h : len ≤ length f - getD s m 0) where
+    module _ {list : List ℕ} (q : list ≡ listInTurn turn len x₁ y₁) (h : len ≤ length f - getD s m 0) where
       is : list ≡ R A (m + 1)
       is = q ∙ g .holds .list
 
@@ -162,7 +162,7 @@ module _ {n m : ℕ} {starts rows p₀ s₀ f₀ w₀ x₀ y₀ p s f w x y : Li
             long-y = ly ∙ r .long-y;
           }
         where
-          on : Stored n (suc m) A s₁ f₁ w₂
+          on : ListsStored n (suc m) A s₁ f₁ w₂
           on = stored-on good (r .stored) l list is room w₁ (g .changed) lw k
 
           next : R A (m + 1) ≡ R A (suc m)

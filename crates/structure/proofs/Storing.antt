@@ -20,7 +20,7 @@ use Rattle.column_laws.proofs.Families.{flat-more, length-more}
 use Rattle.child_lists.specs.Marks.{Changed, Fresh}
 use Rattle.column_laws.proofs.Chains.{chain-ext}
 use Rattle.column_list.specs.Hung.{hung}
-use Rattle.column_list.specs.Stored.{rowsTo, Stored}
+use Rattle.column_list.specs.Stored.{rowsTo, ListsStored}
 use Rattle.column_list.proofs.Hung.{hung-none, hung-from}
 use Rattle.structure.specs.Hanging.{hanging}
 use Rattle.structure.specs.Listed.{Storable, Stores}
@@ -45,7 +45,7 @@ parent-is A j = refl
 -- ---- before the first column: no list, and no column is hung
 
 pub stored-none : {n : ℕ} (A : Pattern) (fs fr w w₁ : List ℕ) → n < length fs → getD fs 0 0 ≡ 0 → n + n + n < length w → w₁ ≡ zeros w
-    → Stored n 0 A fs fr w₁
+    → ListsStored n 0 A fs fr w₁
 unfolding flat
 stored-none A fs fr w w₁ long z hw e =
     record {
@@ -63,7 +63,7 @@ stored-none A fs fr w w₁ long z hw e =
 
 -- ---- column m + 1
 
-module _ {n m : ℕ} {A : Pattern} {fs fr w : List ℕ} (good : Below n A) (st : Stored n m A fs fr w) (mn : m < n) (list : List ℕ)
+module _ {n m : ℕ} {A : Pattern} {fs fr w : List ℕ} (good : Below n A) (st : ListsStored n m A fs fr w) (mn : m < n) (list : List ℕ)
     (is : list ≡ R A (m + 1)) where
   ends : getD fs m 0 + length list ≡ length (rowsTo A (suc m))
   ends = omega (arith, st .starts-are m (omega arith), length-more (R A) m, ap length (rw add-one at is))
@@ -103,7 +103,7 @@ module _ {n m : ℕ} {A : Pattern} {fs fr w : List ℕ} (good : Below n A) (st :
       fresh p l = ⊎-elim (λ (e : getD w₁ p 0 ≡ getD w p 0). omega (arith, st .fresh p l)) (λ (e : getD w₁ p 0 ≡ m + 1). omega arith) (c .marks p l)
 
       -- stores one column more
-      pub stored-on : {p p′ fs′ fr′ w₂ : List ℕ} → Stores n m list p fs fr w₁ p′ fs′ fr′ w₂ → Stored n (suc m) A fs′ fr′ w₂
+      pub stored-on : {p p′ fs′ fr′ w₂ : List ℕ} → Stores n m list p fs fr w₁ p′ fs′ fr′ w₂ → ListsStored n (suc m) A fs′ fr′ w₂
       stored-on {p} {p′} {fs′} {fr′} {w₂} s =
           record {
             rows-fit = rw rows-now (omega (arith, length-sets fr (length (rowsTo A m)) (R A (suc m)), ends, fits));

@@ -7,9 +7,9 @@ use lib.ListN.{length, getD, set}
 use lib.Seq.{sets}
 use Rattle.papers.specs.Lists.{head0, upTo, flat, startsFrom}
 use Rattle.papers.specs.Job.{Pattern}
-use Rattle.papers.specs.Key.{listsOf}
 use Rattle.papers.specs.Fill.{R}
 use Rattle.papers.specs.Tree.{parent}
+use Rattle.papers.specs.Key.{listsOf}
 use Rattle.column_laws.specs.Tested.{Tested}
 use Rattle.structure.specs.Hanging.{hanging}
 
@@ -43,7 +43,7 @@ pub record Listable (n : ℕ) (starts rows parents fstarts x y work : List ℕ) 
   pub lengths : Lengths n parents fstarts x y work
 
 -- r columns are done: all n, or as many as fit
-pub record Listed (n r : ℕ) (A : Pattern) (parents₀ fstarts₀ frows₀ parents fstarts frows : List ℕ) : Type 0 where
+pub record ColumnsListed (n r : ℕ) (A : Pattern) (parents₀ fstarts₀ frows₀ parents fstarts frows : List ℕ) : Type 0 where
   pub most : r ≤ n
   pub lacks : r < n → length frows₀ < length (flat (listsOf (suc r) (R A)))
   pub fits : length (flat (listsOf r (R A))) ≤ length frows₀

@@ -4,7 +4,7 @@ ghost use mathlib.Core.Path.{_≡_};
 ghost use Rattle.papers.specs.Lists.{head0};
 ghost use Rattle.papers.specs.Job.{columnOf};
 ghost use Rattle.structure.specs.Hanging.{hanging, Hangable};
-ghost use Rattle.structure.specs.Listed.{Storable, Stores, Listable, Listed};
+ghost use Rattle.structure.specs.Listed.{Storable, Stores, Listable, ColumnsListed};
 
 // Hangs column c under its parent p, before the children that p has already. A root is not hung.
 pub fn hang(n: usize, p: usize, c: usize, work: &mut [u64])
@@ -66,7 +66,7 @@ pub fn column_lists(
 ) -> usize
     requires { ⌜ Listable n (now starts) (now rows) (now parents) (now fstarts) (now x) (now y) (now work) ⌝ }
     ensures { λ r. ⌜
-        Listed n r (columnOf (now (starts .entry)) (now (rows .entry))) (now (parents .entry)) (now (fstarts .entry))
+        ColumnsListed n r (columnOf (now (starts .entry)) (now (rows .entry))) (now (parents .entry)) (now (fstarts .entry))
         (now (frows .entry)) (now (parents .exit)) (now (fstarts .exit)) (now (frows .exit))
         ⌝ }
 {

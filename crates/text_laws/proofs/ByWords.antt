@@ -8,7 +8,7 @@ use mathlib.Core.Logic.{_↔_, inl, inr}
 use mathlib.Core.List.{List, [], _∷_, _++_, append-assoc}
 use native.Mathlib.Omega.{arith}
 use Rattle.papers.specs.Text.{newline, space, afterLines, numbersAt, decimalOf, printed}
-use Rattle.text_laws.specs.Grammar.{All, Digit, Short, Ends, behind}
+use Rattle.text_laws.specs.Grammar.{All, DigitByte, Short, Ends, behind}
 use Rattle.text_laws.proofs.Parts.{all-map, split}
 use Rattle.text_laws.proofs.Decimals.{decimal-digits, decimal-injective}
 use Rattle.text_laws.proofs.Lines.{after-line, after-part}
@@ -33,7 +33,7 @@ behind-more xs zs [] = refl
 behind-more xs [] (y ∷ ys) = sym (append-assoc xs [] (y ∷ ys))
 behind-more xs (z ∷ zs) (y ∷ ys) = sym (append-assoc xs (z ∷ zs) (y ∷ ys))
 
--- ---- a number in front of a byte that ends it
+-- ---- a number before a byte that ends it
 
 printed-last : (x : ℕ) (rest : List ℕ) → printed (decimalOf x) [] ++ rest ≡ decimalOf x ++ (newline ∷ rest)
 unfolding printed
@@ -43,14 +43,14 @@ printed-more : (x y : ℕ) (ys rest : List ℕ) → printed (decimalOf x) (y ∷
 unfolding printed
 printed-more x y ys rest = append-assoc (decimalOf x) (space ∷ printed (decimalOf y) ys) rest
 
-pub no-digit : (b : ℕ) → Ends b → ¬ Digit b
+pub no-digit : (b : ℕ) → Ends b → ¬ DigitByte b
 no-digit b (inl e) d = omega arith
 no-digit b (inr e) d = omega arith
 
 -- the first number is determined, and so is what follows
 pub first-fixed : (x y b c : ℕ) (u v : List ℕ) → Ends b → Ends c → decimalOf x ++ (b ∷ u) ≡ decimalOf y ++ (c ∷ v) → (x ≡ y) × (b ≡ c) × (u ≡ v)
 first-fixed x y b c u v p q e =
-    let (w, f, g) = split Digit (decimalOf x) (decimalOf y) b c u v (decimal-digits x) (decimal-digits y) (no-digit b p) (no-digit c q) e in
+    let (w, f, g) = split DigitByte (decimalOf x) (decimalOf y) b c u v (decimal-digits x) (decimal-digits y) (no-digit b p) (no-digit c q) e in
     (decimal-injective x y w, f, g)
 
 -- the first number of a line is followed by such a byte

@@ -13,7 +13,7 @@ use borrow.Author.Tests.{lt-ltb, le-ltb, le-leb, leb-true}
 use Rattle.papers.specs.Lists.{every}
 use Rattle.papers.specs.Text.{digit, isDigit, valueOf, digitsOf, decimalOf}
 use Rattle.list_laws.proofs.Tests.{below-or, strong, and-iff}
-use Rattle.text_laws.specs.Grammar.{All, Digit}
+use Rattle.text_laws.specs.Grammar.{All, DigitByte}
 use Rattle.text_laws.proofs.Parts.{all-append, all-map, every-iff}
 
 -- ---- the digits of a number
@@ -68,20 +68,20 @@ decimal-each P small more = strong (λ x. P x (decimalOf x)) (λ x ih. go x ih (
 
 -- ---- digits
 
-pub digit-iff : (b : ℕ) → (isDigit b ≡ true) ↔ Digit b
+pub digit-iff : (b : ℕ) → (isDigit b ≡ true) ↔ DigitByte b
 unfolding isDigit
 digit-iff b =
     let i = and-iff _ _ in
     (λ e. (leb-true (digit 0) b (i .0 e .0), leb-true b (digit 9) (i .0 e .1)), λ h. i .1 (le-leb (digit 0) b (h .0), le-leb b (digit 9) (h .1)))
 
-pub digits-iff : (w : List ℕ) → (every isDigit w ≡ true) ↔ All Digit w
+pub digits-iff : (w : List ℕ) → (every isDigit w ≡ true) ↔ All DigitByte w
 digits-iff w =
     let i = every-iff isDigit w in
     (λ e. all-map (λ x. digit-iff x .0) w (i .0 e), λ p. i .1 (all-map (λ x. digit-iff x .1) w p))
 
-pub decimal-digits : (x : ℕ) → All Digit (decimalOf x)
+pub decimal-digits : (x : ℕ) → All DigitByte (decimalOf x)
 decimal-digits =
-    decimal-each (λ x w. All Digit w) (λ x l. (omega arith, tt)) (λ x l ih. all-append Digit (decimalOf (x / 10)) (digit (x % 10) ∷ []) ih
+    decimal-each (λ x w. All DigitByte w) (λ x l. (omega arith, tt)) (λ x l ih. all-append DigitByte (decimalOf (x / 10)) (digit (x % 10) ∷ []) ih
     (omega arith, tt))
 
 -- ---- values
@@ -102,7 +102,7 @@ pub decimal-injective : (x y : ℕ) → decimalOf x ≡ decimalOf y → x ≡ y
 decimal-injective x y e = sym (decimal-value x) ∙ ap (valueOf 0) e ∙ decimal-value y
 
 -- digits behind a number are the decimal of their value
-pub digits-behind : (v : ℕ) (ds : List ℕ) → 1 ≤ v → All Digit ds → decimalOf (valueOf v ds) ≡ decimalOf v ++ ds
+pub digits-behind : (v : ℕ) (ds : List ℕ) → 1 ≤ v → All DigitByte ds → decimalOf (valueOf v ds) ≡ decimalOf v ++ ds
 unfolding valueOf
 digits-behind v [] h p = sym (append-nil (decimalOf v))
 digits-behind v (d ∷ ds) h p =
@@ -112,7 +112,7 @@ digits-behind v (d ∷ ds) h p =
     digits-behind (10 * v + (d - digit 0)) ds (omega arith) (p .1) ∙ rw (decimal-next v (d - digit 0) h (omega arith), e)
     (append-assoc (decimalOf v) (d ∷ []) ds)
 
-pub value-below : (v : ℕ) (ds : List ℕ) → All Digit ds → valueOf v ds < (v + 1) * 10 ^ length ds
+pub value-below : (v : ℕ) (ds : List ℕ) → All DigitByte ds → valueOf v ds < (v + 1) * 10 ^ length ds
 unfolding valueOf
 value-below v [] p = omega arith
 value-below v (d ∷ ds) p =

@@ -5,5 +5,6 @@ pub mod Lines
 pub mod Words
 pub mod Numbers
 pub mod ByWords
+pub mod TextLists
 pub mod LineTests
 pub mod Printed

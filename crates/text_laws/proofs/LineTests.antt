@@ -1,43 +1,51 @@
 -- The tests of a text's lines by what they read: line 1 by its numbers, the line of a column by its numbers and the rows so far.
 -- Assumes nothing.
-use Prim.Native.Nat.{ℕ, suc, _<_, _≤_}
-use mathlib.Core.Path.{_≡_, sym, _∙_}
+use Prim.Native.Nat.{ℕ, zero, suc, _<_, _≤_}
+use mathlib.Core.Path.{_≡_, refl, sym, _∙_}
 use mathlib.Core.Logic.{_⊎_, inl, inr}
-use mathlib.Core.Bool.{true, false}
+use mathlib.Core.Bool.{Bool, true, false}
 use mathlib.Core.List.{List}
 use native.Mathlib.Omega.{arith}
 use lib.Dec.{ltb}
 use lib.ListN.{length}
-use borrow.Author.Tests.{lt-ltb, le-ltb}
+use borrow.Author.Tests.{ltb-false, lt-ltb, le-ltb}
 use Rattle.papers.specs.Bounds.{programColumns, programRows}
-use Rattle.papers.specs.Lists.{flat}
-use Rattle.papers.specs.Refusals.{answer, untouched, passed, refused, refusedIf}
-use Rattle.papers.specs.Text.{Input, numbersAt, isRowLine, textHead, textLists, headTest, lineFault}
+use Rattle.papers.specs.Lists.{least, flat}
+use Rattle.papers.specs.Refusals.{answer, passed, refused, refusedIf}
+use Rattle.papers.specs.Text.{Input, numbersAt, isRowLine, textHead, textLists, headTest, lineFault, rowLinesTest}
+use Rattle.list_laws.proofs.Leasts.{least-zero-iff}
 use Rattle.list_laws.proofs.Tests.{Test, passes, fails, test, below-or}
 
 -- ---- line 1
 
 module _ (input : Input) where
-  pub head-bad : textHead (input .text) .fine ≡ false → headTest input ≡ refused (answer 25 1 0) untouched
+  pub head-bad : textHead (input .text) .fine ≡ false → headTest input ≡ refused (answer 25 1 0)
   unfolding headTest
   head-bad f = rw (f, headTest)
 
   pub head-fine : textHead (input .text) .fine ≡ true
-      → headTest input ≡ refusedIf (ltb programColumns (textHead (input .text) .n)) (answer 26 1 0) untouched
+      → headTest input ≡ refusedIf (ltb programColumns (textHead (input .text) .head .n)) (answer 26 1 0)
   unfolding headTest
   head-fine f = rw (f, headTest)
 
-  -- one that passes names no more columns than the program has
-  pub head-columns : headTest input ≡ passed → textHead (input .text) .n ≤ programColumns
-  unfolding refusedIf
-  head-columns e = go (test (textHead (input .text) .fine)) (below-or programColumns (textHead (input .text) .n))
+  -- one that passes is well formed
+  pub head-passed : headTest input ≡ passed → textHead (input .text) .fine ≡ true
+  head-passed e = go (test (textHead (input .text) .fine))
     where
-      go : Test (textHead (input .text) .fine) → (programColumns < textHead (input .text) .n) ⊎ (textHead (input .text) .n ≤ programColumns)
-          → textHead (input .text) .n ≤ programColumns
-      go f (inr l) = l
-      go (fails f) (inl l) = let q = sym (head-bad f) ∙ e in let z : _≡_ {A = ℕ} 0 1 = cc in absurd (omega arith)
-      go (passes f) (inl l) =
-          let q = rw (lt-ltb programColumns (textHead (input .text) .n) l, refusedIf) at (sym (head-fine f) ∙ e) in
+      go : Test (textHead (input .text) .fine) → textHead (input .text) .fine ≡ true
+      go (passes f) = f
+      go (fails f) = let q = sym (head-bad f) ∙ e in let z : _≡_ {A = ℕ} 0 1 = cc in absurd (omega arith)
+
+  -- and names no more columns than the program has
+  pub head-columns : headTest input ≡ passed → textHead (input .text) .head .n ≤ programColumns
+  unfolding refusedIf
+  head-columns e = go (below-or programColumns (textHead (input .text) .head .n))
+    where
+      go : (programColumns < textHead (input .text) .head .n) ⊎ (textHead (input .text) .head .n ≤ programColumns)
+          → textHead (input .text) .head .n ≤ programColumns
+      go (inr l) = l
+      go (inl l) =
+          let q = rw (lt-ltb programColumns (textHead (input .text) .head .n) l, refusedIf) at (sym (head-fine (head-passed e)) ∙ e) in
           let z : _≡_ {A = ℕ} 0 1 = cc in
           absurd (omega arith)
 
@@ -56,3 +64,26 @@ module _ (text : List ℕ) (j : ℕ) where
     pub line-fine : length (flat (textLists text j)) ≤ programRows → lineFault text j ≡ 0
     unfolding lineFault
     line-fine h = rw (e, le-ltb programRows (length (flat (textLists text j))) h, lineFault)
+
+  -- a line without a fault is a row line
+  pub line-is-row : lineFault text j ≡ 0 → isRowLine (numbersAt text (suc j)) ≡ true
+  line-is-row e = go (test (isRowLine (numbersAt text (suc j))))
+    where
+      go : Test (isRowLine (numbersAt text (suc j))) → isRowLine (numbersAt text (suc j)) ≡ true
+      go (passes r) = r
+      go (fails r) = absurd (omega (arith, line-bad r))
+
+-- row lines that pass have no fault
+pub lines-passed : (input : Input) → rowLinesTest input ≡ passed → (j : ℕ) → 1 ≤ j → j ≤ textHead (input .text) .head .n
+    → lineFault (input .text) j ≡ 0
+unfolding rowLinesTest
+lines-passed input e j l h =
+    omega (arith, ltb-false 0 (lineFault (input .text) j) (least-zero-iff faulty (textHead (input .text) .head .n) .0 (go _ refl) j l h))
+  where
+    faulty : ℕ → Bool
+    faulty j = ltb 0 (lineFault (input .text) j)
+
+    go : (p : ℕ) → least (λ j. ltb 0 (lineFault (input .text) j)) (textHead (input .text) .head .n) ≡ p
+        → least faulty (textHead (input .text) .head .n) ≡ 0
+    go zero z = z
+    go (suc p) z = let q = rw (z, rowLinesTest) at e in let w : _≡_ {A = ℕ} 0 1 = cc in absurd (omega arith)

@@ -7,10 +7,10 @@ use mathlib.Core.Logic.{_↔_}
 use mathlib.Core.Bool.{true, false}
 use mathlib.Core.List.{List, [], _∷_, _++_, append-assoc, map}
 use native.Mathlib.Omega.{arith}
-use Rattle.papers.specs.Text.{newline, Cut, line, unended, cut, afterLines, wordsOf, isDecimal, allDecimal, valueOf}
-use Rattle.papers.specs.Text.{numbersOf, numbersAt, decimalOf, printed}
+use Rattle.papers.specs.Text.{newline, Cut, line, unended, cut, afterLines, wordsOf, isDecimal, allDecimal, valueOf, numbersOf, numbersAt}
+use Rattle.papers.specs.Text.{decimalOf, printed}
 use Rattle.list_laws.proofs.Tests.{Test, passes, fails, test, and-iff}
-use Rattle.text_laws.specs.Grammar.{All, Digit, InWord, InLine, Short, spaced}
+use Rattle.text_laws.specs.Grammar.{All, DigitByte, InWord, InLine, Short, spaced}
 use Rattle.text_laws.proofs.Parts.{all-append, all-map}
 use Rattle.text_laws.proofs.Decimals.{decimal-digits}
 use Rattle.text_laws.proofs.DecimalWords.{decimal-iff}
@@ -46,7 +46,7 @@ decimals-iff (w ∷ ws) (x ∷ xs) =
     )
 
 -- a line of decimals consists of digits and spaces
-in-line : (w : List ℕ) (xs : List ℕ) → All Digit w → All InLine (spaced w (map decimalOf xs))
+in-line : (w : List ℕ) (xs : List ℕ) → All DigitByte w → All InLine (spaced w (map decimalOf xs))
 in-line w [] p = all-map (λ b d n. omega arith) w p
 in-line w (x ∷ xs) p = all-append InLine w _ (all-map (λ b d n. omega arith) w p) (λ n. omega arith, in-line (decimalOf x) xs (decimal-digits x))
 

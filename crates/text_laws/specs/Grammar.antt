@@ -14,8 +14,8 @@ All P [] = Unit {0}
 All P (x ∷ xs) = P x × All P xs
 
 -- a byte that is a digit; one that ends no word; one that ends no line
-abbrev pub Digit : ℕ → Type 0
-Digit b = (digit 0 ≤ b) × (b ≤ digit 9)
+abbrev pub DigitByte : ℕ → Type 0
+DigitByte b = (digit 0 ≤ b) × (b ≤ digit 9)
 
 abbrev pub InWord : ℕ → Type 0
 InWord b = b ≢ space
@@ -29,7 +29,7 @@ Short x = x < 10 ^ maxDigits
 
 -- a word of digits: one to 13 of them, and no 0 before others
 pub record Decimal (w : List ℕ) : Type 0 where
-  pub digits : All Digit w
+  pub digits : All DigitByte w
   pub some : 0 < length w
   pub few : length w ≤ maxDigits
   pub lead : 1 < length w → getD w 0 0 ≢ digit 0

@@ -13,12 +13,12 @@ use Rattle.papers.specs.Text.{newline, space, cut, afterLines, numbersAt, isRow
 use Rattle.list_laws.proofs.Stores.{sets-more}
 use Rattle.text_laws.specs.Grammar.{behind}
 use Rattle.text_laws.proofs.ByWords.{behind-none, behind-more}
-use Rattle.text_words.specs.Words.{Number}
+use Rattle.text_words.specs.Words.{DecimalAt}
 use Rattle.text_words.proofs.Told.{more-numbers, more-after, line-behind, last-numbers, line-ends}
 use Rattle.text_lines.specs.Narrowed.{narrowed}
 use Rattle.text_lines.specs.declared.Line.{Line}
 use Rattle.text_lines.specs.declared.Line.the-variants.{Rows, Bad}
-use Rattle.text_lines.specs.Lines.{RowsTold, all-rows, no-rows, LineTold, row-line, bad-line}
+use Rattle.text_lines.specs.Lines.{RowsTold, all-rows, no-rows, LineTold, row-line, no-row-line}
 
 -- `count` numbers are read so far, up to k, and kept from place t on
 pub record RowsRead (text : List ℕ) (at t : ℕ) (rows₀ rows : List ℕ) (k count : ℕ) : Type 0 where
@@ -59,7 +59,7 @@ module _ {text : List ℕ} {at t : ℕ} {rows₀ rows : List ℕ} {k count : ℕ
   one-counted v = let c = x .counted in omega (arith, length-append (x .list) (v ∷ []))
 
   -- reads one more, before a space
-  pub rows-turn : {v next : ℕ} {rows′ : List ℕ} → Number text k space v next → rows′ ≡ set rows (t + count) (narrowed v)
+  pub rows-turn : {v next : ℕ} {rows′ : List ℕ} → DecimalAt text k space v next → rows′ ≡ set rows (t + count) (narrowed v)
       → RowsRead text at t rows₀ rows′ next (count + 1)
   rows-turn {v} {next} n e =
       let p = x .paced in
@@ -75,7 +75,7 @@ module _ {text : List ℕ} {at t : ℕ} {rows₀ rows : List ℕ} {k count : ℕ
       }
 
   -- reads the last one, before a newline
-  pub rows-last : {v next : ℕ} {rows′ : List ℕ} → Number text k newline v next → rows′ ≡ set rows (t + count) (narrowed v)
+  pub rows-last : {v next : ℕ} {rows′ : List ℕ} → DecimalAt text k newline v next → rows′ ≡ set rows (t + count) (narrowed v)
       → RowsTold text at t rows₀ rows′ (Rows (count + 1) next)
   unfolding behind
   rows-last {v} {next} n e =
@@ -103,7 +103,7 @@ module _ {text : List ℕ} {at t : ℕ} {rows₀ rows : List ℕ} {k count : ℕ
 
 -- ---- a line of rows, by its count
 
-counted-rows : {text : List ℕ} {at said next : ℕ} → Number text at space said next → {list : List ℕ} → numbersAt (drop next text) 1 ≡ list
+counted-rows : {text : List ℕ} {at said next : ℕ} → DecimalAt text at space said next → {list : List ℕ} → numbersAt (drop next text) 1 ≡ list
     → 0 < length list
     → numbersAt (drop at text) 1 ≡ said ∷ list
 counted-rows {said = said} n {list} f s = more-numbers n ∙ ap (behind (said ∷ [])) f ∙ behind-some (said ∷ []) list s
@@ -112,19 +112,19 @@ module _ {text : List ℕ} {at t : ℕ} {rows₀ : List ℕ} where
   -- bad text
   pub line-bad : {rows : List ℕ} → numbersAt (drop at text) 1 ≡ [] → LineTold text at t rows₀ rows Bad
   unfolding isRowLine
-  line-bad e = bad-line refl (rw e)
+  line-bad e = no-row-line refl (rw e)
 
   -- the count is alone on the line
-  module _ {said next : ℕ} (n : Number text at newline said next) where
+  module _ {said next : ℕ} (n : DecimalAt text at newline said next) where
     pub line-alone : said ≡ 0 → LineTold text at t rows₀ rows₀ (Rows 0 next)
     line-alone z = let o = n .on in row-line [] next refl (last-numbers n ∙ rw z) (line-ends n) (omega arith) refl
 
     pub line-lacks : {rows : List ℕ} → said ≢ 0 → LineTold text at t rows₀ rows Bad
     unfolding isRowLine
-    line-lacks h = bad-line refl (rw (last-numbers n) (ne-eqb said 0 h))
+    line-lacks h = no-row-line refl (rw (last-numbers n) (ne-eqb said 0 h))
 
   -- rows follow the count
-  module _ {said next : ℕ} (n : Number text at space said next) {rows : List ℕ} where
+  module _ {said next : ℕ} (n : DecimalAt text at space said next) {rows : List ℕ} where
     pub line-no-rows : {r : Line} → RowsTold text next t rows₀ rows r → r ≡ Bad → LineTold text at t rows₀ rows Bad
     unfolding behind
     line-no-rows (all-rows list end e f s l p k) g = absurd (let z : _≡_ {A = ℕ} 0 1 = cc in omega arith)
@@ -145,5 +145,5 @@ module _ {text : List ℕ} {at t : ℕ} {rows₀ : List ℕ} where
     unfolding isRowLine
     line-differs {count = count} (all-rows list m e f s l p k) g h =
         let a : length list ≡ count = cc in
-        bad-line refl (rw (counted-rows n f s) (ne-eqb said (length list) (λ z. h (sym a ∙ sym z))))
+        no-row-line refl (rw (counted-rows n f s) (ne-eqb said (length list) (λ z. h (sym a ∙ sym z))))
     line-differs (no-rows e f) g h = absurd (let z : _≡_ {A = ℕ} 0 1 = cc in omega arith)

@@ -14,7 +14,7 @@ use Rattle.text_lines.specs.declared.Line.{Line}
 use Rattle.text_lines.specs.declared.Line.the-variants.{Rows, Bad}
 
 -- rows are read from a place within the text, and kept from place t on, which is not behind that place
-pub record RowsAsked (text : List ℕ) (at t : ℕ) : Type 0 where
+pub record LineAsked (text : List ℕ) (at t : ℕ) : Type 0 where
   pub inside : at ≤ length text
   pub behind : t ≤ at
 
@@ -28,4 +28,4 @@ pub data RowsTold (text : List ℕ) (at t : ℕ) (rows₀ rows : List ℕ) (r : 
 pub data LineTold (text : List ℕ) (at t : ℕ) (rows₀ rows : List ℕ) (r : Line) : Type 0 where
   row-line : (list : List ℕ) (next : ℕ) → r ≡ Rows (length list) next → numbersAt (drop at text) 1 ≡ length list ∷ list → LineTo text at next
       → at + length list ≤ next → rows ≡ sets rows₀ t (map narrowed list) → LineTold text at t rows₀ rows r
-  bad-line : r ≡ Bad → isRowLine (numbersAt (drop at text) 1) ≡ false → LineTold text at t rows₀ rows r
+  no-row-line : r ≡ Bad → isRowLine (numbersAt (drop at text) 1) ≡ false → LineTold text at t rows₀ rows r

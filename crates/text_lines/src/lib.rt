@@ -4,7 +4,7 @@ use text_words::Word;
 ghost use mathlib.Core.Path.{_≡_};
 ghost use lib.ListN.{set};
 ghost use Rattle.text_lines.specs.Narrowed.{narrowed};
-ghost use Rattle.text_lines.specs.Lines.{RowsAsked, RowsTold, LineTold};
+ghost use Rattle.text_lines.specs.Lines.{LineAsked, RowsTold, LineTold};
 
 // The greatest number of 32 bits.
 const MAX_NARROW: u64 = 4294967295;
@@ -37,7 +37,7 @@ pub enum Line {
 // Reads the numbers from `at` to the end of the line, and keeps them as rows from place t on while there is room. In the loop the first
 // `count` are read and kept, and the next starts at k.
 fn read_rows(text: &[u8], at: usize, rows: &mut [u32], t: usize) -> Line
-    requires { ⌜ RowsAsked (now text) at t ⌝ }
+    requires { ⌜ LineAsked (now text) at t ⌝ }
     ensures { λ r. ⌜ RowsTold (now (text .entry)) at t (now (rows .entry)) (now (rows .exit)) r ⌝ }
 {
     let mut k = at;
@@ -66,7 +66,7 @@ fn read_rows(text: &[u8], at: usize, rows: &mut [u32], t: usize) -> Line
 
 // Reads the line of rows that begins at `at`: a count, and that many rows, which it keeps from place t on while there is room.
 pub fn read_line(text: &[u8], at: usize, rows: &mut [u32], t: usize) -> Line
-    requires { ⌜ RowsAsked (now text) at t ⌝ }
+    requires { ⌜ LineAsked (now text) at t ⌝ }
     ensures { λ r. ⌜ LineTold (now (text .entry)) at t (now (rows .entry)) (now (rows .exit)) r ⌝ }
 {
     match text_words::read_word(text, at) {

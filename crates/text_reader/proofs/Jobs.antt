@@ -11,14 +11,14 @@ use lib.ListN.{length}
 use borrow.Author.Tests.{lt-ltb, le-ltb}
 use Rattle.papers.specs.declared.JobHead.{JobHead}
 use Rattle.papers.specs.Bounds.{inputBytes, programColumns}
-use Rattle.papers.specs.Refusals.{answer, untouched, refused, first}
-use Rattle.papers.specs.Text.{numbersAt, headOf, textHead, textJob, inputTest, headTest, rowLinesTest, endTest, textTests}
+use Rattle.papers.specs.Refusals.{answer, refused, first}
+use Rattle.papers.specs.Text.{numbersAt, headOf, textHead, textJob, inputOver, headTest, badHead, badLine, textAfter, textRefusals}
 use Rattle.job_laws.proofs.Firsts.{first-passes, first-refuses, refused-if, passed-if}
 use Rattle.text_laws.proofs.ByWords.{behind-none}
 use Rattle.text_words.specs.Words.{LineTo}
-use Rattle.text_head.specs.declared.Head.{Head}
-use Rattle.text_head.specs.declared.Head.the-variants.{Numbers, Bad}
-use Rattle.text_head.specs.Heads.{HeadTold, head-line, bad-head}
+use Rattle.text_head.specs.declared.FirstLine.{FirstLine}
+use Rattle.text_head.specs.declared.FirstLine.the-variants.{Numbers, Bad}
+use Rattle.text_head.specs.Heads.{HeadTold, head-line, no-head-line}
 use Rattle.text_reader.specs.declared.Lines.{Lines}
 use Rattle.text_reader.specs.declared.Lines.the-variants as lines
 use Rattle.text_reader.specs.declared.JobRead.the-variants.{Job, Refused}
@@ -28,63 +28,60 @@ use Rattle.text_reader.specs.Reading.{whole, LinesTold, all-lines, bad-l
 
 -- the head of a text, and where its line ends
 pub record HeadFound (text : List ℕ) (head : JobHead) (next : ℕ) : Type 0 where
-  pub is : textHead text ≡ record { fine = true; n = head .n; limit = head .limit; mark = head .mark }
+  pub is : textHead text ≡ record { fine = true; head = head }
   pub ends : LineTo text 0 next
 
-module _ {text : List ℕ} {r : Head} where
+module _ {text : List ℕ} {r : FirstLine} where
   pub told-head : {head : JobHead} {next : ℕ} → HeadTold text [] 0 r → r ≡ Numbers head next → HeadFound text head next
   unfolding textHead
-  told-head {head} {next} (head-line n limit mark m e h l) g =
-      let a : record { n = n; mark = mark; limit = limit } ≡ head = cc in
+  told-head {head} {next} (head-line read m e h l) g =
+      let a : read ≡ head = cc in
       let b : m ≡ next = cc in
       record { is = rw (← a) (ap headOf (sym (behind-none (numbersAt text 1))) ∙ h); ends = rw b at l }
-  told-head (bad-head e h) g = absurd (let z : _≡_ {A = ℕ} 0 1 = cc in omega arith)
+  told-head (no-head-line e h) g = absurd (let z : _≡_ {A = ℕ} 0 1 = cc in omega arith)
 
   pub told-no-head : HeadTold text [] 0 r → r ≡ Bad → textHead text .fine ≡ false
   unfolding textHead
-  told-no-head (head-line n limit mark m e h l) g = absurd (let z : _≡_ {A = ℕ} 0 1 = cc in omega arith)
-  told-no-head (bad-head e h) g = ap (λ (l : List ℕ). headOf l .fine) (sym (behind-none (numbersAt text 1))) ∙ h
+  told-no-head (head-line read m e h l) g = absurd (let z : _≡_ {A = ℕ} 0 1 = cc in omega arith)
+  told-no-head (no-head-line e h) g = ap (λ (l : List ℕ). headOf l .fine) (sym (behind-none (numbersAt text 1))) ∙ h
 
 -- ---- the tests in their order
 
 module _ (text : List ℕ) where
   over-refused : (more : Bool) → (more || ltb inputBytes (length text)) ≡ true
-      → first textTests (record { text = text; more = more }) ≡ refused (answer 26 0 0) untouched
-  unfolding textTests inputTest
+      → first textRefusals (record { text = text; more = more }) ≡ refused (answer 26 0 0)
+  unfolding textRefusals
   over-refused more e =
-      first-refuses inputTest _ (record { text = text; more = more }) (refused-if (more || ltb inputBytes (length text)) _ untouched e)
+      first-refuses inputOver _ (record { text = text; more = more }) (refused-if (more || ltb inputBytes (length text)) _ e)
 
   module _ (h : length text ≤ inputBytes) where
-    to-head : first textTests (whole text) ≡ first (headTest ∷ rowLinesTest ∷ endTest ∷ []) (whole text)
-    unfolding textTests inputTest
+    to-head : first textRefusals (whole text) ≡ first (badHead ∷ badLine ∷ textAfter ∷ []) (whole text)
+    unfolding textRefusals
     to-head =
-        first-passes inputTest (headTest ∷ rowLinesTest ∷ endTest ∷ []) (whole text) (passed-if _ _ untouched (le-ltb inputBytes (length text) h))
+        first-passes inputOver (badHead ∷ badLine ∷ textAfter ∷ []) (whole text) (passed-if _ _ (le-ltb inputBytes (length text) h))
 
-    head-refused : textHead text .fine ≡ false → first textTests (whole text) ≡ refused (answer 25 1 0) untouched
+    head-refused : textHead text .fine ≡ false → first textRefusals (whole text) ≡ refused (answer 25 1 0)
     unfolding headTest
-    head-refused f = to-head ∙ first-refuses headTest (rowLinesTest ∷ endTest ∷ []) (whole text) (rw (f, headTest))
+    head-refused f = to-head ∙ first-refuses badHead (badLine ∷ textAfter ∷ []) (whole text) (rw (f, headTest))
 
     module _ (f : textHead text .fine ≡ true) where
-      columns-refused : programColumns < textHead text .n → first textTests (whole text) ≡ refused (answer 26 1 0) untouched
+      columns-refused : programColumns < textHead text .head .n → first textRefusals (whole text) ≡ refused (answer 26 1 0)
       unfolding headTest
       columns-refused l =
-          to-head ∙ first-refuses headTest (rowLinesTest ∷ endTest ∷ []) (whole text)
-          (rw (f, headTest) (refused-if _ _ untouched (lt-ltb programColumns (textHead text .n) l)))
+          to-head ∙ first-refuses badHead (badLine ∷ textAfter ∷ []) (whole text)
+          (rw (f, headTest) (refused-if _ _ (lt-ltb programColumns (textHead text .head .n) l)))
 
-      to-lines : textHead text .n ≤ programColumns → first textTests (whole text) ≡ first (rowLinesTest ∷ endTest ∷ []) (whole text)
+      to-lines : textHead text .head .n ≤ programColumns → first textRefusals (whole text) ≡ first (badLine ∷ textAfter ∷ []) (whole text)
       unfolding headTest
       to-lines l =
-          to-head ∙ first-passes headTest (rowLinesTest ∷ endTest ∷ []) (whole text)
-          (rw (f, headTest) (passed-if _ _ untouched (le-ltb programColumns (textHead text .n) l)))
+          to-head ∙ first-passes badHead (badLine ∷ textAfter ∷ []) (whole text)
+          (rw (f, headTest) (passed-if _ _ (le-ltb programColumns (textHead text .head .n) l)))
 
 -- ---- what is told of a text
 
 to-told : {text : List ℕ} {head : JobHead} {next : ℕ} → length text ≤ inputBytes → HeadFound text head next → head .n ≤ programColumns
-    → first textTests (whole text) ≡ first (rowLinesTest ∷ endTest ∷ []) (whole text)
+    → first textRefusals (whole text) ≡ first (badLine ∷ textAfter ∷ []) (whole text)
 to-told {text} h x l = to-lines text h (rw (x .is)) (rw (x .is) l)
-
-same-head : (h : JobHead) {n mark limit : ℕ} → h .n ≡ n → h .mark ≡ mark → h .limit ≡ limit → h ≡ record { n = n; mark = mark; limit = limit }
-same-head h p q r i = record { n = p i; mark = q i; limit = r i }
 
 module _ {text starts₀ rows₀ starts rows : List ℕ} {more : Bool} where
   pub told-more : more ≡ true → JobTold (record { text = text; more = more }) starts₀ rows₀ starts rows (Refused 26 0)
@@ -116,7 +113,6 @@ module _ {text starts₀ rows₀ starts rows : List ℕ} {more : Bool} where
           unfolding textJob
           told-job {count = count} (all-lines e p s k) g =
               let a : length (textJob text .rows) ≡ count = cc in
-              let is = x .is in
               rw m (job-read (to-told h x l ∙ p) (ap (Job head) (sym a) ∙ ap (λ (h : JobHead). Job h (length (textJob text .rows)))
-              (same-head head (sym (ap (λ q. q .n) is)) (sym (ap (λ q. q .mark) is)) (sym (ap (λ q. q .limit) is)))) s k)
+              (sym (ap (λ q. q .head) (x .is)))) s k)
           told-job (bad-lines c q e p) g = absurd (let z : _≡_ {A = ℕ} 0 1 = cc in omega arith)

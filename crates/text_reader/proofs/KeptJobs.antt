@@ -8,16 +8,18 @@ use native.Mathlib.Omega.{arith}
 use Rattle.papers.specs.declared.Answer.{Answer}
 use Rattle.papers.specs.Bounds.{maxColumns}
 use Rattle.papers.specs.Lists.{_∈_, flat}
-use Rattle.papers.specs.Job.{Job, columnOf}
-use Rattle.papers.specs.Refusals.{answer, Leaves, Verdict, passed, refused, answerOf, first, jobTests, Lent}
-use Rattle.papers.specs.Analysis.{AnalysisCall, analysisTests, analysed}
+use Rattle.papers.specs.Refusals.{Verdict, passed, refused, of, first}
+use Rattle.papers.specs.Job.{Job, columnOf, jobRefusals, jobOf, headIn}
 use Rattle.papers.specs.Key.{listsOf}
+use Rattle.papers.specs.Analysis.{Lent, allZero, EarlyCall, earlyRefusals, earlyOf, AnalysisCall, analysisEarly, analysisLate, analysisDone, analysed}
 use Rattle.papers.specs.Text.{jobPrinted}
+use Rattle.job_laws.specs.Passed.{PassedLists, Passed}
 use Rattle.list_laws.proofs.Stores.{flat-more}
 use Rattle.job_laws.proofs.Laid.{lists-none, lists-more, rows-laid}
-use Rattle.job_laws.proofs.Outcomes.{outcome-untouched, job-refuses}
-use Rattle.job_laws.proofs.Untouched.{job-untouched}
-use Rattle.job_laws.proofs.Passed.{PassedLists, passes-iff}
+use Rattle.job_laws.proofs.Firsts.{first-append-refused, first-of}
+use Rattle.job_laws.proofs.Outcomes.{outcome-early}
+use Rattle.job_laws.proofs.Numbered.{job-numbered}
+use Rattle.job_laws.proofs.Passed.{passes-iff}
 use Rattle.text_lines.specs.Narrowed.{narrowed}
 use Rattle.text_reader.specs.Reading.{keptJob}
 use Rattle.text_reader.proofs.Narrow.{kept-tests}
@@ -34,57 +36,59 @@ small-kept bound (r ∷ rs) l h =
     cc
 
 module _ (n : ℕ) (starts rows : List ℕ) (few : n ≤ maxColumns) (p : PassedLists n starts rows) where
-  front-kept : (m : ℕ) → m ≤ n → map narrowed (flat (listsOf m (columnOf starts rows))) ≡ flat (listsOf m (columnOf starts rows))
+  columns-kept : (m : ℕ) → m ≤ n → map narrowed (flat (listsOf m (columnOf starts rows))) ≡ flat (listsOf m (columnOf starts rows))
   unfolding flat
-  front-kept zero l = rw (lists-none (columnOf starts rows))
-  front-kept (suc m) l =
+  columns-kept zero l = rw (lists-none (columnOf starts rows))
+  columns-kept (suc m) l =
       let column = columnOf starts rows (suc m) in
       rw (
         lists-more (columnOf starts rows) m,
         flat-more (listsOf m (columnOf starts rows)) column,
         map-append narrowed (flat (listsOf m (columnOf starts rows))) column,
-        front-kept m (omega arith),
+        columns-kept m (omega arith),
         small-kept n column few (p .within (suc m) (omega arith) l),
       )
 
   rows-kept : map narrowed rows ≡ rows
-  rows-kept = rw (rows-laid (p .whole)) at (front-kept n (omega arith))
+  rows-kept = rw (rows-laid (p .whole)) at (columns-kept n (omega arith))
 
 -- a job that passes is kept as it is
-pub kept-passed : (job : Job) → first jobTests job ≡ passed → keptJob job ≡ job
-kept-passed job e =
-    let p = passes-iff job .0 e in
-    ap (λ (rows : List ℕ). record { n = job .n; starts = job .starts; rows = rows; mark = job .mark; limit = job .limit })
+pub kept-passed : (job : Job) → Passed job → keptJob job ≡ job
+kept-passed job p =
+    ap (jobOf (headIn job) (job .starts))
     (rows-kept (job .n) (job .starts) (job .rows) (p .few) (p .lists))
 
 -- ---- the analysis of a job, and what is printed of it
 
-refused-analysed : (job : Job) (lent : Lent) {a : Answer} {l : Leaves} → first jobTests job ≡ refused a l
-    → analysed job lent ≡ record { answer = a; lent = lent }
-unfolding analysed analysisTests answerOf
+refused-analysed : (job : Job) (lent : Lent) {a : Answer} → first jobRefusals job ≡ refused a
+    → analysed job lent ≡ record { answered = a; lent = lent }
+unfolding analysed analysisEarly earlyRefusals
 refused-analysed job lent e =
-    let some = job-untouched job e .1 in
-    outcome-untouched _ _ _ _ lent (job-refuses (λ (call : AnalysisCall). call .job) _ (record { job = job; lent = lent }) (rw e) (λ z. omega arith))
+    let early : AnalysisCall → EarlyCall = λ c. earlyOf (c .job) (c .lent) in
+    let part : EarlyCall → Job = λ c. c .job in
+    let call : AnalysisCall = record { job = job; lent = lent } in
+    outcome-early analysisEarly analysisLate analysisDone allZero call lent
+    (first-of early earlyRefusals call
+    ∙ first-append-refused (of part jobRefusals) _ (early call) (first-of part jobRefusals (early call) ∙ e))
 
 -- narrowing changes neither
 pub kept-analysed : (job : Job) (lent : Lent) → analysed (keptJob job) lent ≡ analysed job lent
-kept-analysed job lent = go (first jobTests job) refl
+kept-analysed job lent = go (first jobRefusals job) refl
   where
-    go : (v : Verdict) → first jobTests job ≡ v → analysed (keptJob job) lent ≡ analysed job lent
-    go passed e = ap (λ (j : Job). analysed j lent) (kept-passed job e)
-    go (refused a l) e = refused-analysed (keptJob job) lent (kept-tests job ∙ e) ∙ sym (refused-analysed job lent e)
+    go : (v : Verdict) → first jobRefusals job ≡ v → analysed (keptJob job) lent ≡ analysed job lent
+    go passed e = ap (λ (j : Job). analysed j lent) (kept-passed job (passes-iff job .0 e))
+    go (refused a) e = refused-analysed (keptJob job) lent (kept-tests job ∙ e) ∙ sym (refused-analysed job lent e)
 
 pub kept-printed : (job : Job) (lent : Lent)
-    → jobPrinted (keptJob job) (analysed (keptJob job) lent .answer) ≡ jobPrinted job (analysed job lent .answer)
+    → jobPrinted (keptJob job) (analysed (keptJob job) lent .answered) ≡ jobPrinted job (analysed job lent .answered)
 unfolding jobPrinted
-kept-printed job lent = rw (kept-analysed job lent) (go (first jobTests job) refl)
+kept-printed job lent = rw (kept-analysed job lent) (go (first jobRefusals job) refl)
   where
     line : (a : Answer) (k : ℕ) → a .number ≡ k → 1 ≤ k → jobPrinted (keptJob job) a ≡ jobPrinted job a
     line a zero e h = absurd (omega arith)
     line a (suc k) e h = rw (e, jobPrinted)
 
-    go : (v : Verdict) → first jobTests job ≡ v → jobPrinted (keptJob job) (analysed job lent .answer) ≡ jobPrinted job (analysed job lent .answer)
-    go passed e = ap (λ (j : Job). jobPrinted j (analysed job lent .answer)) (kept-passed job e)
-    go (refused a l) e =
-        let some = job-untouched job e .1 in
-        rw (refused-analysed job lent e) (line a (a .number) refl some)
+    go : (v : Verdict) → first jobRefusals job ≡ v → jobPrinted (keptJob job) (analysed job lent .answered) ≡ jobPrinted job (analysed job lent .answered)
+    go passed e = ap (λ (j : Job). jobPrinted j (analysed job lent .answered)) (kept-passed job (passes-iff job .0 e))
+    go (refused a) e =
+        rw (refused-analysed job lent e) (line a (a .number) refl ((rw e at (job-numbered job)) .0))

@@ -23,9 +23,9 @@ use Rattle.text_lines.specs.declared.Line.the-variants.{Rows}
 use Rattle.text_reader.specs.declared.Lines.{Lines}
 use Rattle.text_reader.specs.declared.Lines.the-variants as lines
 use Rattle.text_reader.specs.Reading.{columnLists, LinesTold, all-lines, bad-lines}
+use Rattle.text_laws.proofs.TextLists.{lists-none, lists-more, length-lists}
 use Rattle.text_laws.proofs.LineTests.{line-bad, line-over, line-fine}
-use Rattle.text_reader.proofs.Tests.{lists-none, lists-more, length-lists, lines-refuse}
-use Rattle.text_reader.proofs.Tests.{end-refuses, end-passes}
+use Rattle.text_reader.proofs.Tests.{lines-refuse, end-refuses, end-passes}
 use Rattle.text_reader.proofs.RowLines.{RowLine}
 
 -- the lines of the first j columns, up to k, with `total` rows
@@ -74,7 +74,7 @@ module _ {text : List ℕ} {n : ℕ} {starts₀ rows₀ starts rows : List ℕ} 
   numbers-here = numbers-later text (suc j) ∙ ap (λ (t : List ℕ). numbersAt t 1) (sym (x .rest))
 
   -- the line has bad text
-  pub lines-bad : {starts′ rows′ : List ℕ} → n ≡ textHead text .n → j < n → isRowLine (numbersAt (drop k text) 1) ≡ false
+  pub lines-bad : {starts′ rows′ : List ℕ} → n ≡ textHead text .head .n → j < n → isRowLine (numbersAt (drop k text) 1) ≡ false
       → LinesTold text starts₀ rows₀ starts′ rows′ (lines.Refused 25 (j + 2))
   lines-bad e l f =
       bad-lines 25 (j + 2) refl (lines-refuse text j 25 (x .fine) (omega arith) (line-bad text (suc j) (ap isRowLine numbers-here ∙ f)) (omega arith))
@@ -102,13 +102,13 @@ module _ {text : List ℕ} {n : ℕ} {starts₀ rows₀ starts rows : List ℕ} 
 
     more-kept : rows′ ≡ sets rows₀ 0 (map narrowed (flat (textLists text (suc j))))
     more-kept =
-        let front = map narrowed (flat (textLists text j)) in
-        let v : 0 + length front ≡ total = omega (arith, x .counted, length-map (flat (textLists text j)) narrowed) in
-        rw (more-rows, map-append narrowed (flat (textLists text j)) (y .list), sets-append front rows₀ 0 (map narrowed (y .list)), v, ← x .kept)
+        let earlier = map narrowed (flat (textLists text j)) in
+        let v : 0 + length earlier ≡ total = omega (arith, x .counted, length-map (flat (textLists text j)) narrowed) in
+        rw (more-rows, map-append narrowed (flat (textLists text j)) (y .list), sets-append earlier rows₀ 0 (map narrowed (y .list)), v, ← x .kept)
         (y .kept)
 
     -- it has too many rows
-    pub lines-over : {starts′ : List ℕ} → n ≡ textHead text .n → j < n → programRows < total + count
+    pub lines-over : {starts′ : List ℕ} → n ≡ textHead text .head .n → j < n → programRows < total + count
         → LinesTold text starts₀ rows₀ starts′ rows′ (lines.Refused 26 (j + 2))
     lines-over e l h =
         bad-lines 26 (j + 2) refl (lines-refuse text j 26 (x .fine) (omega arith) (line-over text (suc j) is-row-line (omega (arith, more-counted)))
@@ -136,14 +136,14 @@ module _ {text : List ℕ} {n : ℕ} {starts₀ rows₀ starts rows : List ℕ} 
         })
 
   -- all lines are read
-  module _ (e : n ≡ textHead text .n) (l : n ≤ j) where
-    all-read : j ≡ textHead text .n
+  module _ (e : n ≡ textHead text .head .n) (l : n ≤ j) where
+    all-read : j ≡ textHead text .head .n
     all-read = let d = x .done in omega arith
 
-    all-fine : least (faulty (lineFault text)) (textHead text .n) ≡ 0
+    all-fine : least (faulty (lineFault text)) (textHead text .head .n) ≡ 0
     all-fine = rw all-read at (x .fine)
 
-    left-long : length (afterLines (suc (textHead text .n)) text) ≡ length text - k
+    left-long : length (afterLines (suc (textHead text .head .n)) text) ≡ length text - k
     left-long = rw (← all-read, ← x .rest) (length-drop k text)
 
     -- text follows them

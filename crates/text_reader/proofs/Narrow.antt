@@ -10,9 +10,8 @@ use lib.Dec.{ltb, eqb}
 use lib.ListN.{length, take, drop, length-map}
 use Rattle.papers.specs.Bounds.{maxColumns}
 use Rattle.papers.specs.Lists.{least}
-use Rattle.papers.specs.Job.{Job, start, columnOf}
-use Rattle.papers.specs.Refusals.{answer, untouched, Verdict, passed, refused, first, refusedAt, columnsTest, markTest}
-use Rattle.papers.specs.Refusals.{limitTest, falls, rowFault, rowsFault, columnFault, startsTest, rowsTest, jobTests}
+use Rattle.papers.specs.Refusals.{answer, Verdict, passed, refused, refusedAt, Refusal, first}
+use Rattle.papers.specs.Job.{Job, start, columnOf, fallsAt, rowFault, rowsFault, columnFault, startsTest, rowsTest, jobRefusals}
 use Rattle.list_laws.proofs.Leasts.{least-found-iff, least-same}
 use Rattle.list_laws.proofs.Tests.{below-or, Test, passes, fails, test}
 use Rattle.job_laws.proofs.Firsts.{first-passes, first-refuses, over-refuses}
@@ -68,16 +67,16 @@ module _ (n : ℕ) (starts rows : List ℕ) (few : n ≤ maxColumns) where
       (go (least (λ j. ltb 0 (columnFault n starts rows j)) n) refl)
     where
       go : (j : ℕ) → least (λ j. ltb 0 (columnFault n starts rows j)) n ≡ j
-          → refusedAt (columnFault n starts (map narrowed rows) j) j 0 untouched ≡ refusedAt (columnFault n starts rows j) j 0 untouched
+          → refusedAt (columnFault n starts (map narrowed rows) j) j 0 ≡ refusedAt (columnFault n starts rows j) j 0
       go zero e = refl
-      go (suc j) e = ap (λ (f : ℕ). refusedAt f (suc j) 0 untouched) (fault-same (suc j) (least-found-iff _ n j .0 e .0))
+      go (suc j) e = ap (λ (f : ℕ). refusedAt f (suc j) 0) (fault-same (suc j) (least-found-iff _ n j .0 e .0))
 
 -- only the number of rows matters to the test of the starts
 starts-same : (n : ℕ) (starts rows : List ℕ) → startsTest n starts (map narrowed rows) ≡ startsTest n starts rows
 unfolding startsTest
-starts-same n starts rows = go (test (eqb (length starts) (n + 1))) (test (eqb (start starts 1) 0)) (least (falls starts) n) refl
+starts-same n starts rows = go (test (eqb (length starts) (n + 1))) (test (eqb (start starts 1) 0)) (least (fallsAt starts) n) refl
   where
-    go : Test (eqb (length starts) (n + 1)) → Test (eqb (start starts 1) 0) → (j : ℕ) → least (falls starts) n ≡ j
+    go : Test (eqb (length starts) (n + 1)) → Test (eqb (start starts 1) 0) → (j : ℕ) → least (fallsAt starts) n ≡ j
         → startsTest n starts (map narrowed rows) ≡ startsTest n starts rows
     go (fails e) f j z = rw (e, startsTest)
     go (passes e) (fails f) j z = rw (e, f, startsTest)
@@ -85,28 +84,28 @@ starts-same n starts rows = go (test (eqb (length starts) (n + 1))) (test (eqb (
     go (passes e) (passes f) zero z = rw (e, f, z, startsTest, length-map rows narrowed)
 
 -- two calls get the same refusal if each test finds the same in both
-abbrev SameEach : {C : Type 0} → List (C → Verdict) → C → C → Type 0
+abbrev SameEach : {C : Type 0} → List (Refusal C) → C → C → Type 0
 SameEach [] c d = Unit {0}
-SameEach (t ∷ ts) c d = (t c ≡ t d) × SameEach ts c d
+SameEach (r ∷ rs) c d = (r .test c ≡ r .test d) × SameEach rs c d
 
-first-same : {C : Type 0} (ts : List (C → Verdict)) (c d : C) → SameEach ts c d → first ts c ≡ first ts d
+first-same : {C : Type 0} (rs : List (Refusal C)) (c d : C) → SameEach rs c d → first rs c ≡ first rs d
 unfolding first
 first-same [] c d h = refl
-first-same (t ∷ ts) c d h = go (t d) refl (first-same ts c d (h .1))
+first-same (r ∷ rs) c d h = go (r .test d) refl (first-same rs c d (h .1))
   where
-    go : (v : Verdict) → t d ≡ v → first ts c ≡ first ts d → first (t ∷ ts) c ≡ first (t ∷ ts) d
-    go passed e ih = first-passes t ts c (h .0 ∙ e) ∙ ih ∙ sym (first-passes t ts d e)
-    go (refused a l) e ih = first-refuses t ts c (h .0 ∙ e) ∙ sym (first-refuses t ts d e)
+    go : (v : Verdict) → r .test d ≡ v → first rs c ≡ first rs d → first (r ∷ rs) c ≡ first (r ∷ rs) d
+    go passed e ih = first-passes r rs c (h .0 ∙ e) ∙ ih ∙ sym (first-passes r rs d e)
+    go (refused a) e ih = first-refuses r rs c (h .0 ∙ e) ∙ sym (first-refuses r rs d e)
 
 -- a job and the kept job get the same refusal
-pub kept-tests : (job : Job) → first jobTests (keptJob job) ≡ first jobTests job
-unfolding jobTests columnsTest markTest limitTest
+pub kept-tests : (job : Job) → first jobRefusals (keptJob job) ≡ first jobRefusals job
+unfolding jobRefusals
 kept-tests job = go (below-or maxColumns (job .n))
   where
-    go : (maxColumns < job .n) ⊎ (job .n ≤ maxColumns) → first jobTests (keptJob job) ≡ first jobTests job
+    go : (maxColumns < job .n) ⊎ (job .n ≤ maxColumns) → first jobRefusals (keptJob job) ≡ first jobRefusals job
     go (inl l) =
-        let e = over-refuses maxColumns (job .n) (answer 1 0 0) untouched l in
+        let e = over-refuses maxColumns (job .n) (answer 1 0 0) l in
         first-refuses _ _ (keptJob job) e ∙ sym (first-refuses _ _ job e)
     go (inr l) =
-        first-same jobTests (keptJob job) job
+        first-same jobRefusals (keptJob job) job
         (refl, (refl, (refl, (starts-same (job .n) (job .starts) (job .rows), (rows-same (job .n) (job .starts) (job .rows) l, tt)))))

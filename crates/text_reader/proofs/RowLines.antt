@@ -12,7 +12,7 @@ use Rattle.text_words.specs.Words.{LineTo}
 use Rattle.text_lines.specs.Narrowed.{narrowed}
 use Rattle.text_lines.specs.declared.Line.{Line}
 use Rattle.text_lines.specs.declared.Line.the-variants.{Rows, Bad}
-use Rattle.text_lines.specs.Lines.{LineTold, row-line, bad-line}
+use Rattle.text_lines.specs.Lines.{LineTold, row-line, no-row-line}
 use Rattle.text_reader.specs.declared.Lines.the-variants as lines
 
 -- a line of rows, kept
@@ -30,8 +30,8 @@ module _ {text : List ℕ} {k t : ℕ} {rows rows′ : List ℕ} {r : Line} wher
       let a : length list ≡ count = cc in
       let b : m ≡ next = cc in
       record { list = list; counted = sym a; numbers = f; ends = rw b at l; paced = omega arith; kept = h }
-  told-rows (bad-line e f) g = absurd (let z : _≡_ {A = ℕ} 0 1 = cc in omega arith)
+  told-rows (no-row-line e f) g = absurd (let z : _≡_ {A = ℕ} 0 1 = cc in omega arith)
 
   pub told-bad : LineTold text k t rows rows′ r → r ≡ Bad → isRowLine (numbersAt (drop k text) 1) ≡ false
   told-bad (row-line list m e f l p h) g = absurd (let z : _≡_ {A = ℕ} 0 1 = cc in omega arith)
-  told-bad (bad-line e f) g = f
+  told-bad (no-row-line e f) g = f

@@ -9,9 +9,9 @@ use lib.ListN.{length}
 use lib.Seq.{sets}
 use Rattle.papers.specs.Bounds.{programColumns}
 use Rattle.papers.specs.Lists.{flat, startsFrom}
-use Rattle.papers.specs.Job.{Job}
-use Rattle.papers.specs.Refusals.{answer, untouched, passed, refused, first}
-use Rattle.papers.specs.Text.{Input, textHead, textLists, textJob, rowLinesTest, endTest, textTests}
+use Rattle.papers.specs.Refusals.{answer, passed, refused, first}
+use Rattle.papers.specs.Job.{Job, headIn, jobOf}
+use Rattle.papers.specs.Text.{Input, textHead, textLists, textJob, badLine, textAfter, textRefusals}
 use Rattle.text_words.specs.Words.{LineTo}
 use Rattle.text_lines.specs.Narrowed.{narrowed}
 use Rattle.text_reader.specs.declared.Lines.{Lines}
@@ -21,7 +21,7 @@ use Rattle.text_reader.specs.declared.JobRead.the-variants as job
 
 -- the lists of a text's columns
 abbrev pub columnLists : List ℕ → List (List ℕ)
-columnLists text = textLists text (textHead text .n)
+columnLists text = textLists text (textHead text .head .n)
 
 -- a text that does not continue
 abbrev pub whole : List ℕ → Input
@@ -30,29 +30,28 @@ whole text = record { text = text; more = false }
 -- the lines of rows are read behind line 1, which gives n, and starts has a place for the start of each column
 pub record LinesAsked (text : List ℕ) (at n : ℕ) (starts : List ℕ) : Type 0 where
   pub begins : LineTo text 0 at
-  pub size : n ≡ textHead text .n
+  pub size : n ≡ textHead text .head .n
   pub few : n ≤ programColumns
   pub long : programColumns < length starts
 
 -- what is told of the lines of rows and of the end
 pub data LinesTold (text starts₀ rows₀ starts rows : List ℕ) (r : Lines) : Type 0 where
-  all-lines : r ≡ lines.Rows (length (flat (columnLists text))) → first (rowLinesTest ∷ endTest ∷ []) (whole text) ≡ passed
+  all-lines : r ≡ lines.Rows (length (flat (columnLists text))) → first (badLine ∷ textAfter ∷ []) (whole text) ≡ passed
       → starts ≡ sets starts₀ 0 (startsFrom 0 (columnLists text)) → rows ≡ sets rows₀ 0 (map narrowed (flat (columnLists text)))
       → LinesTold text starts₀ rows₀ starts rows r
   bad-lines : (number place : ℕ) → r ≡ lines.Refused number place
-      → first (rowLinesTest ∷ endTest ∷ []) (whole text) ≡ refused (answer number place 0) untouched
+      → first (badLine ∷ textAfter ∷ []) (whole text) ≡ refused (answer number place 0)
       → LinesTold text starts₀ rows₀ starts rows r
 
--- what is told of the whole text: its job, which the fronts of the slices keep; or its refusal
+-- what is told of the whole text: its job, which the first places of the slices keep; or its refusal
 pub data JobTold (input : Input) (starts₀ rows₀ starts rows : List ℕ) (r : JobRead) : Type 0 where
-  job-read : first textTests input ≡ passed
-      → r ≡ job.Job (record { n = textJob (input .text) .n; mark = textJob (input .text) .mark; limit = textJob (input .text) .limit })
-      (length (textJob (input .text) .rows))
+  job-read : first textRefusals input ≡ passed
+      → r ≡ job.Job (headIn (textJob (input .text))) (length (textJob (input .text) .rows))
       → starts ≡ sets starts₀ 0 (textJob (input .text) .starts) → rows ≡ sets rows₀ 0 (map narrowed (textJob (input .text) .rows))
       → JobTold input starts₀ rows₀ starts rows r
-  text-refused : (number place : ℕ) → first textTests input ≡ refused (answer number place 0) untouched → r ≡ job.Refused number place
+  text-refused : (number place : ℕ) → first textRefusals input ≡ refused (answer number place 0) → r ≡ job.Refused number place
       → JobTold input starts₀ rows₀ starts rows r
 
 -- a job with its rows narrowed, as they are kept
 abbrev pub keptJob : Job → Job
-keptJob job = record { n = job .n; starts = job .starts; rows = map narrowed (job .rows); mark = job .mark; limit = job .limit }
+keptJob job = jobOf (headIn job) (job .starts) (map narrowed (job .rows))

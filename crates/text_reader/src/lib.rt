@@ -4,7 +4,7 @@ ghost use lib.ListN.{length};
 ghost use Rattle.papers.specs.Bounds.{programColumns};
 ghost use Rattle.text_reader.specs.Reading.{LinesAsked, LinesTold, JobTold};
 use papers::JobHead;
-use text_head::Head;
+use text_head::FirstLine;
 use text_lines::Line;
 
 // What the lines of rows give: how many rows in all; or a refusal's number and place.
@@ -60,7 +60,7 @@ fn read_lines(text: &[u8], at: usize, n: u64, starts: &mut [u64], rows: &mut [u3
     Lines::Rows { count: total }
 }
 
-// Reads the job of a text: stores its starts and rows at the front of the lent slices. `more` says whether the text continues behind what
+// Reads the job of a text: stores its starts and rows at the start of the lent slices. `more` says whether the text continues behind what
 // is lent.
 pub fn read_job(text: &[u8], more: bool, starts: &mut [u64], rows: &mut [u32]) -> JobRead
     requires { ⌜ programColumns < length (now starts) ⌝ }
@@ -82,13 +82,13 @@ pub fn read_job(text: &[u8], more: bool, starts: &mut [u64], rows: &mut [u32]) -
         };
     }
     match text_head::read_head(text) {
-        Head::Bad => {
+        FirstLine::Bad => {
             return JobRead::Refused {
                 number: 25,
                 place: 1,
             };
         }
-        Head::Numbers { head, next } => {
+        FirstLine::Numbers { head, next } => {
             if (program_sizes::COLUMNS as u64) < head.n {
                 return JobRead::Refused {
                     number: 26,

@@ -12,12 +12,12 @@ use lib.ListN.{length, getD, take, drop, length-drop, length-append, take-append
 use lib.Seq.{drop-cons, drop-drop, getD-drop}
 use Rattle.papers.specs.Text.{newline, space, isDecimal, decimalOf, numbersAt}
 use Rattle.list_laws.proofs.Tests.{true-false}
-use Rattle.text_laws.specs.Grammar.{Digit, Short, Ends}
+use Rattle.text_laws.specs.Grammar.{DigitByte, Short, Ends}
 use Rattle.text_laws.proofs.Parts.{all-back, within}
 use Rattle.text_laws.proofs.Decimals.{decimal-digits}
 use Rattle.text_laws.proofs.DecimalWords.{decimal-is, decimal-iff, decimal-word-iff}
 use Rattle.text_laws.proofs.ByWords.{no-digit, first-number}
-use Rattle.text_words.specs.Words.{Stop, DigitsFound, Number}
+use Rattle.text_words.specs.Words.{Stop, DigitsFound, DecimalAt}
 use Rattle.text_words.proofs.Scan.{digits-long}
 
 first-behind : (text : List ℕ) (n : ℕ) {c : ℕ} {rest : List ℕ} → drop n text ≡ c ∷ rest → (n < length text) × (getD text n 0 ≡ c)
@@ -38,7 +38,7 @@ module _ (text : List ℕ) (at : ℕ) {count value : ℕ} (found : DigitsFound t
 
   -- a decimal, and the byte behind it
   pub number-here : {b : ℕ} → isDecimal digits ≡ true → at + count < length text → getD text (at + count) 0 ≡ b
-      → Number text at b value (at + count + 1)
+      → DecimalAt text at b value (at + count + 1)
   number-here {b} e h g =
       let (w, s) = decimal-iff digits value .0 (e, sym (found .reads .valued)) in
       record { short = s; stands = parts ∙ rw (behind-digits h, g, ← w); on = omega arith; inside = omega arith }
@@ -47,7 +47,7 @@ module _ (text : List ℕ) (at : ℕ) {count value : ℕ} (found : DigitsFound t
   all-digits : {x b : ℕ} {rest : List ℕ} → Ends b → Short x → drop at text ≡ decimalOf x ++ (b ∷ rest)
       → (digits ≡ decimalOf x) × (drop (at + count) text ≡ b ∷ rest)
   all-digits {x} {b} {rest} n s e =
-      let (u, f, g) = within Digit digits (decimalOf x) b (drop (at + count) text) rest (found .reads .there .digits) (no-digit b n)
+      let (u, f, g) = within DigitByte digits (decimalOf x) b (drop (at + count) text) rest (found .reads .there .digits) (no-digit b n)
       (sym parts ∙ e) in
       go u f g
     where
@@ -58,7 +58,7 @@ module _ (text : List ℕ) (at : ℕ) {count value : ℕ} (found : DigitsFound t
       no-more c u f g (inr (inl z)) = let (there, byte) = first-behind text (at + count) g in omega arith
       no-more c u f g (inr (inr z)) =
           let (there, byte) = first-behind text (at + count) g in
-          z (rw byte (all-back Digit digits (c ∷ u) (rw f at (decimal-digits x)) .0))
+          z (rw byte (all-back DigitByte digits (c ∷ u) (rw f at (decimal-digits x)) .0))
 
       go : (u : List ℕ) → decimalOf x ≡ digits ++ u → drop (at + count) text ≡ u ++ (b ∷ rest)
           → (digits ≡ decimalOf x) × (drop (at + count) text ≡ b ∷ rest)

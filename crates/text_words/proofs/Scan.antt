@@ -16,7 +16,7 @@ use borrow.Author.Tests.{le-leb, lt-leb, eqb-true, eqb-false, not-true, not-fals
 use Rattle.papers.specs.Bounds.{maxDigits}
 use Rattle.papers.specs.Text.{isDigit, isDecimal, valueOf}
 use Rattle.list_laws.proofs.Tests.{below-or, Test, passes, fails, test, true-false}
-use Rattle.text_laws.specs.Grammar.{Digit, Decimal}
+use Rattle.text_laws.specs.Grammar.{DigitByte, Decimal}
 use Rattle.text_laws.proofs.Parts.{all-append}
 use Rattle.text_laws.proofs.Decimals.{value-append, value-below, digit-iff}
 use Rattle.text_laws.proofs.DecimalWords.{decimal-word-iff}
@@ -32,10 +32,10 @@ pub digit-low : (b : ℕ) → b < 48 → leb 48 b ≡ isDigit b
 unfolding isDigit
 digit-low b h = rw (lt-leb 48 b h)
 
-pub digit-yes : (b : ℕ) {r : Bool} → r ≡ isDigit b → not r ≡ false → Digit b
+pub digit-yes : (b : ℕ) {r : Bool} → r ≡ isDigit b → not r ≡ false → DigitByte b
 digit-yes b {r} e t = digit-iff b .0 (sym e ∙ not-false r t)
 
-pub digit-no : (b : ℕ) {r : Bool} → r ≡ isDigit b → not r ≡ true → ¬ Digit b
+pub digit-no : (b : ℕ) {r : Bool} → r ≡ isDigit b → not r ≡ true → ¬ DigitByte b
 digit-no b {r} e f d = true-false (digit-iff b .1 d) (sym e ∙ not-true r f)
 
 -- ---- digits
@@ -100,7 +100,7 @@ module _ (text : List ℕ) (at : ℕ) where
         omega arith
 
     -- reads one more digit
-    pub digits-turn : {b : ℕ} → i < maxDigits → at + i < length text → b ≡ getD text (at + i) 0 → Digit b
+    pub digits-turn : {b : ℕ} → i < maxDigits → at + i < length text → b ≡ getD text (at + i) 0 → DigitByte b
         → DigitsRead text at (i + 1) (10 * value + (b - 48))
     unfolding valueOf
     digits-turn {b} h g e digit =
@@ -109,7 +109,7 @@ module _ (text : List ℕ) (at : ℕ) where
         let parts : take (suc i) (drop at text) ≡ take i (drop at text) ++ (b ∷ []) = rw (← last) (take-suc (drop at text) i 0 there) in
         record {
           there = record {
-            digits = rw (add-one, parts) (all-append Digit (take i (drop at text)) (b ∷ []) (d .there .digits) (digit, tt));
+            digits = rw (add-one, parts) (all-append DigitByte (take i (drop at text)) (b ∷ []) (d .there .digits) (digit, tt));
             few = omega arith;
             inside = omega arith;
           };

@@ -10,26 +10,26 @@ use Rattle.text_laws.specs.Grammar.{behind}
 use Rattle.text_laws.proofs.ByWords.{numbers-last, numbers-next, after-last, after-next}
 use Rattle.text_words.specs.declared.Word.{Word}
 use Rattle.text_words.specs.declared.Word.the-variants.{More, Last, Bad}
-use Rattle.text_words.specs.Words.{LineTo, Number, WordRead, more, last, bad}
+use Rattle.text_words.specs.Words.{LineTo, DecimalAt, WordRead, before-space, before-newline, no-number}
 
 module _ {text : List ℕ} {at : ℕ} {r : Word} where
-  pub word-more : {x next : ℕ} → WordRead text at r → r ≡ More x next → Number text at space x next
-  word-more {x} {next} (more y m e n) g = let a : y ≡ x = cc in let b : m ≡ next = cc in rw (← a, ← b) n
-  word-more (last y m e n) g = absurd (let z : _≡_ {A = ℕ} 0 1 = cc in omega arith)
-  word-more (bad e n) g = absurd (let z : _≡_ {A = ℕ} 0 1 = cc in omega arith)
+  pub word-more : {x next : ℕ} → WordRead text at r → r ≡ More x next → DecimalAt text at space x next
+  word-more {x} {next} (before-space y m e n) g = let a : y ≡ x = cc in let b : m ≡ next = cc in rw (← a, ← b) n
+  word-more (before-newline y m e n) g = absurd (let z : _≡_ {A = ℕ} 0 1 = cc in omega arith)
+  word-more (no-number e n) g = absurd (let z : _≡_ {A = ℕ} 0 1 = cc in omega arith)
 
-  pub word-last : {x next : ℕ} → WordRead text at r → r ≡ Last x next → Number text at newline x next
-  word-last (more y m e n) g = absurd (let z : _≡_ {A = ℕ} 0 1 = cc in omega arith)
-  word-last {x} {next} (last y m e n) g = let a : y ≡ x = cc in let b : m ≡ next = cc in rw (← a, ← b) n
-  word-last (bad e n) g = absurd (let z : _≡_ {A = ℕ} 0 1 = cc in omega arith)
+  pub word-last : {x next : ℕ} → WordRead text at r → r ≡ Last x next → DecimalAt text at newline x next
+  word-last (before-space y m e n) g = absurd (let z : _≡_ {A = ℕ} 0 1 = cc in omega arith)
+  word-last {x} {next} (before-newline y m e n) g = let a : y ≡ x = cc in let b : m ≡ next = cc in rw (← a, ← b) n
+  word-last (no-number e n) g = absurd (let z : _≡_ {A = ℕ} 0 1 = cc in omega arith)
 
   pub word-bad : WordRead text at r → r ≡ Bad → numbersAt (drop at text) 1 ≡ []
-  word-bad (more y m e n) g = absurd (let z : _≡_ {A = ℕ} 0 1 = cc in omega arith)
-  word-bad (last y m e n) g = absurd (let z : _≡_ {A = ℕ} 0 1 = cc in omega arith)
-  word-bad (bad e n) g = n
+  word-bad (before-space y m e n) g = absurd (let z : _≡_ {A = ℕ} 0 1 = cc in omega arith)
+  word-bad (before-newline y m e n) g = absurd (let z : _≡_ {A = ℕ} 0 1 = cc in omega arith)
+  word-bad (no-number e n) g = n
 
 -- a space follows the number, and then the rest of the line
-module _ {text : List ℕ} {at x next : ℕ} (n : Number text at space x next) where
+module _ {text : List ℕ} {at x next : ℕ} (n : DecimalAt text at space x next) where
   pub more-numbers : numbersAt (drop at text) 1 ≡ behind (x ∷ []) (numbersAt (drop next text) 1)
   more-numbers = ap (λ (t : List ℕ). numbersAt t 1) (n .stands) ∙ numbers-next x (n .short) (drop next text)
 
@@ -40,7 +40,7 @@ module _ {text : List ℕ} {at x next : ℕ} (n : Number text at space x next) w
   line-behind l = let a = n .on in let b = l .on in record { rest = l .rest ∙ more-after; on = omega arith; inside = l .inside }
 
 -- a newline follows the number and ends the line
-module _ {text : List ℕ} {at x next : ℕ} (n : Number text at newline x next) where
+module _ {text : List ℕ} {at x next : ℕ} (n : DecimalAt text at newline x next) where
   pub last-numbers : numbersAt (drop at text) 1 ≡ x ∷ []
   last-numbers = ap (λ (t : List ℕ). numbersAt t 1) (n .stands) ∙ numbers-last x (n .short) (drop next text)
 

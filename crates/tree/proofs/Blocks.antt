@@ -13,7 +13,7 @@ use Rattle.list_laws.proofs.Members.{flatMap-same}
 use Rattle.list_laws.proofs.SortOrder.{sort-level}
 use Rattle.list_laws.proofs.Slices.{slice-none}
 use Rattle.order_laws.proofs.Arranged.{steps-suc, steps-enough}
-use Rattle.tree.specs.Blocks.{block, blocks, kidsAt}
+use Rattle.tree.specs.Blocks.{blockOf, blocks, kidsAt}
 
 -- mark 0 keeps the order of children
 pub arranged-zero : (size : ℕ → ℕ) (kids : ℕ → List ℕ) (steps : ℕ → List ℕ) (j : ℕ) → arranged 0 size kids steps j ≡ kids j
@@ -21,40 +21,40 @@ unfolding arranged siblingKey
 arranged-zero size kids steps j = sort-level _ (λ c. refl) (kids j)
 
 module _ (kids : ℕ → List ℕ) where
-  pub block-none : block kids 0 ≡ []
-  unfolding block stepsOf
+  pub block-none : blockOf kids 0 ≡ []
+  unfolding blockOf stepsOf
   block-none = refl
 
   pub blocks-nil : blocks kids [] ≡ []
   unfolding blocks flatMap
   blocks-nil = refl
 
-  pub blocks-cons : (c : ℕ) (cs : List ℕ) → blocks kids (c ∷ cs) ≡ block kids c ++ blocks kids cs
+  pub blocks-cons : (c : ℕ) (cs : List ℕ) → blocks kids (c ∷ cs) ≡ blockOf kids c ++ blocks kids cs
   unfolding blocks flatMap
   blocks-cons c cs = refl
 
   pub blocks-append : (a b : List ℕ) → blocks kids (a ++ b) ≡ blocks kids a ++ blocks kids b
   blocks-append [] b = rw blocks-nil refl
   blocks-append (c ∷ a) b =
-      rw (blocks-cons c (a ++ b), blocks-cons c a, blocks-append a b) (sym (append-assoc (block kids c) (blocks kids a) (blocks kids b)))
+      rw (blocks-cons c (a ++ b), blocks-cons c a, blocks-append a b) (sym (append-assoc (blockOf kids c) (blocks kids a) (blocks kids b)))
 
   module _ (lower : (j c : ℕ) → 0 < j → c ∈ kids j → (0 < c) × (c < j)) where
     -- a column after its children
-    pub block-is : (j : ℕ) → 0 < j → block kids j ≡ blocks kids (kids j) ++ (j ∷ [])
-    unfolding block blocks
+    pub block-is : (j : ℕ) → 0 < j → blockOf kids j ≡ blocks kids (kids j) ++ (j ∷ [])
+    unfolding blockOf blocks
     block-is zero l = absurd (omega arith)
     block-is (suc k) l =
         steps-suc 0 (λ c. 0) kids k (suc k)
         ∙ rw (arranged-zero (λ c. 0) kids (stepsOf 0 (λ c. 0) kids k) (suc k))
-        (ap (λ l. l ++ (suc k ∷ [])) (flatMap-same (stepsOf 0 (λ c. 0) kids k) (block kids) (kids (suc k)) (λ c m. let (a, b) = lower (suc k) c l m in
+        (ap (λ l. l ++ (suc k ∷ [])) (flatMap-same (stepsOf 0 (λ c. 0) kids k) (blockOf kids) (kids (suc k)) (λ c m. let (a, b) = lower (suc k) c l m in
         steps-enough 0 (λ c. 0) kids lower k c c a (omega arith) (omega arith))))
 
-    pub block-count : (j : ℕ) → 0 < j → length (block kids j) ≡ length (blocks kids (kids j)) + 1
+    pub block-count : (j : ℕ) → 0 < j → length (blockOf kids j) ≡ length (blocks kids (kids j)) + 1
     block-count j l = ap length (block-is j l) ∙ length-append (blocks kids (kids j)) (j ∷ [])
 
   -- ---- siblings from place i to place e of the list
   pub blocks-next : (list : List ℕ) (i e : ℕ) → i < e → e ≤ length list
-      → blocks kids (slice i e list) ≡ block kids (getD list i 0) ++ blocks kids (slice (i + 1) e list)
+      → blocks kids (slice i e list) ≡ blockOf kids (getD list i 0) ++ blocks kids (slice (i + 1) e list)
   blocks-next list i e h g = rw (add-one, slice-cons i e list 0 h g) (blocks-cons (getD list i 0) (slice (suc i) e list))
 
   pub blocks-none : (list : List ℕ) (i e : ℕ) → e ≤ i → blocks kids (slice i e list) ≡ []

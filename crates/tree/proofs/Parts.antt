@@ -23,23 +23,23 @@ module _ (l ys : List ℕ) (a e : ℕ) (rise : a ≤ e) (inside : e ≤ length l
       ap (take (e - a)) (drop-at (take a l) (ys ++ drop (e - a) (drop a l)) a (length-take-le a l (omega arith))) ∙ take-at ys
       (drop (e - a) (drop a l)) (e - a) count
 
--- ---- two parts that came back one after the other: s for the front up to m, then z for the part from m to w
-module _ (work s z : List ℕ) (m w : ℕ) (h : m ≤ w) (g : w ≤ length work) (front-kept : length s ≡ length (take m work))
+-- ---- two parts that came back one after the other: s for the places before m, then z for those from m to w
+module _ (work s z : List ℕ) (m w : ℕ) (h : m ≤ w) (g : w ≤ length work) (start-kept : length s ≡ length (take m work))
     (back-kept : length z ≡ length (part m w (s ++ drop m work)))
   where
     abbrev both : List ℕ
     both = take m (s ++ drop m work) ++ (z ++ drop (w - m) (drop m (s ++ drop m work)))
 
-    front-length : length s ≡ m
-    front-length = front-kept ∙ length-take-le m work (omega arith)
+    start-length : length s ≡ m
+    start-length = start-kept ∙ length-take-le m work (omega arith)
 
     whole : w ≤ length (s ++ drop m work)
-    whole = omega (arith, length-append s (drop m work), front-length, length-drop m work)
+    whole = omega (arith, length-append s (drop m work), start-length, length-drop m work)
 
-    pub front-is : take m both ≡ s
-    front-is =
-        let a : take m (s ++ drop m work) ≡ s = take-at s (drop m work) m front-length in
-        rw a (take-at s (z ++ drop (w - m) (drop m (s ++ drop m work))) m front-length)
+    pub start-is : take m both ≡ s
+    start-is =
+        let a : take m (s ++ drop m work) ≡ s = take-at s (drop m work) m start-length in
+        rw a (take-at s (z ++ drop (w - m) (drop m (s ++ drop m work))) m start-length)
 
     pub back-is : part m w both ≡ z
     back-is = back-part (s ++ drop m work) z m w h whole (back-kept ∙ part-length m w (s ++ drop m work) h whole)

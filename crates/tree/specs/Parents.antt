@@ -33,7 +33,7 @@ pub record Countable (parents counts : List ℕ) (more : ℕ) : Type 0 where
   pub long : length counts ≡ length parents + more
 
 -- starts has places for the starts of the lists and the end of the last; list has places for the children, in 32 bits
-pub record Listable (parents starts list : List ℕ) : Type 0 where
+pub record ChildrenListable (parents starts list : List ℕ) : Type 0 where
   pub tree : TreeIn parents
   pub long : length starts ≡ length parents + 2
   pub wide : length parents ≤ length list
@@ -47,6 +47,6 @@ pub record Layable (parents list work : List ℕ) : Type 0 where
   pub room : 2 * length parents + 3 ≤ length work
 
 -- r is the number at place i, and does not exceed the list's length
-pub record NumberAt (list : List ℕ) (i r : ℕ) : Type 0 where
+pub record NumberRead (list : List ℕ) (i r : ℕ) : Type 0 where
   pub same : r ≡ getD list i 0
   pub low : r ≤ length list

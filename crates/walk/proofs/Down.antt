@@ -11,7 +11,7 @@ use Rattle.list_laws.proofs.Stores.{sets-append}
 use Rattle.tree.specs.Blocks.{kidsAt}
 use Rattle.tree.proofs.Blocks.{block-none, block-is, block-count}
 use Rattle.walk.specs.Tasks.{Asked, Task, ownSteps, kidsSteps}
-use Rattle.walk.specs.Children.{Handed}
+use Rattle.walk.specs.Children.{BlockHanded}
 use Rattle.walk.proofs.Runs.{set-sets}
 
 -- more room than is needed
@@ -93,7 +93,7 @@ module _ {starts list counts d₀ d : List ℕ} {j left at c size a : ℕ} (inv 
         }
 
     -- the child that is handed back is all that is left
-    pub down-turn : {d′ : List ℕ} {c′ size′ a′ : ℕ} → Handed starts list counts c (size - 1) (set d (a + size - 1) c) a d′ c′ size′ a′
+    pub down-turn : {d′ : List ℕ} {c′ size′ a′ : ℕ} → BlockHanded starts list counts c (size - 1) (set d (a + size - 1) c) a d′ c′ size′ a′
         → length d′ ≡ length (set d (a + size - 1) c) → Down starts list counts j left d₀ at d′ c′ size′ a′
     down-turn h n =
         let f = inv .task .asks .fits in

@@ -15,7 +15,7 @@ use Rattle.tree.specs.Blocks.{blocks, kidsAt}
 use Rattle.list_laws.proofs.Slices.{slice-into}
 use Rattle.tree.proofs.Blocks.{blocks-next, blocks-none, kids-are}
 use Rattle.walk.specs.Tasks.{Laid, Asked, Task, ownSteps, kidsSteps}
-use Rattle.walk.specs.Children.{Listed, ChildBlock}
+use Rattle.walk.specs.Children.{ChildListed, ChildBlock}
 
 -- the steps of the siblings from place i of the lists on
 abbrev pub laterSteps : List ℕ → List ℕ → ℕ → ℕ → List ℕ
@@ -70,7 +70,7 @@ module _ {starts list counts : List ℕ} {j e i a : ℕ} (later : Later starts l
   own = later .laid .counted (getD list i 0) (in-range .0) (in-range .1)
 
   -- what reading it requires
-  pub child-listed : e < 2 ^ 64 → Listed list counts i
+  pub child-listed : e < 2 ^ 64 → ChildListed list counts i
   child-listed h =
       record { inside = child-inside; known = in-range .1; small = omega (arith, own, next-place, later .place) }
 

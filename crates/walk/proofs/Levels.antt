@@ -5,19 +5,19 @@ use mathlib.Core.Path.{_≡_, refl}
 use mathlib.Core.Logic.{_≢_}
 use native.Mathlib.Omega.{arith}
 use borrow.Author.Tests.{ne-eqb}
-use Rattle.walk.specs.Levels.{digits, levels}
+use Rattle.walk.specs.Levels.{binaryDigits, levels}
 
-digits-zero : (f : ℕ) → digits f 0 ≡ 0
-unfolding digits
+digits-zero : (f : ℕ) → binaryDigits f 0 ≡ 0
+unfolding binaryDigits
 digits-zero zero = refl
 digits-zero (suc f) = refl
 
-digits-suc : (f x : ℕ) → 0 < x → digits (suc f) x ≡ suc (digits f (x / 2))
-unfolding digits
-digits-suc f x h = let n : x ≢ 0 = λ e. omega arith in rw (ne-eqb x 0 n, digits)
+digits-suc : (f x : ℕ) → 0 < x → binaryDigits (suc f) x ≡ suc (binaryDigits f (x / 2))
+unfolding binaryDigits
+digits-suc f x h = let n : x ≢ 0 = λ e. omega arith in rw (ne-eqb x 0 n, binaryDigits)
 
-digits-mono : (f g x y : ℕ) → f ≤ g → x ≤ y → digits f x ≤ digits g y
-unfolding digits
+digits-mono : (f g x y : ℕ) → f ≤ g → x ≤ y → binaryDigits f x ≤ binaryDigits g y
+unfolding binaryDigits
 digits-mono zero zero x y p q = omega arith
 digits-mono zero (suc g) x y p q = omega arith
 digits-mono (suc f) zero x y p q = absurd (omega arith)
@@ -38,11 +38,11 @@ levels-half x (suc y) l h =
     let i = digits-mono x y x (suc y / 2) (omega arith) (omega arith) in
     rw (digits-suc y (suc y) (omega arith)) (omega arith)
 
-digits-none : (x : ℕ) → digits 0 x ≡ 0
-unfolding digits
+digits-none : (x : ℕ) → binaryDigits 0 x ≡ 0
+unfolding binaryDigits
 digits-none x = refl
 
-digits-few : (k f x : ℕ) → x < 2 ^ k → digits f x ≤ k
+digits-few : (k f x : ℕ) → x < 2 ^ k → binaryDigits f x ≤ k
 digits-few zero f x h = let e : x ≡ 0 = omega arith in rw (e, digits-zero f) (omega arith)
 digits-few (suc k) zero x h = rw (digits-none x) (omega arith)
 digits-few (suc k) (suc f) zero h = rw (digits-zero (suc f)) (omega arith)

@@ -2,6 +2,6 @@ pub mod Levels
 pub mod Runs
 pub mod Down
 pub mod Later
-pub mod Held
+pub mod OneKept
 pub mod Measure
 pub mod Nesting

@@ -18,14 +18,14 @@ abbrev pub μ-siblings : Measures 4 siblings-kinds.ps ℕ
 
 -- a task with t columns left, and one with fewer
 module _ (t : ℕ) where
-  abbrev pub columnAt : In 4 column-kinds.ps
-  columnAt = and 4 column-kinds.ps (is 4 column-kinds.ps μ-column t) column.Pre
+  abbrev pub columnHere : In 4 column-kinds.ps
+  columnHere = and 4 column-kinds.ps (is 4 column-kinds.ps μ-column t) column.Pre
 
   abbrev pub columnBelow : In 4 column-kinds.ps
   columnBelow = and 4 column-kinds.ps (falls 4 column-kinds.ps _<_ μ-column t) column.Pre
 
-  abbrev pub siblingsAt : In 4 siblings-kinds.ps
-  siblingsAt = and 4 siblings-kinds.ps (is 4 siblings-kinds.ps μ-siblings t) siblings.Pre
+  abbrev pub siblingsHere : In 4 siblings-kinds.ps
+  siblingsHere = and 4 siblings-kinds.ps (is 4 siblings-kinds.ps μ-siblings t) siblings.Pre
 
   abbrev pub siblingsBelow : In 4 siblings-kinds.ps
   siblingsBelow = and 4 siblings-kinds.ps (falls 4 siblings-kinds.ps _<_ μ-siblings t) siblings.Pre

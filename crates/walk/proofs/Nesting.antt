@@ -10,7 +10,7 @@ use lib.Dec.{leb}
 use lib.ListN.{length, length-append}
 use borrow.Author.Tests.{leb-true, leb-false}
 use Rattle.papers.specs.Lists.{_∈_}
-use Rattle.tree.specs.Blocks.{block, blocks, kidsAt}
+use Rattle.tree.specs.Blocks.{blockOf, blocks, kidsAt}
 use Rattle.tree.proofs.Blocks.{blocks-cons, block-count}
 use Rattle.walk.specs.Levels.{levels}
 use Rattle.walk.specs.Tasks.{Asked, kidsSteps}
@@ -33,43 +33,43 @@ few-more {rest = rest} all n s f h g l half =
 module _ (kids : ℕ → List ℕ) (lower : (j c : ℕ) → 0 < j → c ∈ kids j → (0 < c) × (c < j)) where
   -- the columns of c's subtree
   abbrev size : ℕ → ℕ
-  size c = length (block kids c)
+  size c = length (blockOf kids c)
 
   some : (c : ℕ) → 0 < c → 0 < size c
   some c l = omega (arith, block-count kids lower c l)
 
-  -- the columns of the held child and of those to come, together
+  -- the columns of the child kept and of those to come, together
   abbrev together : ℕ → List ℕ → ℕ
-  together held cs = size held + length (blocks kids cs)
+  together kept cs = size kept + length (blocks kids cs)
 
   more : (c : ℕ) (cs : List ℕ) → length (blocks kids (c ∷ cs)) ≡ size c + length (blocks kids cs)
-  more c cs = ap length (blocks-cons kids c cs) ∙ length-append (block kids c) (blocks kids cs)
+  more c cs = ap length (blocks-cons kids c cs) ∙ length-append (blockOf kids c) (blocks kids cs)
 
   -- ---- below a column's task calls nest as nests says, which is no deeper than its columns can be halved
   module _ (nests : ℕ → ℕ) (few : (c : ℕ) → 0 < c → nests c + 2 ≤ 2 * levels (size c)) where
-    kids-few : (held : ℕ) (cs : List ℕ) → 0 < held → ((c : ℕ) → c ∈ cs → 0 < c)
-        → Few (nestKids kids nests held cs) (nests (handed kids held cs)) (together held cs)
+    kids-few : (kept : ℕ) (cs : List ℕ) → 0 < kept → ((c : ℕ) → c ∈ cs → 0 < c)
+        → Few (nestKids kids nests kept cs) (nests (handed kids kept cs)) (together kept cs)
     unfolding nestKids handed
-    kids-few held [] l h =
-        let m = levels-mono (size held) (together held []) (omega arith) in
-        record { below = omega arith; on = omega (arith, few held l) }
-    kids-few held (c ∷ cs) l h =
+    kids-few kept [] l h =
+        let m = levels-mono (size kept) (together kept []) (omega arith) in
+        record { below = omega arith; on = omega (arith, few kept l) }
+    kids-few kept (c ∷ cs) l h =
         let rest : (d : ℕ) → d ∈ cs → 0 < d = λ d m. h d (List·Memᴰ·tail m) in
-        go (leb (size c) (size held)) refl (h c (List·Memᴰ·head refl)) (kids-few held cs l rest) (kids-few c cs (h c (List·Memᴰ·head refl)) rest)
+        go (leb (size c) (size kept)) refl (h c (List·Memᴰ·head refl)) (kids-few kept cs l rest) (kids-few c cs (h c (List·Memᴰ·head refl)) rest)
       where
-        go : (b : Bool) → leb (size c) (size held) ≡ b → 0 < c → Few (nestKids kids nests held cs) (nests (handed kids held cs)) (together held cs)
+        go : (b : Bool) → leb (size c) (size kept) ≡ b → 0 < c → Few (nestKids kids nests kept cs) (nests (handed kids kept cs)) (together kept cs)
             → Few (nestKids kids nests c cs) (nests (handed kids c cs)) (together c cs)
-            → Few (nestKids kids nests held (c ∷ cs)) (nests (handed kids held (c ∷ cs))) (together held (c ∷ cs))
+            → Few (nestKids kids nests kept (c ∷ cs)) (nests (handed kids kept (c ∷ cs))) (together kept (c ∷ cs))
         go true e k p q =
             let n = more c cs in
-            let s = leb-true (size c) (size held) e in
+            let s = leb-true (size c) (size kept) e in
             rw (e, nestKids, handed)
-            (few-more (together held (c ∷ cs)) (nests c) (size c) p (omega arith) (few c k) (omega (arith, some c k)) (omega arith))
+            (few-more (together kept (c ∷ cs)) (nests c) (size c) p (omega arith) (few c k) (omega (arith, some c k)) (omega arith))
         go false e k p q =
             let n = more c cs in
-            let s = leb-false (size c) (size held) e in
+            let s = leb-false (size c) (size kept) e in
             rw (e, nestKids, handed)
-            (few-more (together held (c ∷ cs)) (nests held) (size held) q (omega arith) (few held l) (omega (arith, some c k)) (omega arith))
+            (few-more (together kept (c ∷ cs)) (nests kept) (size kept) q (omega arith) (few kept l) (omega (arith, some c k)) (omega arith))
 
   -- below a column's task: its children have a column less, and a call does them if there are any
   column-few : (f j : ℕ) → 0 < j → nestColumn kids f j + 2 ≤ 2 * levels (size j)
@@ -78,8 +78,8 @@ module _ (kids : ℕ → List ℕ) (lower : (j c : ℕ) → 0 < j → c ∈ kids
   column-few (suc f) j l = go (kids j) refl (kids-few (nestColumn kids f) (λ c k. column-few f c k))
     where
       go : (cs : List ℕ) → kids j ≡ cs
-          → ((held : ℕ) (ds : List ℕ) → 0 < held → ((c : ℕ) → c ∈ ds → 0 < c)
-          → Few (nestKids kids (nestColumn kids f) held ds) (nestColumn kids f (handed kids held ds)) (together held ds))
+          → ((kept : ℕ) (ds : List ℕ) → 0 < kept → ((c : ℕ) → c ∈ ds → 0 < c)
+          → Few (nestKids kids (nestColumn kids f) kept ds) (nestColumn kids f (handed kids kept ds)) (together kept ds))
           → nestColumn kids (suc f) j + 2 ≤ 2 * levels (size j)
       go [] e k = rw (e, nestColumn) (omega (arith, levels-half 0 (size j) (some j l) (omega arith)))
       go (c ∷ cs) e k =

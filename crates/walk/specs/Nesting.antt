@@ -5,20 +5,20 @@ use mathlib.Core.Bool.{true, false}
 use mathlib.Core.List.{List, [], _∷_}
 use lib.Dec.{leb}
 use lib.ListN.{length}
-use Rattle.tree.specs.Blocks.{block}
+use Rattle.tree.specs.Blocks.{blockOf}
 
--- the child that the siblings' task hands back, if it holds one and the others are to come
+-- the child that the siblings' task hands back, if it keeps one and the others are to come
 unfoldable pub handed : (ℕ → List ℕ) → ℕ → List ℕ → ℕ
-handed kids held [] = held
-handed kids held (c ∷ cs) = elim (leb (length (block kids c)) (length (block kids held))) [ true ↦ handed kids held cs | false ↦ handed kids c cs ]
+handed kids kept [] = kept
+handed kids kept (c ∷ cs) = elim (leb (length (blockOf kids c)) (length (blockOf kids kept))) [ true ↦ handed kids kept cs | false ↦ handed kids c cs ]
 
 -- how deep calls nest below the siblings' task, if nests says so for a column's task: the smaller of two children is done by a call
 unfoldable pub nestKids : (ℕ → List ℕ) → (ℕ → ℕ) → ℕ → List ℕ → ℕ
-nestKids kids nests held [] = 0
-nestKids kids nests held (c ∷ cs) =
-    elim (leb (length (block kids c)) (length (block kids held))) [
-      | true ↦ max (1 + nests c) (nestKids kids nests held cs)
-      | false ↦ max (1 + nests held) (nestKids kids nests c cs)
+nestKids kids nests kept [] = 0
+nestKids kids nests kept (c ∷ cs) =
+    elim (leb (length (blockOf kids c)) (length (blockOf kids kept))) [
+      | true ↦ max (1 + nests c) (nestKids kids nests kept cs)
+      | false ↦ max (1 + nests kept) (nestKids kids nests c cs)
     ]
 
 -- how deep calls nest below the task of column j: it calls for its children, if it has any, and continues with the child handed back, without

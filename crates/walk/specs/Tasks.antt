@@ -5,7 +5,7 @@ use mathlib.Core.Path.{_≡_}
 use mathlib.Core.List.{List}
 use lib.ListN.{length, getD}
 use Rattle.papers.specs.Lists.{_∈_}
-use Rattle.tree.specs.Blocks.{block, blocks, kidsAt}
+use Rattle.tree.specs.Blocks.{blockOf, blocks, kidsAt}
 
 -- the columns are those below the length of counts; children are lower columns, and their descendants are counted
 pub record Laid (starts list counts : List ℕ) : Type 0 where
@@ -14,11 +14,11 @@ pub record Laid (starts list counts : List ℕ) : Type 0 where
   pub inside : (j : ℕ) → j < length counts → getD starts (j + 1) 0 ≤ length list
   pub known : (j c : ℕ) → j < length counts → c ∈ kidsAt starts list j → (0 < c) × (c < length counts)
   pub lower : (j c : ℕ) → 0 < j → c ∈ kidsAt starts list j → (0 < c) × (c < j)
-  pub counted : (j : ℕ) → 0 < j → j < length counts → getD counts j 0 + 1 ≡ length (block (kidsAt starts list) j)
+  pub counted : (j : ℕ) → 0 < j → j < length counts → getD counts j 0 + 1 ≡ length (blockOf (kidsAt starts list) j)
 
 -- the steps of column j's subtree
 abbrev pub ownSteps : List ℕ → List ℕ → ℕ → List ℕ
-ownSteps starts list j = block (kidsAt starts list) j
+ownSteps starts list j = blockOf (kidsAt starts list) j
 
 -- the steps of the children's subtrees; those of 0 are the roots'
 abbrev pub kidsSteps : List ℕ → List ℕ → ℕ → List ℕ

@@ -4,7 +4,7 @@ ghost use mathlib.Core.Path.{_≡_};
 ghost use lib.ListN.{length};
 ghost use lib.Seq.{sets};
 ghost use Rattle.walk.specs.Tasks.{Asked, Task, ownSteps, kidsSteps};
-ghost use Rattle.walk.specs.Children.{Listed, ChildBlock, Handed};
+ghost use Rattle.walk.specs.Children.{ChildListed, ChildBlock, BlockHanded};
 
 // A column, the count of its subtree's columns, and the first step of that block.
 pub struct Block {
@@ -15,7 +15,7 @@ pub struct Block {
 
 // Answers the block of the child at place i of the lists, which begins at step `at`.
 fn child_block(list: &[u32], counts: &[u64], i: usize, at: usize) -> Block
-    requires { ⌜ Listed (now list) (now counts) i ⌝ }
+    requires { ⌜ ChildListed (now list) (now counts) i ⌝ }
     ensures { λ r. ⌜ ChildBlock (now (list .entry)) (now (counts .entry)) i at (r .column) (r .size) (r .at) ⌝ }
 {
     let column = list[i] as usize;
@@ -50,8 +50,8 @@ pub fn column(
     order[leaf] = b.column as u32;
 }
 
-// Writes the steps of j's children, `left` of them, from `at` on, except those of the largest child, whose block it hands back. It holds
-// the largest child so far, at first the first one. It does a child that is no larger at once; a larger child takes the held one's place.
+// Writes the steps of j's children, `left` of them, from `at` on, except those of the largest child, whose block it hands back. It keeps
+// the largest child so far, at first the first one. It does a child that is no larger at once; a larger child takes the place of the one kept.
 pub fn siblings(
     starts: &[u64],
     list: &[u32],
@@ -62,21 +62,21 @@ pub fn siblings(
     at: usize,
 ) -> Block
     requires { ⌜ Task (now starts) (now list) (now counts) j left at (length (now order)) (kidsSteps (now starts) (now list) j) ⌝ }
-    ensures { λ r. ⌜ Handed (now (starts .entry)) (now (list .entry)) (now (counts .entry)) j left
+    ensures { λ r. ⌜ BlockHanded (now (starts .entry)) (now (list .entry)) (now (counts .entry)) j left
         (now (order .entry)) at (now (order .exit)) (r .column) (r .size) (r .at) ⌝ }
 {
     let first = starts[j] as usize;
-    let mut held = child_block(list, counts, first, at);
+    let mut kept = child_block(list, counts, first, at);
     // an only child has all the steps
-    if held.size == left {
-        return held;
+    if kept.size == left {
+        return kept;
     }
     let end = at + left;
-    let mut a = at + held.size;
+    let mut a = at + kept.size;
     let mut i = first + 1;
     while a < end {
         let child = child_block(list, counts, i, a);
-        if child.size <= held.size {
+        if child.size <= kept.size {
             column(
                 starts,
                 list,
@@ -89,13 +89,13 @@ pub fn siblings(
             a += child.size;
             i += 1;
         } else {
-            column(starts, list, counts, held.column, held.size, order, held.at);
-            held = child;
+            column(starts, list, counts, kept.column, kept.size, order, kept.at);
+            kept = child;
             a += child.size;
             i += 1;
         }
     }
-    held
+    kept
 }
 
 // Writes the steps of all columns, `left` of them: the blocks of the roots, which are the children of 0, one behind the other.

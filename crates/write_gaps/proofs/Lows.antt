@@ -7,7 +7,7 @@ use mathlib.Core.List.{List, [], _∷_}
 use native.Mathlib.Omega.{arith}
 use lib.ListN.{length, getD, set, length-append, length-set}
 use lib.Seq.{slice, length-slice}
-use Rattle.papers.specs.Lists.{greatest}
+use Rattle.papers.specs.Lists.{largest}
 use Rattle.papers.specs.Numbers.{bytesOf, encode}
 use Rattle.papers.specs.Key.{gapsOf}
 use Rattle.list_laws.specs.Wrote.{Wrote}
@@ -16,7 +16,7 @@ use Rattle.list_laws.proofs.Writing.{wrote-byte, Writes, writes-all, writes-par
 use Rattle.bytes_laws.proofs.Gaps.{length-gaps}
 use Rattle.bytes_laws.proofs.Numbers.{bytes-length}
 use Rattle.groups.proofs.Written.{bytes-small}
-use Rattle.write_gaps.specs.ListAt.{ListAt, ListFits}
+use Rattle.write_gaps.specs.ListBetween.{ListBetween, ListFits}
 use Rattle.write_gaps.specs.LowBytes.{lowBytes, LowsStored}
 use Rattle.write_gaps.proofs.Rows.{RowsLeft, rows-all, rows-next, gaps-next, gaps-none}
 
@@ -32,8 +32,8 @@ encode-long [] = omega arith
 encode-long (x ∷ xs) = omega (arith, encode-long xs, bytes-length x .0, length-append (bytesOf x) (encode xs))
 
 -- below 128 a number is its low byte
-lows-small : (xs : List ℕ) → greatest xs < 128 → lowBytes xs ≡ encode xs
-unfolding lowBytes greatest encode
+lows-small : (xs : List ℕ) → largest xs < 128 → lowBytes xs ≡ encode xs
+unfolding lowBytes largest encode
 lows-small [] h = refl
 lows-small (x ∷ xs) h =
     let low : x % 256 ≡ x = omega arith in
@@ -45,7 +45,7 @@ lows-small (x ∷ xs) h =
 pub record Lows (b : ℕ) (rows : List ℕ) (from to : ℕ) (d₀ : List ℕ) (at : ℕ) (d : List ℕ) (widest before next i : ℕ) : Type 0 where
   pub rows-left : RowsLeft rows to before i
   pub written : Writes (lowBytes (gapsOf b (slice from to rows))) d₀ at (lowBytes (gapsOf before (slice i to rows))) d next
-  pub wide : max widest (greatest (gapsOf before (slice i to rows))) ≡ greatest (gapsOf b (slice from to rows))
+  pub wide : max widest (largest (gapsOf before (slice i to rows))) ≡ largest (gapsOf b (slice from to rows))
   pub fits : next + (to - i) ≤ length d
 
 pub lows-start : {b : ℕ} {rows : List ℕ} {from to : ℕ} {d : List ℕ} {at : ℕ} → ListFits rows from to b d at → Lows b rows from to d at d 0 b at from
@@ -55,11 +55,11 @@ module _ {b : ℕ} {rows : List ℕ} {from to : ℕ} {d₀ : List ℕ} {at : ℕ
     (s : Lows b rows from to d₀ at d widest before next i) where
   pub lows-turn : i < to → {row : ℕ} → row ≡ getD rows i 0 → {m : ℕ} → m ≡ max widest (row - before)
       → Lows b rows from to d₀ at (set d next ((row - before) % 256)) m row (next + 1) (i + 1)
-  unfolding lowBytes greatest
+  unfolding lowBytes largest
   lows-turn h {row} e f =
       let g = gaps-next (s .rows-left) h e in
       let fits = s .fits in
-      let wide : max widest (max (row - before) (greatest (gapsOf row (slice (i + 1) to rows)))) ≡ greatest (gapsOf b (slice from to rows)) = rw g at
+      let wide : max widest (max (row - before) (largest (gapsOf row (slice (i + 1) to rows)))) ≡ largest (gapsOf b (slice from to rows)) = rw g at
       (s .wide) in
       record {
         rows-left = rows-next (s .rows-left) h e;
@@ -69,15 +69,15 @@ module _ {b : ℕ} {rows : List ℕ} {from to : ℕ} {d₀ : List ℕ} {at : ℕ
       }
 
   pub lows-stop : to ≤ i → LowsStored (gapsOf b (slice from to rows)) d₀ d at widest
-  unfolding lowBytes greatest
+  unfolding lowBytes largest
   lows-stop h =
       let g = gaps-none (s .rows-left) h in
-      let wide : max widest 0 ≡ greatest (gapsOf b (slice from to rows)) = rw g at (s .wide) in
+      let wide : max widest 0 ≡ largest (gapsOf b (slice from to rows)) = rw g at (s .wide) in
       record { widest = omega arith; stores = writes-none (s .written) (ap lowBytes g) .writes }
 
 -- ---- a run of rows
 
-module _ {b : ℕ} {rows : List ℕ} {from to : ℕ} (l : ListAt b rows from to) where
+module _ {b : ℕ} {rows : List ℕ} {from to : ℕ} (l : ListBetween b rows from to) where
   run-length : length (gapsOf b (slice from to rows)) ≡ to - from
   run-length = length-gaps b (slice from to rows) ∙ length-slice from to rows (l .inside)
 

@@ -15,7 +15,7 @@ use Rattle.list_laws.specs.Wrote.{Wrote}
 use Rattle.list_laws.proofs.Writing.{Writes, writes-all, writes-none}
 use Rattle.bytes_laws.proofs.Gaps.{length-gaps}
 use Rattle.bytes_laws.proofs.Writing.{encode-none, writes-number, writes-near}
-use Rattle.write_gaps.specs.ListAt.{ListAt}
+use Rattle.write_gaps.specs.ListBetween.{ListBetween}
 
 -- the rows from i up to `to` are left, and `before` is the row before them
 pub record RowsLeft (rows : List ℕ) (to before i : ℕ) : Type 0 where
@@ -25,7 +25,7 @@ pub record RowsLeft (rows : List ℕ) (to before i : ℕ) : Type 0 where
   pub few : to - i ≤ maxColumns
   pub within : (row : ℕ) → row ∈ slice i to rows → row ≤ maxColumns
 
-pub rows-all : {j : ℕ} {rows : List ℕ} {from to : ℕ} → ListAt j rows from to → RowsLeft rows to j from
+pub rows-all : {j : ℕ} {rows : List ℕ} {from to : ℕ} → ListBetween j rows from to → RowsLeft rows to j from
 rows-all l = record { inside = l .inside; high = l .rises; ascending = l .ascending; few = l .few; within = l .within }
 
 module _ {rows : List ℕ} {to before i row : ℕ} (l : RowsLeft rows to before i) (h : i < to) (e : row ≡ getD rows i 0) where
@@ -69,13 +69,13 @@ pub record WritesRows (j : ℕ) (rows : List ℕ) (from to : ℕ) (d₀ : List �
   pub rows-left : RowsLeft rows to before i
   pub written : Writes (encode (gapsOf j (slice from to rows))) d₀ first (encode (gapsOf before (slice i to rows))) d next
 
-pub gaps-start : {b : ℕ} {rows : List ℕ} {from to : ℕ} {d : List ℕ} {at : ℕ} → ListAt b rows from to → WritesRows b rows from to d at d at b from
+pub gaps-start : {b : ℕ} {rows : List ℕ} {from to : ℕ} {d : List ℕ} {at : ℕ} → ListBetween b rows from to → WritesRows b rows from to d at d at b from
 gaps-start l = record { rows-left = rows-all l; written = writes-all }
 
 module _ {j : ℕ} {rows : List ℕ} {from to : ℕ} {d₀ : List ℕ} {first : ℕ} {d : List ℕ} {next before i : ℕ} (w : WritesRows j rows from to d₀ first d
     next before i) where
   -- the next place is close to the first
-  pub place-near : ListAt j rows from to → next ≤ first + maxGroups * maxColumns
+  pub place-near : ListBetween j rows from to → next ≤ first + maxGroups * maxColumns
   place-near l =
       let gaps = gapsOf j (slice from to rows) in
       omega (arith, l .few, writes-near gaps (w .written), length-gaps j (slice from to rows), length-slice from to rows (l .inside))

@@ -1,2 +1,2 @@
-pub mod ListAt
+pub mod ListBetween
 pub mod LowBytes

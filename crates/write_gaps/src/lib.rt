@@ -5,7 +5,7 @@ ghost use lib.Seq.{slice};
 ghost use Rattle.papers.specs.Numbers.{encode};
 ghost use Rattle.papers.specs.Key.{gapsOf};
 ghost use Rattle.list_laws.specs.Wrote.{Wrote};
-ghost use Rattle.write_gaps.specs.ListAt.{ListNear, ListFits};
+ghost use Rattle.write_gaps.specs.ListBetween.{ListNear, ListFits};
 ghost use Rattle.write_gaps.specs.LowBytes.{LowsStored};
 
 // Stores the low byte of each gap of the rows from `from` up to `to` behind the row b, and answers the greatest gap: if that is below 128,

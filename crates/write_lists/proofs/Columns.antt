@@ -8,20 +8,22 @@ use native.Mathlib.Omega.{arith}
 use native.Mathlib.Numerals.{add-one}
 use lib.ListN.{length, getD, drop, length-append, drop-of-length-le}
 use lib.Seq.{slice, drop-cons}
+use Rattle.papers.specs.Plan.{ListsFit}
 use Rattle.papers.specs.Bounds.{maxColumns}
-use Rattle.papers.specs.Numbers.{encode}
 use Rattle.papers.specs.Job.{columnOf}
+use Rattle.papers.specs.Numbers.{encode}
 use Rattle.papers.specs.Key.{listNumbers, listsNumbers, listsOf}
+use Rattle.job_laws.specs.Passed.{PassedLists}
 use Rattle.list_laws.specs.Wrote.{Wrote}
 use Rattle.list_laws.proofs.Ascending.{asc-length}
 use Rattle.list_laws.proofs.Writing.{Writes, writes-none}
-use Rattle.bytes_laws.proofs.Gaps.{ListsFit, length-gaps}
+use Rattle.bytes_laws.proofs.Gaps.{length-gaps}
 use Rattle.bytes_laws.proofs.Writing.{encode-none, writes-numbers, writes-near}
 use Rattle.job_laws.proofs.Starts.{start-at, start-within, column-at}
-use Rattle.job_laws.proofs.Passed.{PassedLists, lists-below}
+use Rattle.job_laws.proofs.Passed.{lists-below}
 use Rattle.job_laws.proofs.Laid.{length-lists, lists-at, column-length}
 use Rattle.job_laws.proofs.Keys.{lists-fit}
-use Rattle.write_gaps.specs.ListAt.{ListAt}
+use Rattle.write_gaps.specs.ListBetween.{ListBetween}
 
 -- the numbers of the columns behind the first k
 abbrev pub numbersFrom : ℕ → List ℕ → List ℕ → ℕ → List ℕ
@@ -34,7 +36,7 @@ module _ {n : ℕ} {starts rows : List ℕ} (few : n ≤ maxColumns) (p : Passed
     column-is : columnOf starts rows (suc k) ≡ slice (getD starts k 0) (getD starts (k + 1) 0) rows
     column-is = rw add-one (column-at starts rows k)
 
-    pub column-list : ListAt (k + 1) rows (getD starts k 0) (getD starts (k + 1) 0)
+    pub column-list : ListBetween (k + 1) rows (getD starts k 0) (getD starts (k + 1) 0)
     column-list =
         let c = asc-length n (suc k) (columnOf starts rows (suc k)) (p .ascending (suc k) (omega arith) h) (p .within (suc k) (omega arith) h) in
         let l = column-length (p .whole) k h in

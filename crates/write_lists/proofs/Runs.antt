@@ -12,7 +12,7 @@ use Rattle.papers.specs.Numbers.{encode}
 use Rattle.papers.specs.Key.{gapsOf}
 use Rattle.list_laws.specs.Wrote.{Wrote}
 use Rattle.bytes_laws.proofs.Writing.{writes-numbers}
-use Rattle.write_gaps.specs.ListAt.{ListAt}
+use Rattle.write_gaps.specs.ListBetween.{ListBetween}
 use Rattle.write_gaps.proofs.Rows.{RowsLeft, WritesRows}
 use Rattle.write_lists.specs.Lists.{RunEnd}
 
@@ -65,7 +65,7 @@ module _ {rows : List ℕ} {to before i : ℕ} {e : ℕ} (l : RowsLeft rows to b
   pub gaps-cut : gapsOf before (slice i to rows) ≡ gapsOf before (slice i e rows) ++ gapsOf (getD rows (e - 1) 0) (slice e to rows)
   gaps-cut = rw (cut, ← last-row) (gaps-append before (slice i e rows) (slice e to rows))
 
-  pub run-list : ListAt before rows i e
+  pub run-list : ListBetween before rows i e
   run-list =
       let few = l .few in
       record {

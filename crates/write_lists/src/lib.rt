@@ -2,11 +2,11 @@
 // goes.
 ghost use Prim.Native.Nat.{_^_, _<_};
 ghost use lib.Seq.{slice};
-ghost use Rattle.papers.specs.Numbers.{encode};
 ghost use Rattle.papers.specs.Job.{columnOf};
+ghost use Rattle.papers.specs.Numbers.{encode};
 ghost use Rattle.papers.specs.Key.{listNumbers, listsNumbers, listsOf};
 ghost use Rattle.list_laws.specs.Wrote.{Wrote};
-ghost use Rattle.write_gaps.specs.ListAt.{ListNear};
+ghost use Rattle.write_gaps.specs.ListBetween.{ListNear};
 ghost use Rattle.write_lists.specs.Lists.{RunEnd, ListsNear};
 
 // How many rows of a list are written in one go.

@@ -7,19 +7,20 @@ use mathlib.Core.List.{List, [], _∷_, _++_}
 use native.Mathlib.Omega.{arith}
 use lib.ListN.{length, length-append}
 use Rattle.papers.specs.Bounds.{maxColumns}
-use Rattle.papers.specs.Numbers.{bytesOf, encode}
 use Rattle.papers.specs.Job.{Job, columnOf}
+use Rattle.papers.specs.Numbers.{bytesOf, encode}
 use Rattle.papers.specs.Key.{listsNumbers, listsOf, keyNumbers, keyOf}
 use Rattle.papers.specs.Plan.{planNumbers, planBytes}
+use Rattle.job_laws.specs.Passed.{Passed}
 use Rattle.list_laws.specs.Wrote.{Wrote}
 use Rattle.list_laws.proofs.Writing.{wrote-as, Writes, writes-all, writes-none}
 use Rattle.bytes_laws.proofs.Numbers.{encode-append}
 use Rattle.bytes_laws.proofs.Writing.{encode-none, writes-number, writes-numbers, writes-near}
-use Rattle.job_laws.proofs.Passed.{Passed, passes-iff, lists-iff}
+use Rattle.job_laws.proofs.Passed.{passes-iff, lists-iff}
 use Rattle.write_lists.proofs.Columns.{lists-few}
 use Rattle.key.proofs.Written.{numbers-few}
 use Rattle.write_plan.specs.Lists.{planIn, Writable}
-use Rattle.write_plan.proofs.Steps.{numbersOf, steps-few}
+use Rattle.write_plan.proofs.Steps.{pairNumbers, steps-few}
 
 -- the numbers of the lists between these starts
 abbrev pub listsBetween : ℕ → List ℕ → List ℕ → List ℕ
@@ -33,7 +34,7 @@ wholeNumbers job order pops starts rows peak = keyNumbers job ++ planNumbers (pl
 
 module _ {job : Job} {order pops starts rows : List ℕ} {peak : ℕ} (w : Writable job order pops starts rows peak) where
   valid : Passed job
-  valid = passes-iff job .0 (w .passes)
+  valid = w .passes
 
   pub few : job .n ≤ maxColumns
   few = valid .few
@@ -41,7 +42,7 @@ module _ {job : Job} {order pops starts rows : List ℕ} {peak : ℕ} (w : Writa
   whole-few : length (wholeNumbers job order pops starts rows peak) ≤ 2 * ((maxColumns + 1) * maxColumns) + 2 * maxColumns + 5
   unfolding planNumbers
   whole-few =
-      let steps = numbersOf order pops in
+      let steps = pairNumbers order pops in
       let lists = listsBetween (job .n) starts rows in
       let last = peak ∷ [] in
       omega (
@@ -69,13 +70,13 @@ module _ (job : Job) (order pops starts rows : List ℕ) (peak : ℕ) (d₀ : Li
 
   -- what is left of the plan behind each part
   module _ {d₁ : List ℕ} {k₁ : ℕ} (p₁ : Wrote (keyOf job) d₀ d₁ 0 k₁) where
-    pub behind-key : Left (numbersOf order pops ++ (listsBetween (job .n) starts rows ++ (peak ∷ []))) d₁ k₁
+    pub behind-key : Left (pairNumbers order pops ++ (listsBetween (job .n) starts rows ++ (peak ∷ []))) d₁ k₁
     unfolding keyOf planNumbers
     behind-key = writes-numbers (keyNumbers job) _ writes-all refl p₁
 
-    module _ {d₂ : List ℕ} {k₂ : ℕ} (p₂ : Wrote (encode (numbersOf order pops)) d₁ d₂ k₁ k₂) where
+    module _ {d₂ : List ℕ} {k₂ : ℕ} (p₂ : Wrote (encode (pairNumbers order pops)) d₁ d₂ k₁ k₂) where
       pub behind-steps : Left (listsBetween (job .n) starts rows ++ (peak ∷ [])) d₂ k₂
-      behind-steps = writes-numbers (numbersOf order pops) _ behind-key refl p₂
+      behind-steps = writes-numbers (pairNumbers order pops) _ behind-key refl p₂
 
       module _ {d₃ : List ℕ} {k₃ : ℕ} (p₃ : Wrote (encode (listsBetween (job .n) starts rows)) d₂ d₃ k₂ k₃) where
         pub behind-lists : Left (peak ∷ []) d₃ k₃

@@ -13,23 +13,23 @@ use Rattle.papers.specs.Plan.{columnsIn, popsIn, stepNumbers}
 use Rattle.list_laws.specs.Wrote.{Wrote}
 use Rattle.list_laws.proofs.Writing.{Writes, writes-none}
 use Rattle.bytes_laws.proofs.Writing.{encode-none, writes-number, writes-near}
-use Rattle.write_plan.specs.Lists.{stepsIn}
+use Rattle.write_plan.specs.Lists.{stepPairs}
 
 -- takes steps apart and puts them together again
-pub steps-again : (steps : List (ℕ × ℕ)) → stepsIn (columnsIn steps) (popsIn steps) ≡ steps
-unfolding stepsIn
+pub steps-again : (steps : List (ℕ × ℕ)) → stepPairs (columnsIn steps) (popsIn steps) ≡ steps
+unfolding stepPairs
 steps-again [] = refl
 steps-again (s ∷ ss) = ap (λ l. s ∷ l) (steps-again ss)
 
 -- the numbers of all steps, and of those behind the first i
-abbrev pub numbersOf : List ℕ → List ℕ → List ℕ
-numbersOf order pops = stepNumbers (stepsIn order pops)
+abbrev pub pairNumbers : List ℕ → List ℕ → List ℕ
+pairNumbers order pops = stepNumbers (stepPairs order pops)
 
 abbrev pub numbersFrom : List ℕ → List ℕ → ℕ → List ℕ
-numbersFrom order pops i = numbersOf (drop i order) (drop i pops)
+numbersFrom order pops i = pairNumbers (drop i order) (drop i pops)
 
-pub steps-few : (order pops : List ℕ) → length (numbersOf order pops) ≤ 2 * length order
-unfolding stepNumbers stepsIn
+pub steps-few : (order pops : List ℕ) → length (pairNumbers order pops) ≤ 2 * length order
+unfolding stepNumbers stepPairs
 steps-few [] pops = omega arith
 steps-few (j ∷ order) [] = omega arith
 steps-few (j ∷ order) (p ∷ pops) = omega (arith, steps-few order pops)
@@ -37,11 +37,11 @@ steps-few (j ∷ order) (p ∷ pops) = omega (arith, steps-few order pops)
 module _ (order pops : List ℕ) (i : ℕ) (paired : length order ≤ length pops) where
   -- the next column, and its pops
   pub step-next : i < length order → numbersFrom order pops i ≡ getD order i 0 ∷ getD pops i 0 ∷ numbersFrom order pops (i + 1)
-  unfolding stepNumbers stepsIn
+  unfolding stepNumbers stepPairs
   step-next h = rw (add-one, drop-cons order i 0 h, drop-cons pops i 0 (omega arith))
 
   pub steps-none : length order ≤ i → numbersFrom order pops i ≡ []
-  unfolding stepNumbers stepsIn
+  unfolding stepNumbers stepPairs
   steps-none h = rw (drop-of-length-le order h)
 
 -- ---- written
@@ -49,13 +49,13 @@ module _ (order pops : List ℕ) (i : ℕ) (paired : length order ≤ length pop
 -- the first i steps are written
 pub record WritesSteps (order pops d₀ : List ℕ) (first : ℕ) (d : List ℕ) (next i : ℕ) : Type 0 where
   pub paired : length order ≤ length pops
-  pub written : Writes (encode (numbersOf order pops)) d₀ first (encode (numbersFrom order pops i)) d next
+  pub written : Writes (encode (pairNumbers order pops)) d₀ first (encode (numbersFrom order pops i)) d next
   pub few : length order ≤ maxColumns
 
 module _ {order pops d₀ : List ℕ} {first : ℕ} {d : List ℕ} {next i : ℕ} (w : WritesSteps order pops d₀ first d next i) where
   -- every place is close to the first
-  near : {left d′ : List ℕ} {k : ℕ} → Writes (encode (numbersOf order pops)) d₀ first left d′ k → k ≤ first + 2 * maxGroups * maxColumns
-  near s = omega (arith, w .few, writes-near (numbersOf order pops) s, steps-few order pops)
+  near : {left d′ : List ℕ} {k : ℕ} → Writes (encode (pairNumbers order pops)) d₀ first left d′ k → k ≤ first + 2 * maxGroups * maxColumns
+  near s = omega (arith, w .few, writes-near (pairNumbers order pops) s, steps-few order pops)
 
   pub column-near : next ≤ first + 2 * maxGroups * maxColumns
   column-near = near (w .written)
@@ -63,7 +63,7 @@ module _ {order pops d₀ : List ℕ} {first : ℕ} {d : List ℕ} {next i : ℕ
   module _ (h : i < length order) where
     module _ {m : ℕ} {d′ : List ℕ} (column : Wrote (bytesOf (getD order i 0)) d d′ next m) where
       -- the column is written, and its pops are left
-      behind-column : Writes (encode (numbersOf order pops)) d₀ first (encode (getD pops i 0 ∷ numbersFrom order pops (i + 1))) d′ m
+      behind-column : Writes (encode (pairNumbers order pops)) d₀ first (encode (getD pops i 0 ∷ numbersFrom order pops (i + 1))) d′ m
       behind-column = writes-number (w .written) (step-next order pops i (w .paired) h) column
 
       pub pops-near : m ≤ first + 2 * maxGroups * maxColumns
@@ -72,5 +72,5 @@ module _ {order pops d₀ : List ℕ} {first : ℕ} {d : List ℕ} {next i : ℕ
       pub write-turn : {m″ : ℕ} {d″ : List ℕ} → Wrote (bytesOf (getD pops i 0)) d′ d″ m m″ → WritesSteps order pops d₀ first d″ m″ (i + 1)
       write-turn popped = record { paired = w .paired; written = writes-number behind-column refl popped; few = w .few }
 
-  pub write-stop : length order ≤ i → Wrote (encode (numbersOf order pops)) d₀ d first next
+  pub write-stop : length order ≤ i → Wrote (encode (pairNumbers order pops)) d₀ d first next
   write-stop h = writes-none (w .written) (encode-none (steps-none order pops i (w .paired) h))

@@ -1,11 +1,11 @@
 // Writes the bytes of a plan into a lent slice: its key, its steps, its lists and its peak.
-ghost use Rattle.papers.specs.Numbers.{encode};
-ghost use Rattle.papers.specs.Job.{jobOf};
-ghost use Rattle.papers.specs.Plan.{stepNumbers, planBytes};
 ghost use Rattle.papers.specs.Refusals.{EndsAs};
+ghost use Rattle.papers.specs.Job.{jobOf};
+ghost use Rattle.papers.specs.Numbers.{encode};
+ghost use Rattle.papers.specs.Plan.{stepNumbers, planBytes};
 ghost use Rattle.list_laws.specs.Wrote.{Wrote};
 ghost use Rattle.write_stored.specs.Stored.{stored};
-ghost use Rattle.write_plan.specs.Lists.{stepsIn, planIn, StepsNear, Writable};
+ghost use Rattle.write_plan.specs.Lists.{stepPairs, planIn, StepsNear, Writable};
 use papers::Answer;
 use papers::JobHead;
 
@@ -13,7 +13,7 @@ use papers::JobHead;
 pub fn write_steps(order: &[u32], pops: &[u32], bytes: &mut [u8], at: usize) -> usize
     requires { ⌜ StepsNear (now order) (now pops) at ⌝ }
     ensures { λ r. ⌜
-        Wrote (encode (stepNumbers (stepsIn (now (order .entry)) (now (pops .entry))))) (now (bytes .entry)) (now (bytes .exit)) at r
+        Wrote (encode (stepNumbers (stepPairs (now (order .entry)) (now (pops .entry))))) (now (bytes .entry)) (now (bytes .exit)) at r
         ⌝ }
 {
     let mut next = at;
@@ -26,7 +26,7 @@ pub fn write_steps(order: &[u32], pops: &[u32], bytes: &mut [u8], at: usize) -> 
     next
 }
 
-// Writes the plan of a job to the front of a slice, as far as the slice goes, and answers the place behind it: the bytes needed.
+// Writes the plan of a job to the start of a slice, as far as the slice goes, and answers the place behind it: the bytes needed.
 pub fn put_plan(
     head: JobHead,
     starts: &[u64],

@@ -7,8 +7,8 @@ use native.Mathlib.Omega.{arith}
 use borrow.Author.Needs.{needs}
 use denote.Ref.{now}
 use Rattle.papers.specs.Job.{Job, jobOf}
-use Rattle.papers.specs.Refusals.{Lent}
-use Rattle.lent.specs.Six.{six}
+use Rattle.papers.specs.Analysis.{Lent}
+use Rattle.lent.specs.Six.{sixSlices}
 use Rattle.check_bytes.proofs.Rules.{Begun, ruled-key, plan-asked, judgeable, ruled}
 use Rattle.check_bytes.proofs.judge_bytes.Statement.{statement}
 use Rattle.check_bytes.proofs.judge_bytes.Tie as tie
@@ -48,7 +48,7 @@ job c = jobOf (c .args .head) (now (c .args .starts)) (now (c .args .rows))
 
 abbrev lent : tie.Start → Lent
 lent c =
-    six (now (c .args .parents)) (now (c .args .order)) (now (c .args .pops)) (now (c .args .fstarts)) (now (c .args .frows)) (now (c .args .work))
+    sixSlices (now (c .args .parents)) (now (c .args .order)) (now (c .args .pops)) (now (c .args .fstarts)) (now (c .args .frows)) (now (c .args .work))
 
 -- The place behind the key.
 abbrev behind : tie.After-next → ℕ

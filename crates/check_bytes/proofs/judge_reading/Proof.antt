@@ -3,7 +3,7 @@
 -- Assumes nothing.
 use borrow.Author.Needs.{needs}
 use native.Mathlib.Omega.{arith}
-use Rattle.check_bytes.specs.Ruled.{fault, over, judged}
+use Rattle.check_bytes.specs.Ruled.{fault, too-many-rows, judged}
 use Rattle.check_bytes.proofs.judge_reading.Statement.{statement}
 use Rattle.check_bytes.proofs.judge_reading.Tie as tie
 
@@ -27,18 +27,18 @@ returns : tie.Need-returns
 returns c = fault _ _ (faulty (search) .reading .given .1) (c .answered .ensures)
 
 returns-2 : tie.Need-returns-2
-returns-2 c = over _ _ (whole (search) .reading2 .given .1) (c .before .if1 .taken) (c .answered2 .ensures)
+returns-2 c = too-many-rows _ (whole (search) .reading2 .given .1) (c .before .if1 .taken) (c .answered2 .ensures)
 
 judge-requires : tie.Need-judge-requires
 judge-requires c κs = record {
   valid = entry (search) .pre .passes;
-  plan = entry (search) .pre .held _ _ (whole (search) .reading2 .given .1) (rows-fit (search) .if1 .left);
+  plan = entry (search) .pre .stored _ (whole (search) .reading2 .given .1) (rows-fit (search) .if1 .left);
   long = entry (search) .pre .long;
 }
 
 returns-3 : tie.Need-returns-3
 returns-3 c =
-    judged _ _ (whole (search) .reading2 .given .1) (rows-fit (search) .if1 .left) (told (search) .judge .ensures .answers)
+    judged _ (whole (search) .reading2 .given .1) (rows-fit (search) .if1 .left) (told (search) .judge .ensures .answers)
     (told (search) .judge .ensures .stores)
 
 pub judge-reading-spec : {M : Type 1} → statement M

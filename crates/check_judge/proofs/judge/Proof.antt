@@ -5,16 +5,16 @@ use mathlib.Core.Path.{_≡_, refl}
 use native.Mathlib.Omega.{arith}
 use denote.Ref.{now}
 use borrow.Author.Needs.{needs}
+use Rattle.papers.specs.Check.{columnRepeated, listWrong}
+use Rattle.papers.specs.Refusals.{passed}
 use Rattle.papers.specs.Job.{Job, jobOf}
 use Rattle.papers.specs.Plan.{Plan}
-use Rattle.papers.specs.Refusals.{passed}
-use Rattle.papers.specs.Check.{repeatTest, listTest}
 use Rattle.lent.proofs.Alike.{part-long}
 use Rattle.column_laws.proofs.Testing.{tested}
-use Rattle.check_judge.specs.Judged.{InFront}
+use Rattle.check_judge.specs.Judged.{PlanAtStart, planFrom}
 use Rattle.check_judge.proofs.Rulings.{number-of}
-use Rattle.check_judge.proofs.Helds.{order-length, within, refuses-16, passes-16}
-use Rattle.check_judge.proofs.Lists.{lists-held, refuses-17, passes-17, tree-given, left-to-tree}
+use Rattle.check_judge.proofs.Stored.{order-length, within, refuses-16, passes-16}
+use Rattle.check_judge.proofs.Lists.{lists-stored, refuses-17, passes-17, tree-given, left-to-tree}
 use Rattle.check_judge.proofs.judge.Statement.{statement}
 use Rattle.check_judge.proofs.judge.Tie as tie
 
@@ -48,30 +48,30 @@ begun₁ c = search
 abbrev jobOn : tie.Start → Job
 jobOn s = let a = s .args in jobOf (a .head) (now (a .starts)) (now (a .rows))
 
-abbrev Stands : tie.Start → Plan → Type 0
-Stands s plan =
-    let a = s .args in InFront (a .head .n) plan (a .peak) (now (a .order)) (now (a .pops)) (now (a .fstarts)) (now (a .frows))
+abbrev PlanThere : tie.Start → Plan → Type 0
+PlanThere s plan =
+    let a = s .args in PlanAtStart (a .head .n) plan (a .peak) (now (a .order)) (now (a .pops)) (now (a .fstarts)) (now (a .frows))
 
-unrepeated : (c : tie.Else1) (plan : Plan) → Stands (begun c) plan → repeatTest (jobOn (begun c)) plan ≡ passed
-unrepeated c plan front = passes-16 _ plan (front .held) (tested-16 (search) .first-repeat .ensures) (c .if1 .left)
+unrepeated : (c : tie.Else1) (plan : Plan) → PlanThere (begun c) plan → columnRepeated .test (planFrom (jobOn (begun c)) plan) ≡ passed
+unrepeated c plan at-start = passes-16 (jobOn (begun c)) plan (at-start .stored) (tested-16 (search) .first-repeat .ensures) (c .if1 .left)
 
-right : (c : tie.Else2) (plan : Plan) → Stands (begun₁ c) plan → listTest (jobOn (begun₁ c)) plan ≡ passed
-right c plan front =
-    passes-17 _ (begun₁ c .pre .valid) plan front (unrepeated (search) plan front) (tested-17 (search) .first-wrong-list .ensures .answers) (c .if2 .left)
+right : (c : tie.Else2) (plan : Plan) → PlanThere (begun₁ c) plan → listWrong .test (planFrom (jobOn (begun₁ c)) plan) ≡ passed
+right c plan at-start =
+    passes-17 (jobOn (begun₁ c)) (begun₁ c .pre .valid) plan at-start (unrepeated (search) plan at-start) (tested-17 (search) .first-wrong-list .ensures .answers) (c .if2 .left)
 
 slice-aggregate-steps : tie.Need-slice-aggregate-steps
-slice-aggregate-steps c = part-long _ (now (entry (search) .args .order)) (entry (search) .pre .long .order)
+slice-aggregate-steps c = part-long _ (now (entry (search) .args .order)) (omega (arith, entry (search) .pre .long))
 
 first-repeat-requires : tie.Need-first-repeat-requires
 first-repeat-requires c κs =
     let pre = entry (search) .pre in
-    let held = pre .plan .front .held in
-    let count = order-length held in
-    record { columns = within held; few = omega (arith, tested _ (pre .valid) .few); room = omega (arith, pre .long .work) }
+    let stored = pre .plan .at-start .stored in
+    let count = order-length stored in
+    record { columns = within stored; few = omega (arith, tested _ (pre .valid) .few); room = omega (arith, pre .long) }
 
 returns : tie.Need-returns
 returns c = record {
-  answers = λ plan front. refuses-16 _ plan (front .held) (tested-16 (search) .first-repeat .ensures) (c .before .if1 .taken) (c .answered .ensures);
+  answers = λ plan at-start. refuses-16 _ plan (at-start .stored) (tested-16 (search) .first-repeat .ensures) (c .before .if1 .taken) (c .answered .ensures);
   stores = λ z. absurd (omega (arith, number-of (c .answered .ensures), z));
 }
 
@@ -80,43 +80,43 @@ first-wrong-list-requires c κs =
     let pre = entry (search) .pre in
     record {
       tested = tested _ (pre .valid);
-      listed = lists-held _ (pre .valid) _ (pre .plan .front);
-      parents-long = pre .long .parents;
-      work-long = omega (arith, pre .long .work, tested-16 (search) .first-repeat .kept);
+      listed = lists-stored _ (pre .valid) _ (pre .plan .at-start);
+      parents-long = omega (arith, pre .long);
+      work-long = omega (arith, pre .long, tested-16 (search) .first-repeat .kept);
     }
 
 returns-2 : tie.Need-returns-2
 returns-2 c = record {
-  answers = λ plan front. refuses-17 _ (entry (search) .pre .valid) plan front (unrepeated (search) plan front)
+  answers = λ plan at-start. refuses-17 _ (entry (search) .pre .valid) plan at-start (unrepeated (search) plan at-start)
       (tested-17 (search) .first-wrong-list .ensures .answers) (c .before .if2 .taken) (c .answered2 .ensures);
   stores = λ z. absurd (omega (arith, number-of (c .answered2 .ensures), z));
 }
 
 slice-aggregate-judge-tree : tie.Need-slice-aggregate-judge-tree
 slice-aggregate-judge-tree c =
-    part-long _ _ (omega (arith, entry (search) .pre .long .parents, tested-17 (search) .first-wrong-list .kept))
+    part-long _ _ (omega (arith, entry (search) .pre .long, tested-17 (search) .first-wrong-list .kept))
 
 slice-aggregate-judge-tree-2 : tie.Need-slice-aggregate-judge-tree-2
-slice-aggregate-judge-tree-2 c = part-long _ (now (entry (search) .args .pops)) (entry (search) .pre .long .pops)
+slice-aggregate-judge-tree-2 c = part-long _ (now (entry (search) .args .pops)) (omega (arith, entry (search) .pre .long))
 
 slice-aggregate-judge-tree-3 : tie.Need-slice-aggregate-judge-tree-3
-slice-aggregate-judge-tree-3 c = part-long _ (now (entry (search) .args .fstarts)) (entry (search) .pre .long .starts)
+slice-aggregate-judge-tree-3 c = part-long _ (now (entry (search) .args .fstarts)) (omega (arith, entry (search) .pre .long))
 
 judge-tree-requires : tie.Need-judge-tree-requires
 judge-tree-requires c κs =
     let pre = entry (search) .pre in
-    let front = pre .plan .front in
-    tree-given _ (pre .valid) _ front (unrepeated (search) _ front) (right (search) _ front) (now (entry (search) .args .parents)) refl
-    (pre .long .parents) (tested-17 (search) .first-wrong-list .ensures .stores (past-17 (search) .if2 .left))
-    (omega (arith, pre .long .work, tested-16 (search) .first-repeat .kept, tested-17 (search) .first-wrong-list .kept))
+    let at-start = pre .plan .at-start in
+    tree-given _ (pre .valid) _ at-start (unrepeated (search) _ at-start) (right (search) _ at-start) (now (entry (search) .args .parents)) refl
+    (omega (arith, pre .long)) (tested-17 (search) .first-wrong-list .ensures .stores (past-17 (search) .if2 .left))
+    (omega (arith, pre .long, tested-16 (search) .first-repeat .kept, tested-17 (search) .first-wrong-list .kept))
 
 returns-3 : tie.Need-returns-3
 returns-3 c =
     let pre = entry₁ (search) .pre in
     let stored = tested-17 (search) .first-wrong-list .ensures .stores (past-17 (search) .if2 .left) in
     record {
-      answers = λ plan front. left-to-tree _ (pre .valid) plan front (unrepeated (search) plan front) (right (search) plan front)
-          (now (entry₁ (search) .args .parents)) refl (pre .long .parents) stored (judged (search) .judge-tree .ensures);
+      answers = λ plan at-start. left-to-tree _ (pre .valid) plan at-start (unrepeated (search) plan at-start) (right (search) plan at-start)
+          (now (entry₁ (search) .args .parents)) refl (omega (arith, pre .long)) stored (judged (search) .judge-tree .ensures);
       stores = λ z. stored;
     }
 

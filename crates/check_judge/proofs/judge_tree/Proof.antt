@@ -5,11 +5,11 @@ use mathlib.Core.Path.{_≡_}
 use native.Mathlib.Omega.{arith}
 use denote.Ref.{now}
 use borrow.Author.Needs.{needs}
+use Rattle.papers.specs.Check.{popsWrong, subtreeScattered}
+use Rattle.papers.specs.Refusals.{passed}
 use Rattle.papers.specs.Job.{Job}
 use Rattle.papers.specs.Plan.{Plan}
-use Rattle.papers.specs.Refusals.{passed}
-use Rattle.papers.specs.Check.{subtreeTest, popsTest}
-use Rattle.check_judge.specs.Judged.{OnTree}
+use Rattle.check_judge.specs.Judged.{OnTree, planFrom}
 use Rattle.check_judge.proofs.OnTrees.{few, tree-in, as-long, pops-as-long, each-once, within-order}
 use Rattle.check_judge.proofs.Trees.{refuses-18, passes-18, refuses-19, passes-19, stepped, refuses-20, refuses-9, passes-all}
 use Rattle.check_judge.proofs.judge_tree.Statement.{statement}
@@ -39,14 +39,14 @@ begun c = search
 abbrev begun₁ : tie.Else2 → tie.Start
 begun₁ c = search
 
-abbrev Stands : tie.Start → Job → Plan → Type 0
-Stands s job plan =
+abbrev PlanThere : tie.Start → Job → Plan → Type 0
+PlanThere s job plan =
     let a = s .args in OnTree job plan (a .limit) (a .peak) (now (a .parents)) (now (a .order)) (now (a .pops)) (now (a .fstarts))
 
-whole : (c : tie.Else1) {job : Job} {plan : Plan} → Stands (begun c) job plan → subtreeTest job plan ≡ passed
+whole : (c : tie.Else1) {job : Job} {plan : Plan} → PlanThere (begun c) job plan → subtreeScattered .test (planFrom job plan) ≡ passed
 whole c on = passes-18 on (tested-18 (search) .first-scattered .ensures) (c .if1 .left)
 
-popped : (c : tie.Else2) {job : Job} {plan : Plan} → Stands (begun₁ c) job plan → popsTest job plan ≡ passed
+popped : (c : tie.Else2) {job : Job} {plan : Plan} → PlanThere (begun₁ c) job plan → popsWrong .test (planFrom job plan) ≡ passed
 popped c on = passes-19 on (whole (search) on) (tested-19 (search) .first-wrong-pops .ensures) (c .if2 .left)
 
 first-scattered-requires : tie.Need-first-scattered-requires

@@ -7,7 +7,8 @@ use borrow.Author.Needs.{needs}
 use Rattle.papers.specs.Bounds.{maxColumns}
 use Rattle.papers.specs.Job.{columnOf}
 use Rattle.papers.specs.Key.{listsNumbers, listsOf}
-use Rattle.job_laws.proofs.Passed.{PassedLists, lists-iff}
+use Rattle.job_laws.specs.Passed.{PassedLists}
+use Rattle.job_laws.proofs.Passed.{lists-iff}
 use Rattle.write_lists.proofs.Columns.{numbersFrom, column-list, numbers-next, numbers-none}
 use Rattle.check_key.proofs.Numbers.{Left, left-all, left-numbers, differs-numbers, left-none}
 use Rattle.check_key.proofs.match_lists.Statement.{statement}
@@ -35,8 +36,8 @@ at-loop c = c
 abbrev in-loop : tie.In-loop Inv-loop μ-loop → tie.In-loop Inv-loop μ-loop
 in-loop c = c
 
-abbrev list-held : tie.After-match-list Inv-loop μ-loop → tie.After-match-list Inv-loop μ-loop
-list-held c = c
+abbrev list-matched : tie.After-match-list Inv-loop μ-loop → tie.After-match-list Inv-loop μ-loop
+list-matched c = c
 
 loop-holds : tie.Need-loop-holds Inv-loop μ-loop
 loop-holds c =
@@ -53,7 +54,7 @@ returns : tie.Need-returns Inv-loop μ-loop
 returns c =
     let l = at-loop (search) .loop .inv in
     differs-numbers (l .matched) _ _ (numbers-next (l .few) (l .lists) (in-loop (search) .loop-test .taken))
-    (list-held (search) .match-list .ensures) (c .before .place .given .1)
+    (list-matched (search) .match-list .ensures) (c .before .place .given .1)
 
 loop-again : tie.Need-loop-again Inv-loop μ-loop
 loop-again c =
@@ -62,7 +63,7 @@ loop-again c =
       few = l .few;
       lists = l .lists;
       matched = left-numbers (l .matched) _ _ (numbers-next (l .few) (l .lists) (in-loop (search) .loop-test .taken))
-          (list-held (search) .match-list .ensures) (c .before .next .given .1);
+          (list-matched (search) .match-list .ensures) (c .before .next .given .1);
     }
 
 returns-2 : tie.Need-returns-2 Inv-loop μ-loop

@@ -44,11 +44,11 @@ handed c = c
 abbrev counted : tie.After-mark-new2 Inv-loop μ-loop → tie.After-mark-new2 Inv-loop μ-loop
 counted c = c
 
-abbrev start : tie.In-loop Inv-loop μ-loop → tie.Start Inv-loop μ-loop
-start c = search
+abbrev entered : tie.In-loop Inv-loop μ-loop → tie.Start Inv-loop μ-loop
+entered c = search
 
 -- In the loop the link of child c has its place in work: the answers below cite this with `place (search)`.
-place : (c : tie.In-loop Inv-loop μ-loop) → start c .args .n + c .before .loop .c < length (now (start c .args .work))
+place : (c : tie.In-loop Inv-loop μ-loop) → entered c .args .n + c .before .loop .c < length (now (entered c .args .work))
 place c =
     omega (arith, link (c .before .loop .inv) (c .loop-test .taken), c .before .loop .inv .long, begun (search) .mark-new .kept)
 

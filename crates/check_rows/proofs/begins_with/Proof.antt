@@ -1,4 +1,4 @@
--- Proves that `begins_with` tests whether a list begins with another: it compares the list's front, if the list is that long, with the other list.
+-- Proves that `begins_with` tests whether a list begins with another: if it is long enough, it compares as many of its rows with the other list.
 -- Assumes nothing.
 use mathlib.Core.Path.{refl, sym, _∙_}
 use lib.Seq.{length-take-le}
@@ -19,7 +19,7 @@ slice-aggregate-same-rows : tie.Need-slice-aggregate-same-rows
 slice-aggregate-same-rows c = sym (length-take-le _ _ (c .before .if1 .left))
 
 returns-2 : tie.Need-returns-2
-returns-2 c = λ e. record { long = long (search) .if1 .left; front = same-true _ _ (sym (c .same-rows .ensures) ∙ e) }
+returns-2 c = λ e. record { long = long (search) .if1 .left; begins = same-true _ _ (sym (c .same-rows .ensures) ∙ e) }
 
 pub begins-with-spec : {M : Type 1} → statement M
 begins-with-spec =

@@ -4,7 +4,7 @@
 use mathlib.Core.Path.{sym}
 use native.Mathlib.Omega.{arith}
 use borrow.Author.Needs.{needs}
-use Rattle.check_subtrees.proofs.Whole.{front-long, steps-asked, stray-asked, front-room, stray-found}
+use Rattle.check_subtrees.proofs.Whole.{start-long, steps-asked, stray-asked, start-room, stray-found}
 use Rattle.check_subtrees.proofs.first_scattered.Statement.{statement}
 use Rattle.check_subtrees.proofs.first_scattered.Tie as tie
 
@@ -19,7 +19,7 @@ abbrev counted : tie.After-count-descendants → tie.After-count-descendants
 counted c = c
 
 slice-aggregate-write-steps : tie.Need-slice-aggregate-write-steps
-slice-aggregate-write-steps c = sym (front-long (entry (search) .pre))
+slice-aggregate-write-steps c = sym (start-long (entry (search) .pre))
 
 write-steps-requires : tie.Need-write-steps-requires
 write-steps-requires c κs = steps-asked (entry (search) .pre)
@@ -28,7 +28,7 @@ slice-aggregate-first-stray : tie.Need-slice-aggregate-first-stray
 slice-aggregate-first-stray c =
     let write-steps = written (search) .write-steps in
     let count-descendants = counted (search) .count-descendants in
-    front-room (entry (search) .pre) (write-steps .ensures) (count-descendants .ensures) (omega (arith, write-steps .kept))
+    start-room (entry (search) .pre) (write-steps .ensures) (count-descendants .ensures) (omega (arith, write-steps .kept))
     (omega (arith, count-descendants .kept))
 
 first-stray-requires : tie.Need-first-stray-requires

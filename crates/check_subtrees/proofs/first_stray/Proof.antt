@@ -4,7 +4,7 @@ use Prim.Native.Nat.{_-_}
 use lib.ListN.{length}
 use borrow.Author.Needs.{needs}
 use Rattle.tree.specs.Parents.{parentIn}
-use Rattle.check_subtrees.specs.Steps.{listed}
+use Rattle.check_subtrees.specs.Steps.{numberFor}
 use Rattle.check_subtrees.specs.Strays.{strayStep}
 use Rattle.check_subtrees.proofs.Earliest.{Earlier, earliest-none, earliest-next, earliest-all}
 use Rattle.check_subtrees.proofs.first_stray.Statement.{statement}
@@ -12,7 +12,7 @@ use Rattle.check_subtrees.proofs.first_stray.Tie as tie
 
 abbrev Inv-loop : tie.InvT-loop
 Inv-loop parents steps below first₀ i₀ first i =
-    Earlier (strayStep (parentIn parents) (listed steps) (listed below)) (length parents) first i
+    Earlier (strayStep (parentIn parents) (numberFor steps) (numberFor below)) (length parents) first i
 
 abbrev μ-loop : tie.MeasureT-loop
 μ-loop parents steps below first₀ i₀ first i = length parents - i

@@ -1,37 +1,28 @@
--- Proves that `check_plan` answers right: a refused job and a short slice each end it at once; in every other case the tests decide, and then it
+-- Proves that `check_plan` answers right: 1 to 7 end it at once; in every other case the tests decide, and then it
 -- clears all slices, or work alone.
 -- Assumes nothing.
-use mathlib.Core.Path.{sym, _∙_}
 use borrow.Author.Needs.{needs}
 use native.Mathlib.Omega.{arith}
-use Rattle.job_laws.proofs.Outcomes.{job-answered}
+use Rattle.job_laws.proofs.Outcomes.{early-passed}
 use Rattle.lent.proofs.Alike.{zeros-alike}
-use Rattle.lent.proofs.Longs.{not-short}
-use Rattle.column_laws.proofs.Testing.{tested}
-use Rattle.check_bytes.proofs.Ways.{way-job, way-short, way-refused, way-done}
+use Rattle.check_bytes.proofs.Ways.{way-early, way-refused, way-done}
 use Rattle.checker.proofs.check_plan.Statement.{statement}
 use Rattle.checker.proofs.check_plan.Tie as tie
 
--- The places that the answers look back to: `tested-job (search)` is the one behind the answer at hand.
-abbrev tested-job : tie.After-first-fault → tie.After-first-fault
-tested-job c = c
+-- The places that the answers look back to: `tested (search)` is the one behind the answer at hand.
+abbrev tested : tie.After-early-fault → tie.After-early-fault
+tested c = c
 
-abbrev job-fine : tie.Else1 → tie.Else1
-job-fine c = c
-
-abbrev measured : tie.After-too-short → tie.After-too-short
-measured c = c
-
-abbrev all-long : tie.Else2 → tie.Else2
-all-long c = c
+abbrev early-fine : tie.Else1 → tie.Else1
+early-fine c = c
 
 abbrev judged : tie.After-judge-bytes → tie.After-judge-bytes
 judged c = c
 
-abbrev fine : tie.Else3 → tie.Else3
+abbrev fine : tie.Else2 → tie.Else2
 fine c = c
 
-abbrev at-fault : tie.Then3 → tie.Then3
+abbrev at-fault : tie.Then2 → tie.Then2
 at-fault c = c
 
 abbrev work-cleared : tie.After-clear64 → tie.After-clear64
@@ -40,30 +31,21 @@ work-cleared c = c
 abbrev all-cleared : tie.After-clear-all → tie.After-clear-all
 all-cleared c = c
 
-abbrev judged-before : tie.Then3 → tie.After-judge-bytes
+abbrev judged-before : tie.Then2 → tie.After-judge-bytes
 judged-before c = search
 
 returns : tie.Need-returns
-returns c = way-job _ _ _ (tested-job (search) .first-fault .ensures) (c .if1 .taken)
+returns c = way-early _ _ _ (tested (search) .early-fault .ensures) (c .if1 .taken)
 
-too-short-requires : tie.Need-too-short-requires
-too-short-requires c κs = tested _ (job-answered _ (tested-job (search) .first-fault .ensures) (c .if1 .left)) .few
+judge-bytes-requires : tie.Need-judge-bytes-requires
+judge-bytes-requires c κs =
+    let (passes, long) = early-passed _ (tested (search) .early-fault .ensures) (early-fine (search) .if1 .left) in
+    record { passes = passes; long = long }
 
 returns-2 : tie.Need-returns-2
 returns-2 c =
-    way-short _ _ _ (job-answered _ (tested-job (search) .first-fault .ensures) (job-fine (search) .if1 .left))
-    (sym (measured (search) .too-short .ensures) ∙ c .before .if2 .taken) (c .answered .ensures)
-
-judge-bytes-requires : tie.Need-judge-bytes-requires
-judge-bytes-requires c κs = record {
-  passes = job-answered _ (tested-job (search) .first-fault .ensures) (job-fine (search) .if1 .left);
-  long = not-short _ _ (sym (measured (search) .too-short .ensures) ∙ all-long (search) .if2 .left);
-}
-
-returns-3 : tie.Need-returns-3
-returns-3 c =
     let k = judged-before (search) .judge-bytes .kept in
-    way-refused (judged-before (search) .judge-bytes .ensures) (at-fault (search) .if3 .taken)
+    way-refused (judged-before (search) .judge-bytes .ensures) (at-fault (search) .if2 .taken)
     (zeros-alike _ _ (record {
       parents = omega arith;
       order = omega arith;
@@ -73,9 +55,9 @@ returns-3 c =
       work = omega arith;
     }) (all-cleared (search) .clear-all .ensures))
 
-returns-4 : tie.Need-returns-4
-returns-4 c =
-    way-done (judged (search) .judge-bytes .ensures) (fine (search) .if3 .left)
+returns-3 : tie.Need-returns-3
+returns-3 c =
+    way-done (judged (search) .judge-bytes .ensures) (fine (search) .if2 .left)
     (let kept = judged (search) .judge-bytes .kept in cc (work-cleared (search) .clear64 .ensures))
 
 pub check-plan-spec : {M : Type 1} → statement M
@@ -84,9 +66,6 @@ check-plan-spec =
     (tie.spec
     (λ c κs. search needs)
     returns
-    too-short-requires
-    (λ c κs. search needs)
-    returns-2
     judge-bytes-requires
     (λ c κs. search needs)
     (λ c. omega (arith, all-cleared (search) .clear-all .kept, judged-before (search) .judge-bytes .kept))
@@ -95,7 +74,7 @@ check-plan-spec =
     (λ c. omega (arith, all-cleared (search) .clear-all .kept, judged-before (search) .judge-bytes .kept))
     (λ c. omega (arith, all-cleared (search) .clear-all .kept, judged-before (search) .judge-bytes .kept))
     (λ c. omega (arith, all-cleared (search) .clear-all .kept, judged-before (search) .judge-bytes .kept))
-    returns-3
+    returns-2
     (λ c κs. search needs)
     (λ c. omega (arith, judged (search) .judge-bytes .kept))
     (λ c. omega (arith, judged (search) .judge-bytes .kept))
@@ -103,4 +82,4 @@ check-plan-spec =
     (λ c. omega (arith, judged (search) .judge-bytes .kept))
     (λ c. omega (arith, judged (search) .judge-bytes .kept))
     (λ c. omega (arith, work-cleared (search) .clear64 .kept, judged (search) .judge-bytes .kept))
-    returns-4)
+    returns-3)

@@ -1,5 +1,5 @@
--- Proves that `join_children` makes the whole list of the held rows and what the children hand on. It may skip a child whose rows are all marked,
--- since every marked row is held. Each turn c falls, since the chain descends.
+-- Proves that `join_children` makes the whole list of the rows so far and what the children hand on. It may skip a child whose rows are all marked,
+-- since every marked row is in the list. Each turn c falls, since the chain descends.
 -- Assumes nothing.
 use Prim.Native.Nat.{_+_, _<_}
 use mathlib.Core.Path.{sym, _∙_}
@@ -40,11 +40,11 @@ joined c = c
 abbrev marked : tie.After-mark Inv-loop μ-loop → tie.After-mark Inv-loop μ-loop
 marked c = c
 
-abbrev start : tie.In-loop Inv-loop μ-loop → tie.Start Inv-loop μ-loop
-start c = search
+abbrev begun : tie.In-loop Inv-loop μ-loop → tie.Start Inv-loop μ-loop
+begun c = search
 
 -- In the loop the link of d has its place in work: the answers below cite this with `place (search)`.
-place : (c : tie.In-loop Inv-loop μ-loop) → start c .args .n + c .before .loop .d < length (now (start c .args .work))
+place : (c : tie.In-loop Inv-loop μ-loop) → begun c .args .n + c .before .loop .d < length (now (begun c .args .work))
 place c = link-first (c .before .loop .inv) (c .loop-test .taken)
 
 loop-holds : tie.Need-loop-holds Inv-loop μ-loop

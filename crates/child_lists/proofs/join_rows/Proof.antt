@@ -26,13 +26,13 @@ abbrev united₂ : tie.After-unite2 → tie.After-unite2
 united₂ c = c
 
 slice-aggregate-unite : tie.Need-slice-aggregate-unite
-slice-aggregate-unite c = sym (length-take-le _ _ (entry (search) .pre .held-x))
+slice-aggregate-unite c = sym (length-take-le _ _ (entry (search) .pre .list-x))
 
 unite-requires : tie.Need-unite-requires
 unite-requires c κs = fits-y (entry (search) .pre) (first (search) .if1 .taken)
 
 slice-aggregate-unite-2 : tie.Need-slice-aggregate-unite-2
-slice-aggregate-unite-2 c = sym (length-take-le _ _ (entry (search) .pre .held-y))
+slice-aggregate-unite-2 c = sym (length-take-le _ _ (entry (search) .pre .list-y))
 
 unite-requires-2 : tie.Need-unite-requires-2
 unite-requires-2 c κs = fits-x (entry (search) .pre) (second (search) .if1 .left)

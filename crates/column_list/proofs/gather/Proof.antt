@@ -48,8 +48,8 @@ marked c = c
 abbrev joined : tie.After-join-children → tie.After-join-children
 joined c = c
 
-abbrev start : tie.After-handed-on → tie.Start
-start c = search
+abbrev begun : tie.After-handed-on → tie.Start
+begun c = search
 
 abbrev own : tie.After-handed-on → List ℕ
 own c = now (given (search) .pattern-rows .result)
@@ -69,8 +69,8 @@ returns c =
 -- ---- the longest child
 
 -- Once the longest child has handed on its rows, what is known of these and the pattern rows: the answers below cite it with `first (search)`.
-first : (c : tie.After-handed-on) → First (start c .args .n) (start c .args .m) (now (start c .args .starts)) (now (start c .args .rows))
-    (now (start c .args .fstarts)) (now (start c .args .frows)) (now (start c .args .work)) (now (start c .args .x)) (now (start c .args .y))
+first : (c : tie.After-handed-on) → First (begun c .args .n) (begun c .args .m) (now (begun c .args .starts)) (now (begun c .args .rows))
+    (now (begun c .args .fstarts)) (now (begun c .args .frows)) (now (begun c .args .work)) (now (begun c .args .x)) (now (begun c .args .y))
     (own c) (now (c .handed-on .result))
 first c =
     record {

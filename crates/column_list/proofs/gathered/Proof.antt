@@ -1,4 +1,4 @@
--- Proves that `gathered` gives the list that was gathered: the front of the buffer that is next in turn.
+-- Proves that `gathered` gives the list that was gathered: the first rows of the buffer that is next in turn.
 -- Assumes nothing.
 use mathlib.Core.Path.{sym, ap}
 use lib.ListN.{take}

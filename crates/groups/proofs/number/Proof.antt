@@ -6,7 +6,7 @@ use native.Mathlib.Omega.{arith}
 use borrow.Author.Needs.{needs}
 use Rattle.papers.specs.Bounds.{maxGroups}
 use Rattle.bytes_laws.proofs.Numbers.{bytes-length}
-use Rattle.groups.proofs.Written.{Left, start, turn, stop, inside}
+use Rattle.groups.proofs.Written.{Left, written-start, turn, stop, inside}
 use Rattle.groups.proofs.number.Statement.{statement}
 use Rattle.groups.proofs.number.Tie as tie
 
@@ -25,7 +25,7 @@ room : (c : tie.At-loop Inv-loop μ-loop) → c .loop .count < maxGroups
 room c = omega (arith, inside (c .loop .inv), bytes-length (entry (search) .args .x))
 
 loop-holds : tie.Need-loop-holds Inv-loop μ-loop
-loop-holds c = start _ 0 _ (c .pre)
+loop-holds c = written-start _ 0 _ (c .pre)
 
 loop-again : tie.Need-loop-again Inv-loop μ-loop
 loop-again c = turn (c .before .loop .inv) (c .loop-test .taken)

@@ -8,53 +8,48 @@ use mathlib.Core.List.{List, [], _∷_}
 use borrow.Author.Needs.{needs}
 use Rattle.papers.specs.declared.Answer.{Answer}
 use Rattle.papers.specs.Bounds.{maxColumns, maxMark, maxLimit}
-use Rattle.papers.specs.Job.{Job}
-use Rattle.papers.specs.Refusals.{answer, untouched, Verdict, passed, refused, answerOf, first, columnsTest, markTest}
-use Rattle.papers.specs.Refusals.{limitTest, startsTest, rowsTest, jobTests}
+use Rattle.papers.specs.Refusals.{answer, passed, refused, answerOf, Refusal, on, first}
+use Rattle.papers.specs.Job.{Job, startsTest, rowsTest, jobRefusals, markUnknown, limitOver, jobLists, badStarts, badRow}
 use Rattle.job_laws.proofs.Firsts.{first-passes, first-refuses, first-answers, first-last, over-refuses, over-passes-iff, answer-refused}
 use Rattle.job_rows.proofs.Started.{started}
 use Rattle.job.proofs.first_fault.Statement.{statement}
 use Rattle.job.proofs.first_fault.Tie as tie
 
--- the tests of a job's lists, which follow the tests of its numbers
-abbrev list-tests : List (Job → Verdict)
-list-tests = (λ job. startsTest (job .n) (job .starts) (job .rows)) ∷ (λ job. rowsTest (job .n) (job .starts) (job .rows)) ∷ []
+-- the refusals of a job's lists, which follow those of its numbers
+abbrev ofLists : List (Refusal Job)
+ofLists = on jobLists badStarts ∷ on jobLists badRow ∷ []
 
 module _ (job : Job) where
-  columns-refuses : maxColumns < job .n → first jobTests job ≡ refused (answer 1 0 0) untouched
-  unfolding jobTests columnsTest
-  columns-refuses h = first-refuses _ _ job (over-refuses maxColumns (job .n) _ _ h)
+  columns-refuses : maxColumns < job .n → first jobRefusals job ≡ refused (answer 1 0 0)
+  unfolding jobRefusals
+  columns-refuses h = first-refuses _ _ job (over-refuses maxColumns (job .n) _ h)
 
   module _ (few : job .n ≤ maxColumns) where
-    columns-pass : first jobTests job ≡ first (markTest ∷ limitTest ∷ list-tests) job
-    unfolding jobTests columnsTest
-    columns-pass = first-passes _ _ job (over-passes-iff maxColumns (job .n) _ _ .1 few)
+    columns-pass : first jobRefusals job ≡ first (markUnknown ∷ limitOver ∷ ofLists) job
+    unfolding jobRefusals
+    columns-pass = first-passes _ _ job (over-passes-iff maxColumns (job .n) _ .1 few)
 
-    mark-refuses : maxMark < job .mark → first jobTests job ≡ refused (answer 2 0 0) untouched
-    unfolding markTest
-    mark-refuses h = columns-pass ∙ first-refuses _ _ job (over-refuses maxMark (job .mark) _ _ h)
+    mark-refuses : maxMark < job .mark → first jobRefusals job ≡ refused (answer 2 0 0)
+    mark-refuses h = columns-pass ∙ first-refuses _ _ job (over-refuses maxMark (job .mark) _ h)
 
     module _ (marked : job .mark ≤ maxMark) where
-      mark-passes : first jobTests job ≡ first (limitTest ∷ list-tests) job
-      unfolding markTest
-      mark-passes = columns-pass ∙ first-passes _ _ job (over-passes-iff maxMark (job .mark) _ _ .1 marked)
+      mark-passes : first jobRefusals job ≡ first (limitOver ∷ ofLists) job
+      mark-passes = columns-pass ∙ first-passes _ _ job (over-passes-iff maxMark (job .mark) _ .1 marked)
 
-      limit-refuses : maxLimit < job .limit → first jobTests job ≡ refused (answer 3 0 0) untouched
-      unfolding limitTest
-      limit-refuses h = mark-passes ∙ first-refuses _ _ job (over-refuses maxLimit (job .limit) _ _ h)
+      limit-refuses : maxLimit < job .limit → first jobRefusals job ≡ refused (answer 3 0 0)
+      limit-refuses h = mark-passes ∙ first-refuses _ _ job (over-refuses maxLimit (job .limit) _ h)
 
       module _ (limited : job .limit ≤ maxLimit) where
-        limit-passes : first jobTests job ≡ first list-tests job
-        unfolding limitTest
-        limit-passes = mark-passes ∙ first-passes _ _ job (over-passes-iff maxLimit (job .limit) _ _ .1 limited)
+        limit-passes : first jobRefusals job ≡ first ofLists job
+        limit-passes = mark-passes ∙ first-passes _ _ job (over-passes-iff maxLimit (job .limit) _ .1 limited)
 
         starts-refuse : (r : Answer) → r ≡ answerOf (startsTest (job .n) (job .starts) (job .rows)) → r .number ≢ 0 → r ≡ answerOf
-            (first jobTests job)
+            (first jobRefusals job)
         starts-refuse r e h = e ∙ ap answerOf (sym (limit-passes ∙ first-answers _ _ job (λ z. h (ap (λ a. a .number) e ∙ z))))
 
         rows-decide : startsTest (job .n) (job .starts) (job .rows) ≡ passed → (r : Answer) → r ≡ answerOf
             (rowsTest (job .n) (job .starts) (job .rows))
-            → r ≡ answerOf (first jobTests job)
+            → r ≡ answerOf (first jobRefusals job)
         rows-decide p r e = e ∙ ap answerOf (sym (limit-passes ∙ first-passes _ _ job p ∙ first-last _ job))
 
 -- The places that the answers look back to: `sized (search)` is the one behind the answer at hand.

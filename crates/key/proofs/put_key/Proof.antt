@@ -5,7 +5,8 @@ use native.Mathlib.Omega.{arith}
 use borrow.Author.Needs.{needs}
 use denote.Ref.{now}
 use Rattle.papers.specs.Job.{jobOf}
-use Rattle.job_laws.proofs.Passed.{Passed, passes-iff, lists-iff}
+use Rattle.job_laws.specs.Passed.{Passed}
+use Rattle.job_laws.proofs.Passed.{passes-iff, lists-iff}
 use Rattle.key.proofs.Written.{numbers-fit, key-near, behind-edition, behind-n, behind-mark, behind-limit, key-put}
 use Rattle.key.proofs.put_key.Statement.{statement}
 use Rattle.key.proofs.put_key.Tie as tie
@@ -28,7 +29,7 @@ lists-written c = c
 
 -- the job passes its tests
 valid : (c : tie.Start) → Passed (jobOf (c .args .head) (now (c .args .starts)) (now (c .args .rows)))
-valid c = passes-iff _ .0 (c .pre)
+valid c = c .pre
 
 returns : tie.Need-returns
 returns c =

@@ -1,5 +1,5 @@
--- Proves that `list_columns` writes the column lists: the slices are long enough, and the fronts of order and pops serve as buffers. If all columns
--- are done, it clears the places behind the lists and the fronts.
+-- Proves that `list_columns` writes the column lists: the slices are long enough, and the first places of order and pops serve as buffers. If all
+-- columns are done, it clears the places behind the lists, and the buffers.
 -- Assumes nothing.
 use native.Mathlib.Omega.{arith}
 use lib.ListN.{length-append}
@@ -45,10 +45,10 @@ abbrev listed₁ : tie.Else1 → tie.After-column-lists
 listed₁ c = search
 
 slice-aggregate-column-lists : tie.Need-slice-aggregate-column-lists
-slice-aggregate-column-lists c = part-long _ _ (entry (search) .pre .long .order)
+slice-aggregate-column-lists c = part-long _ _ (omega (arith, entry (search) .pre .long))
 
 slice-aggregate-column-lists-2 : tie.Need-slice-aggregate-column-lists-2
-slice-aggregate-column-lists-2 c = part-long _ _ (entry (search) .pre .long .pops)
+slice-aggregate-column-lists-2 c = part-long _ _ (omega (arith, entry (search) .pre .long))
 
 column-lists-requires : tie.Need-column-lists-requires
 column-lists-requires c κs = listable (entry (search) .pre)
@@ -58,7 +58,7 @@ returns c = some-listed (entry (search) .pre) (listed (search) .column-lists .en
 
 clear32-from-requires-3 : tie.Need-clear32-from-requires-3
 clear32-from-requires-3 c κs =
-    let front = part-long (entry₁ (search) .args .n) (now (entry₁ (search) .args .pops)) (entry₁ (search) .pre .long .pops) in
+    let start-long = part-long (entry₁ (search) .args .n) (now (entry₁ (search) .args .pops)) (omega (arith, entry₁ (search) .pre .long)) in
     simp length-append (omega (arith, listed₁ (search) .column-lists .kept))
 
 clear32-from-requires-4 : tie.Need-clear32-from-requires-4
@@ -90,11 +90,11 @@ list-columns-spec =
     returns
     (λ c. search needs)
     (λ c. search needs)
-    (λ c κs. search needs)
-    (λ c κs. search needs)
+    (λ c κs. omega (arith, entry₁ (search) .pre .long))
+    (λ c κs. omega (arith, entry₁ (search) .pre .long))
     clear32-from-requires-3
     (λ c. omega (arith, entry₁ (search) .pre .tested .few))
-    (λ c κs. omega (arith, listed₁ (search) .column-lists .kept, entry₁ (search) .pre .long .starts))
+    (λ c κs. omega (arith, listed₁ (search) .column-lists .kept, entry₁ (search) .pre .long))
     clear32-from-requires-4
     (λ c. search needs)
     (λ c. search needs)

@@ -1,4 +1,4 @@
--- Proves that `order_columns` writes the order and its pops in the front of their slices, and clears work after it.
+-- Proves that `order_columns` writes the order and its pops at the start of their slices, and clears work after it.
 -- Assumes nothing.
 use mathlib.Core.Path.{sym}
 use lib.Seq.{length-take-le}

@@ -26,14 +26,14 @@ at-loop c = c
 abbrev in-loop : tie.In-loop Inv-loop μ-loop → tie.In-loop Inv-loop μ-loop
 in-loop c = c
 
-abbrev start : tie.In-loop Inv-loop μ-loop → tie.Start Inv-loop μ-loop
-start c = search
+abbrev begun : tie.In-loop Inv-loop μ-loop → tie.Start Inv-loop μ-loop
+begun c = search
 
 -- In the loop d is a child, and its link has its place: the answers below cite this with `child (search)` and `place (search)`.
-child : (c : tie.In-loop Inv-loop μ-loop) → Child (now (start c .args .fstarts)) (c .before .loop .d)
+child : (c : tie.In-loop Inv-loop μ-loop) → Child (now (begun c .args .fstarts)) (c .before .loop .d)
 child c = child-at (c .before .loop .inv) (c .loop-test .taken)
 
-place : (c : tie.In-loop Inv-loop μ-loop) → start c .args .n + c .before .loop .d < length (now (start c .args .work))
+place : (c : tie.In-loop Inv-loop μ-loop) → begun c .args .n + c .before .loop .d < length (now (begun c .args .work))
 place c = link (c .before .loop .inv) (c .loop-test .taken)
 
 loop-holds : tie.Need-loop-holds Inv-loop μ-loop

@@ -1,5 +1,5 @@
--- Proves that `print_text` prints the line of a text that is refused; the fronts of the buffers hold the job of any other text, and what is printed
--- of the job is what is printed of the text.
+-- Proves that `print_text` prints the line of a text that is refused; the first places of the buffers hold the job of any other text, and what is
+-- printed of the job is what is printed of the text.
 -- Assumes nothing.
 use mathlib.Core.Path.{sym, ap}
 use native.Mathlib.Omega.{arith}

@@ -9,7 +9,7 @@ use borrow.Author.Needs.{needs}
 use denote.Ref.{now}
 use Rattle.papers.specs.Job.{jobOf}
 use Rattle.list_laws.proofs.Writing.{wrote-as}
-use Rattle.lent.specs.Six.{six}
+use Rattle.lent.specs.Six.{sixSlices}
 use Rattle.listing_plan.proofs.Analysed.{refused-printed, Done, done-lies, done-columns, done-steps, done-printable, done-printed}
 use Rattle.listing_plan.proofs.print_analysis.Statement.{statement}
 use Rattle.listing_plan.proofs.print_analysis.Tie as tie
@@ -36,7 +36,7 @@ entry₂ c = entry₁ (search)
 -- the analysis is done
 abbrev done : (c : tie.Else1)
     → Done (jobOf (entry₂ c .args .head) (now (entry₂ c .args .starts)) (now (entry₂ c .args .rows)))
-    (six (now (entry₂ c .args .parents)) (now (entry₂ c .args .order)) (now (entry₂ c .args .pops)) (now (entry₂ c .args .fstarts))
+    (sixSlices (now (entry₂ c .args .parents)) (now (entry₂ c .args .order)) (now (entry₂ c .args .pops)) (now (entry₂ c .args .fstarts))
     (now (entry₂ c .args .frows)) (now (entry₂ c .args .work)))
 done c = record { answered = _; after = _; ends = analysed (search) .analyse .ensures; zero = c .if1 .left }
 

@@ -24,15 +24,15 @@ at-loop c = c
 abbrev unmarked : tie.Then1 Inv-loop μ-loop → tie.Then1 Inv-loop μ-loop
 unmarked c = c
 
-abbrev start : tie.Then1 Inv-loop μ-loop → tie.Start Inv-loop μ-loop
-start c = search
+abbrev begun : tie.Then1 Inv-loop μ-loop → tie.Start Inv-loop μ-loop
+begun c = search
 
 abbrev turn : tie.Then1 Inv-loop μ-loop → tie.At-loop Inv-loop μ-loop
 turn c = search
 
 -- Behind that test the column is below i and has its places: the answers below cite this with `bounds (search)`.
-bounds : (c : tie.Then1 Inv-loop μ-loop) → Here (start c .args .i) (turn c .loop .c) (turn c .loop .parents) (turn c .loop .work) (turn c .loop .t)
-bounds c = here (start c .pre) (turn c .loop .inv) (c .if1 .taken)
+bounds : (c : tie.Then1 Inv-loop μ-loop) → Here (begun c .args .i) (turn c .loop .c) (turn c .loop .parents) (turn c .loop .work) (turn c .loop .t)
+bounds c = here (begun c .pre) (turn c .loop .inv) (c .if1 .taken)
 
 loop-holds : tie.Need-loop-holds Inv-loop μ-loop
 loop-holds c = begin (c .pre)

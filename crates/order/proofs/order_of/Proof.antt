@@ -4,7 +4,7 @@
 use mathlib.Core.Path.{sym}
 use native.Mathlib.Omega.{arith}
 use borrow.Author.Needs.{needs}
-use Rattle.order.proofs.Peaks.{front-length, pops-asked, peak-given, order-made}
+use Rattle.order.proofs.Peaks.{list-starts-length, pops-asked, peak-given, order-made}
 use Rattle.order.proofs.order_of.Statement.{statement}
 use Rattle.order.proofs.order_of.Tie as tie
 
@@ -24,7 +24,7 @@ measured c = c
 slice-aggregate-count-pops : tie.Need-slice-aggregate-count-pops
 slice-aggregate-count-pops c =
     let write-steps = written (search) .write-steps in
-    sym (front-length (entry (search) .pre) (write-steps .ensures) (omega (arith, write-steps .kept)))
+    sym (list-starts-length (entry (search) .pre) (write-steps .ensures) (omega (arith, write-steps .kept)))
 
 count-pops-requires : tie.Need-count-pops-requires
 count-pops-requires c κs =

@@ -1,4 +1,4 @@
--- Proves that `store_beside` stores the plan or refuses it: the lent fronts hold the plan, and a law covers each way out.
+-- Proves that `store_beside` stores the plan or refuses it: the first places lent hold the plan, and a law covers each way out.
 -- Assumes nothing.
 use mathlib.Core.Path.{refl, sym}
 use native.Mathlib.Omega.{arith}

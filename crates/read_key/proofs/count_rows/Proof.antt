@@ -5,7 +5,7 @@ use Prim.Native.Nat.{_+_, _-_}
 use mathlib.Core.List.{[]}
 use mathlib.Core.Path.{refl}
 use borrow.Author.Needs.{needs}
-use Rattle.read_fields.specs.Reading.{refuses}
+use Rattle.read_fields.specs.Reading.{meets-fault}
 use Rattle.read_plan.proofs.Lists.{rows-long, Lists, lists-start, lists-turn, lists-fault, lists-stop}
 use Rattle.read_key.proofs.Wholes.{told-alone}
 use Rattle.read_key.proofs.count_rows.Statement.{statement}
@@ -43,7 +43,7 @@ read-list-requires c κs =
 
 returns : tie.Need-returns Inv-loop μ-loop
 returns c =
-    refuses _ _ (lists-fault (at-loop (search) .loop .inv) (in-loop (search) .loop-test .taken) (read (search) .read-list .ensures)
+    meets-fault _ _ (lists-fault (at-loop (search) .loop .inv) (in-loop (search) .loop-test .taken) (read (search) .read-list .ensures)
     (c .before .number .given .1)) refl
 
 loop-again : tie.Need-loop-again Inv-loop μ-loop

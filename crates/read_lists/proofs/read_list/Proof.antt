@@ -4,7 +4,7 @@
 use mathlib.Core.Path.{refl}
 use borrow.Author.Needs.{needs}
 use native.Mathlib.Omega.{arith}
-use Rattle.read_fields.specs.Reading.{refuses}
+use Rattle.read_fields.specs.Reading.{meets-fault}
 use Rattle.read_fields.proofs.Answers.{field-refused, field-read, field-found, told-of}
 use Rattle.read_lists.proofs.Lists.{list-bad, list-got, rows-asked, rows-to-read, total-fits, quick-told, quick-again}
 use Rattle.read_lists.proofs.read_list.Statement.{statement}
@@ -30,7 +30,7 @@ sub-read-field : tie.Need-sub-read-field
 sub-read-field c = entry (search) .pre .column
 
 returns : tie.Need-returns
-returns c = refuses _ _ (list-bad _ _ _ _ (field-refused _ _ _ _ (field-at (search) .read-field .ensures) (c .before .number .given .1))) refl
+returns c = meets-fault _ _ (list-bad _ _ _ _ (field-refused _ _ _ _ (field-at (search) .read-field .ensures) (c .before .number .given .1))) refl
 
 quick-rows-requires : tie.Need-quick-rows-requires
 quick-rows-requires c κs =

@@ -7,7 +7,7 @@ use borrow.Author.Count.{falls-down}
 use borrow.Author.Needs.{needs}
 use mir.Facts.{fits-bits}
 use native.Mathlib.Omega.{arith}
-use Rattle.read_fields.specs.Reading.{refuses}
+use Rattle.read_fields.specs.Reading.{meets-fault}
 use Rattle.read_rows.specs.Rows.{RowsRead}
 use Rattle.read_fields.proofs.Answers.{field-refused, field-read, field-found}
 use Rattle.read_fields.proofs.Places.{next-fits, none-left}
@@ -55,7 +55,7 @@ same-length c = rows-long (at-loop (search) .loop .inv)
 
 returns : tie.Need-returns Inv-loop μ-loop
 returns c =
-    refuses _ _ (rows-fault (at-loop (search) .loop .inv) (in-loop (search) .loop-test .taken)
+    meets-fault _ _ (rows-fault (at-loop (search) .loop .inv) (in-loop (search) .loop-test .taken)
     (field-refused _ _ _ _ (read (search) .read-field .ensures) (c .before .number .given .1))) refl
 
 add-row : tie.Need-add-row Inv-loop μ-loop

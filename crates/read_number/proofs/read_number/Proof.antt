@@ -5,7 +5,7 @@ use Prim.Native.Nat.{_-_}
 use mathlib.Core.Logic.{⊎-elim, inl, inr}
 use native.Mathlib.Omega.{arith}
 use borrow.Author.Needs.{needs}
-use Rattle.read_number.proofs.Carried.{Carried, start, carried-below, stop-end, stop-long, stop-zero, stop-value, turn}
+use Rattle.read_number.proofs.Carried.{Carried, carried-start, carried-below, stop-end, stop-long, stop-zero, stop-value, turn}
 use Rattle.read_number.proofs.read_number.Statement.{statement}
 use Rattle.read_number.proofs.read_number.Tie as tie
 
@@ -26,7 +26,7 @@ abbrev byte-read : tie.After-wide8 Inv-loop μ-loop → tie.After-wide8 Inv-loop
 byte-read c = c
 
 loop-holds : tie.Need-loop-holds Inv-loop μ-loop
-loop-holds c = start _ _
+loop-holds c = carried-start _ _
 
 returns : tie.Need-returns Inv-loop μ-loop
 returns c = stop-long (at-loop (search) .loop .inv) (c .before .loop-test .taken) (c .if1 .taken)

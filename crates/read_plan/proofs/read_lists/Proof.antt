@@ -7,7 +7,7 @@ use native.Mathlib.Omega.{arith}
 use lib.ListN.{length, length-set}
 use borrow.Author.Needs.{needs}
 use denote.Ref.{now}
-use Rattle.read_fields.specs.Reading.{refuses}
+use Rattle.read_fields.specs.Reading.{meets-fault}
 use Rattle.read_plan.proofs.Lists.{Lists, lists-start, starts-long, rows-long, lists-turn, lists-fault, lists-stop}
 use Rattle.read_plan.proofs.read_lists.Statement.{statement}
 use Rattle.read_plan.proofs.read_lists.Tie as tie
@@ -52,7 +52,7 @@ same-length-2 c = omega (arith, read (search) .read-list .kept, rows-long (at-lo
 returns : tie.Need-returns Inv-loop μ-loop
 returns c =
     let l = at-loop (search) .loop .inv in
-    refuses _ _ (lists-fault l (in-loop (search) .loop-test .taken) (read (search) .read-list .ensures) (c .before .number .given .1)) refl
+    meets-fault _ _ (lists-fault l (in-loop (search) .loop-test .taken) (read (search) .read-list .ensures) (c .before .number .given .1)) refl
 
 slice-write-starts-2 : tie.Need-slice-write-starts-2 Inv-loop μ-loop
 slice-write-starts-2 c = omega (arith, starts-kept (search), in-loop (search) .loop-test .taken, entry (search) .pre)

@@ -5,7 +5,7 @@ use lib.ListN.{set, length-set}
 use borrow.Author.Needs.{needs}
 use denote.Ref.{now}
 use Rattle.read_fields.proofs.Answers.{field-refused, field-read, field-found}
-use Rattle.read_fields.specs.Reading.{finds, refuses}
+use Rattle.read_fields.specs.Reading.{finds, meets-fault}
 use Rattle.read_plan.proofs.Steps.{column-narrow, pops-narrow, step-no-column, step-no-pops, step-got}
 use Rattle.read_plan.proofs.read_step.Statement.{statement}
 use Rattle.read_plan.proofs.read_step.Tie as tie
@@ -28,7 +28,7 @@ pops-read c = c
 
 returns : tie.Need-returns
 returns c =
-    refuses _ _ (step-no-column _ _ _ (field-refused _ _ _ _ (first-read (search) .read-field .ensures) (c .before .number .given .1))) refl
+    meets-fault _ _ (step-no-column _ _ _ (field-refused _ _ _ _ (first-read (search) .read-field .ensures) (c .before .number .given .1))) refl
 
 read-field-requires-2 : tie.Need-read-field-requires-2
 read-field-requires-2 c κs = field-found _ _ _ _ (first-read (search) .read-field .ensures) (c .before .column .given .1) .inside
@@ -36,7 +36,7 @@ read-field-requires-2 c κs = field-found _ _ _ _ (first-read (search) .read-fie
 returns-2 : tie.Need-returns-2
 returns-2 c =
     let column = field-read _ _ _ _ (first-read (search) .read-field .ensures) (column-read (search) .column .given .1) in
-    refuses _ _ (step-no-pops _ _ _ column (field-refused _ _ _ _ (second-read (search) .read-field2 .ensures) (c .before .number2 .given .1)))
+    meets-fault _ _ (step-no-pops _ _ _ column (field-refused _ _ _ _ (second-read (search) .read-field2 .ensures) (c .before .number2 .given .1)))
     refl
 
 narrow32-requires : tie.Need-narrow32-requires

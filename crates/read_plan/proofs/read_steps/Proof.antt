@@ -4,7 +4,7 @@ use Prim.Native.Nat.{_-_}
 use mathlib.Core.Path.{refl}
 use native.Mathlib.Omega.{arith}
 use borrow.Author.Needs.{needs}
-use Rattle.read_fields.specs.Reading.{refuses}
+use Rattle.read_fields.specs.Reading.{meets-fault}
 use Rattle.read_plan.proofs.Steps.{Steps, steps-start, order-long, pops-long, steps-turn, steps-fault, steps-stop}
 use Rattle.read_plan.proofs.read_steps.Statement.{statement}
 use Rattle.read_plan.proofs.read_steps.Tie as tie
@@ -52,7 +52,7 @@ same-length-2 c = omega (arith, read (search) .read-step .kept, pops-long (at-lo
 returns : tie.Need-returns Inv-loop μ-loop
 returns c =
     let l = at-loop (search) .loop .inv in
-    refuses _ _ (steps-fault l (in-loop (search) .loop-test .taken) (read (search) .read-step .ensures) (c .before .number .given .1)) refl
+    meets-fault _ _ (steps-fault l (in-loop (search) .loop-test .taken) (read (search) .read-step .ensures) (c .before .number .given .1)) refl
 
 loop-again : tie.Need-loop-again Inv-loop μ-loop
 loop-again c =

@@ -7,7 +7,7 @@ use native.Mathlib.Omega.{arith}
 use lib.ListN.{length-set, length, getD}
 use denote.Ref.{now}
 use borrow.Author.Needs.{needs}
-use Rattle.room.specs.Steps.{Over}
+use Rattle.room.specs.Steps.{UpdatesSummed}
 use Rattle.room.proofs.Stacks.{Peaked, stacked-over, peaked-start, peaked-stop, peaked-turn}
 use Rattle.room.proofs.peak.Statement.{statement}
 use Rattle.room.proofs.peak.Tie as tie
@@ -48,7 +48,7 @@ begun c = search
 
 -- the step pops no more updates than are held
 over : (c : tie.After-rows-of Inv-loop μ-loop)
-    → Over (turn c .loop .below) (turn c .loop .depth) (getD (now (begun c .args .pops)) (turn c .loop .k) 0) (c .rows-of .result)
+    → UpdatesSummed (turn c .loop .below) (turn c .loop .depth) (getD (now (begun c .args .pops)) (turn c .loop .k) 0) (c .rows-of .result)
 over c =
     stacked-over _ _ _ (turn c .loop .inv .stacked) (begun c .pre .stepped) (in-loop (search) .loop-test .taken) (c .rows-of .ensures)
 

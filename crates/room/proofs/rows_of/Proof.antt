@@ -3,7 +3,7 @@
 use mathlib.Core.Path.{refl}
 use native.Mathlib.Omega.{arith}
 use borrow.Author.Needs.{needs}
-use Rattle.room.specs.Rows.{rowsIn}
+use Rattle.room.specs.Rows.{rowCountIn}
 use Rattle.room.proofs.rows_of.Statement.{statement}
 use Rattle.room.proofs.rows_of.Tie as tie
 
@@ -12,7 +12,7 @@ abbrev entry : tie.Start → tie.Start
 entry c = c
 
 returns : tie.Need-returns
-unfolding rowsIn
+unfolding rowCountIn
 returns c = record { same = refl; few = omega (arith, entry (search) .pre .few) }
 
 pub rows-of-spec : {M : Type 1} → statement M

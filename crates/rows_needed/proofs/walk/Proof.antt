@@ -32,12 +32,12 @@ climbed c = c
 abbrev filed : tie.After-file Inv-loop μ-loop → tie.After-file Inv-loop μ-loop
 filed c = c
 
-abbrev start : tie.In-loop Inv-loop μ-loop → tie.Start Inv-loop μ-loop
-start c = search
+abbrev begun : tie.In-loop Inv-loop μ-loop → tie.Start Inv-loop μ-loop
+begun c = search
 
 -- column c has its places in work: this is the last of them
-place : (c : tie.In-loop Inv-loop μ-loop) → start c .args .n + start c .args .n + start c .args .n + c .before .loop .c
-    < length (now (start c .args .work))
+place : (c : tie.In-loop Inv-loop μ-loop) → begun c .args .n + begun c .args .n + begun c .args .n + c .before .loop .c
+    < length (now (begun c .args .work))
 place c =
     omega (arith, column (c .before .loop .inv .walk) (c .loop-test .taken), c .before .loop .inv .walk .buckets .long, c .before .loop .inv .long-w)
 

@@ -3,13 +3,13 @@
 use Prim.Native.Nat.{_-_}
 use native.Mathlib.Omega.{arith}
 use borrow.Author.Needs.{needs}
-use Rattle.run_front.specs.Search.{Same}
+use Rattle.run_front.specs.Search.{SameFirst}
 use Rattle.run_front.proofs.SameRows.{same-next}
 use Rattle.run_front.proofs.alike.Statement.{statement}
 use Rattle.run_front.proofs.alike.Tie as tie
 
 abbrev Inv-loop : tie.InvT-loop
-Inv-loop a b end i₀ i = Same a b i
+Inv-loop a b end i₀ i = SameFirst a b i
 
 abbrev μ-loop : tie.MeasureT-loop
 μ-loop a b end i₀ i = end - i

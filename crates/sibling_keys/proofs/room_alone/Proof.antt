@@ -12,10 +12,10 @@ use Rattle.sibling_keys.proofs.room_alone.Statement.{statement}
 use Rattle.sibling_keys.proofs.room_alone.Tie as tie
 
 abbrev Inv-loop : tie.InvT-loop
-Inv-loop factor rooms kids j most₀ before₀ held₀ i₀ most before held i = Turned factor rooms kids most before held i
+Inv-loop factor rooms kids j most₀ before₀ below₀ i₀ most before below i = Turned factor rooms kids most before below i
 
 abbrev μ-loop : tie.MeasureT-loop
-μ-loop factor rooms kids j most₀ before₀ held₀ i₀ most before held i = length kids - i
+μ-loop factor rooms kids j most₀ before₀ below₀ i₀ most before below i = length kids - i
 
 -- The places that the answers look back to: `entry (search)` is the one behind the answer at hand.
 abbrev entry : tie.Start Inv-loop μ-loop → tie.Start Inv-loop μ-loop
@@ -64,8 +64,8 @@ rows-of-requires : tie.Need-rows-of-requires Inv-loop μ-loop
 rows-of-requires c κs =
     turned-column _ _ _ (entry (search) .args .j) (at-loop (search) .loop .inv) (entry (search) .pre) (in-loop (search) .loop-test .taken)
 
-add-held : tie.Need-add-held Inv-loop μ-loop
-add-held c = omega (arith, c .entries .ensures, entries-fit (c .before .rows-of .result) (omega (arith, c .before .rows-of .ensures .few)))
+add-below : tie.Need-add-below Inv-loop μ-loop
+add-below c = omega (arith, c .entries .ensures, entries-fit (c .before .rows-of .result) (omega (arith, c .before .rows-of .ensures .few)))
 
 loop-again : tie.Need-loop-again Inv-loop μ-loop
 loop-again c =
@@ -97,7 +97,7 @@ room-alone-spec =
     (λ c κs. search needs)
     rows-of-requires
     (λ c κs. search needs)
-    add-held
+    add-below
     (λ c. search needs)
     (λ c. search needs)
     loop-again

@@ -3,7 +3,7 @@
 use Prim.Native.Nat.{_-_}
 use lib.ListN.{length}
 use borrow.Author.Needs.{needs}
-use Rattle.slices.proofs.Zeroed.{Zeroed, start, turn, stop}
+use Rattle.slices.proofs.Zeroed.{Zeroed, zeroed-start, turn, stop}
 use Rattle.slices.proofs.clear32.Statement.{statement}
 use Rattle.slices.proofs.clear32.Tie as tie
 
@@ -14,7 +14,7 @@ abbrev μ-loop : tie.MeasureT-loop
 μ-loop rows₀ i₀ rows i = length rows₀ - i
 
 loop-holds : tie.Need-loop-holds Inv-loop μ-loop
-loop-holds c = start _
+loop-holds c = zeroed-start _
 
 loop-again : tie.Need-loop-again Inv-loop μ-loop
 loop-again c = turn (c .before .loop .inv) (c .loop-test .taken)

@@ -1,5 +1,5 @@
 -- Proves that `check_for_key` makes the check for the key's job: its columns and rows are within the program's sizes, so a second reading puts its
--- lists whole at the fronts of two buffers, and these fronts are the job's lists.
+-- lists whole at the start of two buffers, and there they are the job's lists.
 -- Assumes nothing.
 use mathlib.Core.Path.{sym}
 use native.Mathlib.Omega.{arith}

@@ -2,7 +2,7 @@
 -- and the list is cleared after them.
 -- Assumes nothing.
 use borrow.Author.Needs.{needs}
-use Rattle.run_updates.specs.Kept.{callOf}
+use Rattle.run_updates.specs.Kept.{runOf}
 use Rattle.job_rows.proofs.Started.{started}
 use Rattle.stack_run.proofs.Outcomes.{run-many, run-starts, run-rows, run-short, steps-asked, run-steps}
 use Rattle.stack_run.proofs.run.Statement.{statement}
@@ -62,7 +62,7 @@ returns-4 c =
 steps-requires : tie.Need-steps-requires
 steps-requires c κs =
     let a = entry (search) .args in
-    steps-asked (callOf (a .n) (a .starts .now) (a .rows .now) (a .columns .now) (a .pops .now) (a .room) (a .stack .now)) (few (search) .if1 .left)
+    steps-asked (runOf (a .n) (a .starts .now) (a .rows .now) (a .columns .now) (a .pops .now) (a .room) (a .stack .now)) (few (search) .if1 .left)
     (tested-starts (search) .starts-fault .ensures) (starts-pass (search) .if2 .left) (tested-rows (search) .rows-fault .ensures)
     (rows-pass (search) .if3 .left) (measured (search) .too-short .ensures) (c .before .if4 .left)
 

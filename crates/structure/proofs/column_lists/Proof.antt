@@ -5,7 +5,7 @@ use Prim.Native.Nat.{_-_}
 use mathlib.Core.Path.{refl, _∙_}
 use native.Mathlib.Omega.{arith}
 use lib.ListN.{length-set}
-use Rattle.structure.proofs.Running.{Running, run-begin, run-next, run-end, run-held, run-store, run-on, run-short, run-all}
+use Rattle.structure.proofs.Running.{Running, run-begin, run-next, run-end, run-buffered, run-store, run-on, run-short, run-all}
 use Rattle.structure.proofs.Running.{long-p, long-s, long-f}
 use Rattle.structure.proofs.column_lists.Statement.{statement}
 use Rattle.structure.proofs.column_lists.Tie as tie
@@ -63,7 +63,7 @@ returns c =
 
 gathered-requires : tie.Need-gathered-requires Inv-loop μ-loop
 gathered-requires c κs =
-    run-held (at-loop (search) .loop .inv) (in-loop (search) .loop-test .taken) (gathered (search) .gather .ensures)
+    run-buffered (at-loop (search) .loop .inv) (in-loop (search) .loop-test .taken) (gathered (search) .gather .ensures)
     (omega (arith, gathered (search) .gather .kept)) (omega (arith, gathered (search) .gather .kept))
 
 store-requires : tie.Need-store-requires Inv-loop μ-loop

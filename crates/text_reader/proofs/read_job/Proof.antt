@@ -51,7 +51,7 @@ returns-4 c =
 read-lines-requires : tie.Need-read-lines-requires
 read-lines-requires c κs =
     let x = told-head (head-told (search) .read-head .ensures) (head-read (search) .head .given .1) in
-    record { begins = x .ends; size = sym (ap (λ q. q .n) (x .is)); few = size-fits (search) .if3 .left; long = entry (search) .pre }
+    record { begins = x .ends; size = sym (ap (λ q. q .head .n) (x .is)); few = size-fits (search) .if3 .left; long = entry (search) .pre }
 
 returns-5 : tie.Need-returns-5
 returns-5 c =

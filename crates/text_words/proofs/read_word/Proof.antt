@@ -4,7 +4,7 @@
 use mathlib.Core.Path.{refl, sym, _∙_}
 use borrow.Author.Needs.{needs}
 use borrow.Author.Tests.{not-true, not-false}
-use Rattle.text_words.specs.Words.{more, last, bad}
+use Rattle.text_words.specs.Words.{before-space, before-newline, no-number}
 use Rattle.text_words.proofs.Numbers.{number-here, none-ended, none-bad, none-other}
 use Rattle.text_words.proofs.read_word.Statement.{statement}
 use Rattle.text_words.proofs.read_word.Tie as tie
@@ -26,26 +26,26 @@ abbrev no-space : tie.Else3 → tie.Else3
 no-space c = c
 
 returns : tie.Need-returns
-returns c = bad refl (none-ended _ _ (read (search) .read-digits .ensures) (c .if1 .taken))
+returns c = no-number refl (none-ended _ _ (read (search) .read-digits .ensures) (c .if1 .taken))
 
 returns-2 : tie.Need-returns-2
 returns-2 c =
-    bad refl (none-bad _ _ (read (search) .read-digits .ensures)
+    no-number refl (none-bad _ _ (read (search) .read-digits .ensures)
     (sym (c .before .is-decimal .ensures) ∙ not-true _ (c .if2 .taken)))
 
 returns-3 : tie.Need-returns-3
 returns-3 c =
-    more _ _ refl (number-here _ _ (read (search) .read-digits .ensures) (sym (judged (search) .is-decimal .ensures) ∙ not-false _
+    before-space _ _ refl (number-here _ _ (read (search) .read-digits .ensures) (sym (judged (search) .is-decimal .ensures) ∙ not-false _
     (decimal (search) .if2 .left)) (byte-behind (search) .if1 .left) (c .if3 .taken))
 
 returns-4 : tie.Need-returns-4
 returns-4 c =
-    last _ _ refl (number-here _ _ (read (search) .read-digits .ensures) (sym (judged (search) .is-decimal .ensures) ∙ not-false _
+    before-newline _ _ refl (number-here _ _ (read (search) .read-digits .ensures) (sym (judged (search) .is-decimal .ensures) ∙ not-false _
     (decimal (search) .if2 .left)) (byte-behind (search) .if1 .left) (c .if4 .taken))
 
 returns-5 : tie.Need-returns-5
 returns-5 c =
-    bad refl (none-other _ _ (read (search) .read-digits .ensures) (no-space (search) .if3 .left)
+    no-number refl (none-other _ _ (read (search) .read-digits .ensures) (no-space (search) .if3 .left)
     (c .if4 .left))
 
 pub read-word-spec : {M : Type 1} → statement M

@@ -5,7 +5,7 @@ use Prim.Native.Nat.{ℕ}
 use native.Mathlib.Omega.{arith}
 use borrow.Author.Needs.{needs}
 use Rattle.walk.proofs.Down.{Down, down-start, down-size, down-last, down-task, down-leaf, down-turn}
-use Rattle.walk.proofs.Measure.{columnAt, siblingsBelow}
+use Rattle.walk.proofs.Measure.{columnHere, siblingsBelow}
 use Rattle.walk.proofs.column.Reads as column
 use Rattle.walk.proofs.siblings.Reads as siblings
 use Rattle.walk.proofs.+column+siblings.Lts-column as lts
@@ -22,47 +22,47 @@ module _ (t : ℕ) where
   calls = (siblingsBelow t, siblings.Post)
 
   -- The places that the answers look back to: `entry (search)` is the one before the answer at hand.
-  abbrev entry : lts.Start calls (columnAt t) column.Post Inv μ → lts.Start calls (columnAt t) column.Post Inv μ
+  abbrev entry : lts.Start calls (columnHere t) column.Post Inv μ → lts.Start calls (columnHere t) column.Post Inv μ
   entry c = c
 
-  abbrev turn : lts.At-loop calls (columnAt t) column.Post Inv μ → lts.At-loop calls (columnAt t) column.Post Inv μ
+  abbrev turn : lts.At-loop calls (columnHere t) column.Post Inv μ → lts.At-loop calls (columnHere t) column.Post Inv μ
   turn c = c
 
-  abbrev more : lts.Then1 calls (columnAt t) column.Post Inv μ → lts.Then1 calls (columnAt t) column.Post Inv μ
+  abbrev more : lts.Then1 calls (columnHere t) column.Post Inv μ → lts.Then1 calls (columnHere t) column.Post Inv μ
   more c = c
 
-  abbrev asked : lts.After-siblings calls (columnAt t) column.Post Inv μ → lts.After-siblings calls (columnAt t) column.Post Inv μ
+  abbrev asked : lts.After-siblings calls (columnHere t) column.Post Inv μ → lts.After-siblings calls (columnHere t) column.Post Inv μ
   asked c = c
 
-  slice-write-order : lts.Need-slice-write-order calls (columnAt t) column.Post Inv μ
+  slice-write-order : lts.Need-slice-write-order calls (columnHere t) column.Post Inv μ
   slice-write-order c = omega (arith, down-size (turn (search) .loop .inv), down-last (turn (search) .loop .inv))
 
-  siblings-requires : lts.Need-siblings-requires calls (columnAt t) column.Post Inv μ
+  siblings-requires : lts.Need-siblings-requires calls (columnHere t) column.Post Inv μ
   siblings-requires c κs =
       let inv = turn (search) .loop .inv in
       (omega (arith, entry (search) .pre .0, more (search) .if1 .taken, inv .task .asks .fits, inv .after), down-task inv (more (search) .if1 .taken))
 
-  loop-less : lts.Need-loop-less calls (columnAt t) column.Post Inv μ
+  loop-less : lts.Need-loop-less calls (columnHere t) column.Post Inv μ
   loop-less c =
       let handed = asked (search) .siblings .ensures in
       omega (arith, more (search) .if1 .taken, handed .asks .asks .fits, handed .within .0)
 
-  loop-again : lts.Need-loop-again calls (columnAt t) column.Post Inv μ
+  loop-again : lts.Need-loop-again calls (columnHere t) column.Post Inv μ
   loop-again c =
       let siblings = asked (search) .siblings in
       down-turn (turn (search) .loop .inv) (more (search) .if1 .taken) (siblings .ensures) (omega (arith, siblings .kept))
 
-  slice-write-order-2 : lts.Need-slice-write-order-2 calls (columnAt t) column.Post Inv μ
+  slice-write-order-2 : lts.Need-slice-write-order-2 calls (columnHere t) column.Post Inv μ
   slice-write-order-2 c = omega (arith, down-size (turn (search) .loop .inv), down-last (turn (search) .loop .inv))
 
-  returns : lts.Need-returns calls (columnAt t) column.Post Inv μ
+  returns : lts.Need-returns calls (columnHere t) column.Post Inv μ
   returns c = down-leaf (turn (search) .loop .inv) (c .before .if1 .left)
 
-  pub column-closed : {M : Type 1} → lts.Closed calls (columnAt t) column.Post M
+  pub column-closed : {M : Type 1} → lts.Closed calls (columnHere t) column.Post M
   column-closed =
       lts.spec
       calls
-      (columnAt t)
+      (columnHere t)
       column.Post
       Inv
       μ

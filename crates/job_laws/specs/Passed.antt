@@ -1,0 +1,29 @@
+-- Defines what a job that passes 1 to 6 is, and lists that pass 4 to 6.
+-- Assumes nothing.
+use Prim.Native.Nat.{ℕ, suc, _+_, _≤_}
+use mathlib.Core.Path.{_≡_}
+use mathlib.Core.List.{List}
+use lib.ListN.{length}
+use Rattle.papers.specs.Bounds.{maxColumns, maxMark, maxLimit}
+use Rattle.papers.specs.Lists.{_∈_, Asc}
+use Rattle.papers.specs.Job.{Job, start, columnOf}
+
+-- starts that pass: n + 1 of them, from 0 up to the row count
+pub record Starts (n : ℕ) (starts rows : List ℕ) : Type 0 where
+  pub long : length starts ≡ n + 1
+  pub from-zero : start starts 1 ≡ 0
+  pub rising : (j : ℕ) → 1 ≤ j → j ≤ n → start starts j ≤ start starts (suc j)
+  pub last : start starts (suc n) ≡ length rows
+
+-- lists that pass 4, 5 and 6: a job's pattern, and the factor that a run is given
+pub record PassedLists (n : ℕ) (starts rows : List ℕ) : Type 0 where
+  pub whole : Starts n starts rows
+  pub ascending : (j : ℕ) → 1 ≤ j → j ≤ n → Asc j (columnOf starts rows j)
+  pub within : (j : ℕ) → 1 ≤ j → j ≤ n → (i : ℕ) → i ∈ columnOf starts rows j → i ≤ n
+
+-- a job that passes 1 to 6
+pub record Passed (job : Job) : Type 0 where
+  pub few : job .n ≤ maxColumns
+  pub marked : job .mark ≤ maxMark
+  pub limited : job .limit ≤ maxLimit
+  pub lists : PassedLists (job .n) (job .starts) (job .rows)

@@ -1,0 +1,5 @@
+pub mod TextLines
+pub mod Text
+pub mod TextJob
+pub mod Printed
+pub mod Program
