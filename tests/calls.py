@@ -9,17 +9,20 @@ file draws cases from a seed. How many cases there are of each number goes to st
 
 A line has the form that damage.py describes, with these lists: starts, rows, plan bytes; the bytes that the lent byte slice has to hold, before
 zeros; the bytes of the key for the solver's call; four lists that stay empty. The six lengths are those of the byte slice and of the slice
-for factor rows, three zeros, and the entry point: 1 write_key, 2 write_plan, 3 the solver's call.
+for factor rows, three zeros, and the entry point: 1 write_key, 2 write_plan, 3 the solver's call. The call lends no slice, so its `kept` is 0.
 """
 import sys
 
-from damage import (Dice, Reader, Refused, SAYS, as_bytes, change_numbers, check, draw, draw_limit, draw_size, entries, fill, in_fields, job_of,
-                    key_numbers, long_form, other_rows, parents_of, pattern, planned, read_list, rooms, sound, spoil_head, spoil_rows, spoil_starts,
-                    test_job, written)
+from damage import (Dice, Late, MOST_COLUMNS, MOST_LIMIT, Reader, Refused, SAYS, as_bytes, change_numbers, check, draw, draw_limit, draw_size,
+                    entries, fill, in_fields, job_of, key_numbers, long_form, other_rows, parents_of, pattern, planned, read_list, rooms, sound,
+                    spoil_head, spoil_rows, spoil_starts, test_job, work_length, written)
 
 WRITE_KEY, WRITE_PLAN, CALL = 1, 2, 3
 
-# What the program has room for.
+# The sizes of the program, which the solver's call has too.
+COLUMNS, PATTERN_ROWS, FACTOR_ROWS = 256, 2048, 4096
+
+# What `trial_calls` has room for.
 MOST_BYTES = 4000
 MOST_ROWS = 400
 MOST_NUMBERS = 4096
@@ -51,15 +54,15 @@ def order_of(mark, lists):
 
 
 def write_key(job, length):
-    """The answer, and the bytes that then lie in front of the slice."""
+    """The answer; whether the slice keeps what it held; the bytes that then lie at its start."""
     try:
         test_job(job)
         data = as_bytes(key_numbers(job))
         if len(data) > length:
-            raise Refused(10, 0, len(data))
+            raise Late(10, 0, len(data))
     except Refused as refused:
-        return refused.args, []
-    return (0, 0, len(data)), data
+        return refused.args, refused.kept, []
+    return (0, 0, len(data)), 0, data
 
 
 def write_plan(job, length, rows):
@@ -69,16 +72,16 @@ def write_plan(job, length, rows):
         lists = fill(job.n, job.columns())
         needed = sum(len(found) for found in lists)
         if needed > rows:
-            raise Refused(8, 0, needed)
+            raise Late(8, 0, needed)
         plan = planned(lists, order_of(job.mark, lists))
         if plan.peak > job.limit:
-            raise Refused(9, 0, plan.peak)
+            raise Late(9, 0, plan.peak)
         data = written(job, plan)
         if len(data) > length:
-            raise Refused(10, 0, len(data))
+            raise Late(10, 0, len(data))
     except Refused as refused:
-        return refused.args, []
-    return (0, 0, len(data)), data
+        return refused.args, refused.kept, []
+    return (0, 0, len(data)), 0, data
 
 
 def read_key(key):
@@ -86,7 +89,7 @@ def read_key(key):
     reader = Reader(key, 0)
     try:
         reader.number(1, 1)
-        n, mark, limit = reader.number(0, 4096), reader.number(0, 2), reader.number(0, 2 ** 40)
+        n, mark, limit = reader.number(0, MOST_COLUMNS), reader.number(0, 2), reader.number(0, MOST_LIMIT)
         columns = [read_list(reader, n, j) for j in range(1, n + 1)]
     except Refused:
         return None
@@ -98,9 +101,9 @@ def call(key, plan):
     job = read_key(key)
     if job is None:
         return 27, 0, 0
-    if job.n > 256 or len(job.rows) > 2048:
+    if job.n > COLUMNS or len(job.rows) > PATTERN_ROWS:
         return 26, 0, 0
-    lent = {"parents": 256, "order": 256, "pops": 256, "fstarts": 257, "frows": 4096, "work": 8 * 256 + 8}
+    lent = {"parents": COLUMNS, "order": COLUMNS, "pops": COLUMNS, "fstarts": COLUMNS + 1, "frows": FACTOR_ROWS, "work": work_length(COLUMNS)}
     number, place, _ = check(job, plan, lent)[0]
     return number, place, 0
 
@@ -127,7 +130,7 @@ def case_wide_key(dice):
     """A job whose size, counts, gaps and limit need two groups and more."""
     n = dice.between(125, 300)
     columns = [sorted({dice.between(j + 1, n) for _ in range(dice.below(3))}) if j < n else [] for j in range(1, n + 1)]
-    job = job_of(columns, dice.below(3), dice.pick([2 ** dice.below(41), 2 ** 40, 2 ** (7 * dice.between(1, 5)) - dice.below(2)]))
+    job = job_of(columns, dice.below(3), dice.pick([2 ** dice.below(41), MOST_LIMIT, 2 ** (7 * dice.between(1, 5)) - dice.below(2)]))
     return WRITE_KEY, job, slice_length(dice, len(as_bytes(key_numbers(job)))), 0, [], []
 
 
@@ -136,7 +139,7 @@ def case_plan(dice):
     lists = fill(len(columns), columns)
     mark = dice.below(3)
     plan = planned(lists, order_of(mark, lists))
-    limit = dice.pick([draw_limit(dice, plan.peak), plan.peak, max(plan.peak - 1, 0)] + [2 ** 40] * 3)
+    limit = dice.pick([draw_limit(dice, plan.peak), plan.peak, max(plan.peak - 1, 0)] + [MOST_LIMIT] * 3)
     job = job_of(columns, mark, limit)
     rows = plan.rows() + dice.pick([0, 0, 1, 5]) if dice.often(85) else dice.below(plan.rows() + 1)
     length = slice_length(dice, len(written(job, plan)))
@@ -192,13 +195,14 @@ def case_large(dice):
     """Columns and pattern rows about the sizes of the call."""
     way = dice.below(3)
     if way == 0:
-        columns = [[] for _ in range(dice.pick([255, 256, 257, 258, 300, 4096 if dice.often(20) else 256]))]
+        most = MOST_COLUMNS if dice.often(20) else COLUMNS
+        columns = [[] for _ in range(dice.pick([COLUMNS - 1, COLUMNS, COLUMNS + 1, COLUMNS + 2, 300, most]))]
     elif way == 1:
-        rows = dice.pick([2047, 2048, 2049, 2080])
+        rows = dice.pick([PATTERN_ROWS - 1, PATTERN_ROWS, PATTERN_ROWS + 1, 2080])
         columns = [list(range(j + 1, 66)) for j in range(1, 66)]
         columns[0] = columns[0][:64 - (2080 - rows)]
     else:
-        n = dice.between(200, 257)
+        n = dice.between(200, COLUMNS + 1)
         columns = [[min(n, j + 1 + dice.below(4))] if j < n else [] for j in range(1, n + 1)]
     job = job_of(columns, dice.below(3))
     key = as_bytes(key_numbers(job))
@@ -212,7 +216,8 @@ PAIR = "01 02 00 0A 01 01 00 01 00 02 01 01 01 00 03"
 
 
 def pieces():
-    """The bench pieces that are written, and the pair through the solver's call, each with the answer that its text gives."""
+    """The bench pieces that are written, and the pair through the solver's call, each with the answer that its text gives. None keeps what the
+    slice held."""
     pair = job_of([[2], []], 0, 10)
     plan = [int(byte, 16) for byte in PAIR.split()]
     yield (WRITE_PLAN, job_of([], 0, 0), 8, 0, [], []), (0, 0, 5), [1, 0, 0, 0, 0]
@@ -232,17 +237,17 @@ def right(case):
         return write_key(job, length)
     if entry == WRITE_PLAN:
         return write_plan(job, length, rows)
-    return call(key, plan), []
+    return call(key, plan), 0, []
 
 
 # ---------------------------------------------------------------- The file
 
 def line(case):
-    """The case as a line, and the number of its answer; None where it is longer than the program has room for."""
+    """The case as a line, and the number of its answer; None where it is longer than `trial_calls` has room for."""
     entry, job, length, rows, key, plan = case
-    answer, data = right(case)
+    answer, kept, data = right(case)
     lists = [job.starts, job.rows, plan, data, key, [], [], [], []]
-    head = [job.n, job.mark, job.limit, *answer, *(len(found) for found in lists), length, rows, 0, 0, 0, entry]
+    head = [job.n, job.mark, job.limit, *answer, kept, *(len(found) for found in lists), length, rows, 0, 0, 0, entry]
     numbers = [x for part in [head] + lists for x in part]
     text = " ".join(str(x) for x in numbers) + "\n"
     small = max(len(key), len(plan), length) <= MOST_BYTES and rows <= MOST_ROWS and len(job.starts) <= 1100 and len(job.rows) <= 500
@@ -253,7 +258,7 @@ def line(case):
 
 def lines():
     for case, answer, data in pieces():
-        assert right(case) == (answer, data), (case, right(case))
+        assert right(case) == (answer, 0, data), (case, right(case))
         yield line(case)
     for seed, (count, family) in enumerate(FAMILIES, 1):
         dice = Dice(seed)

@@ -11,6 +11,7 @@ to standard error how many cases each number has.
 A line is a case, in decimals with one space between. The first number, of five digits, counts the bytes after its space. Then come
     n mark limit                                          of the job,
     number place count                                    that the check has to answer,
+    kept                                                  1 if the lent slices keep what they held, 0 if not,
     starts rows plan                                      how many of each are given,
     parents order pops fstarts frows work                 how long the result is in each lent slice, before the zeros,
     parents order pops fstarts frows work                 how long each lent slice is,
@@ -18,9 +19,13 @@ and the lists themselves: starts, rows, plan bytes, and those of the result, in 
 """
 import sys
 
+# The bounds of the rules: n, the room limit and the declared peak.
+MOST_COLUMNS = 4096
+MOST_LIMIT = MOST_PEAK = 2 ** 40
+
 LENT = ("parents", "order", "pops", "fstarts", "frows", "work")
 
-# The most numbers that the program keeps of each list, and the longest line that it reads.
+# The most numbers that `trial_check` keeps of each list, and the longest line that it reads.
 MOST = {"starts": 1152, "rows": 512, "plan": 2048, "parents": 512, "order": 512, "pops": 512, "fstarts": 1152, "frows": 512, "work": 1152}
 LONGEST_LINE = 8192
 
@@ -28,10 +33,20 @@ LONGEST_LINE = 8192
 # ---------------------------------------------------------------- The rules
 
 class Refused(Exception):
-    """Number, place and count of a refusal."""
+    """Number, place and count of a refusal; each kind says whether the lent slices keep what they held."""
 
     def __init__(self, number, place=0, count=0):
         super().__init__(number, place, count)
+
+
+class Early(Refused):
+    """Found before the lent slices are touched: they keep what they held."""
+    kept = 1
+
+
+class Late(Refused):
+    """Found later: the lent slices are zero."""
+    kept = 0
 
 
 class Job:
@@ -48,34 +63,39 @@ class Job:
 
 def test_job(job):
     """1 to 6."""
-    if job.n > 4096:
-        raise Refused(1)
+    if job.n > MOST_COLUMNS:
+        raise Early(1)
     if job.mark not in (0, 1, 2):
-        raise Refused(2)
-    if job.limit > 2 ** 40:
-        raise Refused(3)
+        raise Early(2)
+    if job.limit > MOST_LIMIT:
+        raise Early(3)
     if len(job.starts) != job.n + 1 or job.starts[0] != 0:
-        raise Refused(4, 0)
+        raise Early(4, 0)
     for j in range(1, job.n + 1):
         if job.starts[j] < job.starts[j - 1]:
-            raise Refused(4, j)
+            raise Early(4, j)
     if job.starts[job.n] != len(job.rows):
-        raise Refused(4, job.n)
+        raise Early(4, job.n)
     for j in range(1, job.n + 1):
         before = None
         for row in job.column(j):
             if row <= j or row > job.n:
-                raise Refused(5, j)
+                raise Early(5, j)
             if before is not None and row <= before:
-                raise Refused(6, j)
+                raise Early(6, j)
             before = row
+
+
+def work_length(n):
+    """The fixed length of work."""
+    return 8 * n + 8
 
 
 def test_lent(n, lent):
     """7."""
-    fixed = {"parents": n, "order": n, "pops": n, "fstarts": n + 1, "work": 8 * n + 8}
+    fixed = {"parents": n, "order": n, "pops": n, "fstarts": n + 1, "work": work_length(n)}
     if any(lent[name] < length for name, length in fixed.items()):
-        raise Refused(7)
+        raise Early(7)
 
 
 def fill(n, columns):
@@ -150,18 +170,18 @@ class Reader:
         value = 0
         for group in range(7):
             if self.at == len(self.plan):
-                raise Refused(12, place)
+                raise Late(12, place)
             if group == 6:
-                raise Refused(13, place)
+                raise Late(13, place)
             byte = self.plan[self.at]
             self.at += 1
             value += byte % 128 * 128 ** group
             if byte < 128:
                 break
         if group > 0 and byte == 0:
-            raise Refused(13, place)
+            raise Late(13, place)
         if not least <= value <= most:
-            raise Refused(14, place)
+            raise Late(14, place)
         return value
 
 
@@ -169,9 +189,9 @@ def test_key(key, plan):
     """11."""
     for place, byte in enumerate(key, 1):
         if place > len(plan):
-            raise Refused(11, len(plan) + 1)
+            raise Late(11, len(plan) + 1)
         if plan[place - 1] != byte:
-            raise Refused(11, place)
+            raise Late(11, place)
 
 
 def read_list(reader, n, j):
@@ -191,9 +211,9 @@ def read_plan(n, key, plan):
         order.append(reader.number(1, n))
         pops.append(reader.number(0, n - 1))
     lists = [read_list(reader, n, j) for j in range(1, n + 1)]
-    peak = reader.number(0, 2 ** 40)
+    peak = reader.number(0, MOST_PEAK)
     if reader.at < len(plan):
-        raise Refused(15, reader.at + 1)
+        raise Late(15, reader.at + 1)
     return order, pops, lists, peak
 
 
@@ -215,11 +235,11 @@ def test_order(order, parents):
         columns = subtree(parents, top)
         first = step - len(columns)
         if first < 0 or set(order[first:step]) != columns:
-            raise Refused(18, step)
+            raise Late(18, step)
 
 
 def check(job, plan, lent):
-    """Number, place and count of the check, and the result if it is done."""
+    """Number, place and count of the check; whether the slices keep what they held; the result if it is done."""
     try:
         test_job(job)
         n = job.n
@@ -227,28 +247,28 @@ def check(job, plan, lent):
         order, pops, lists, declared = read_plan(n, as_bytes(key_numbers(job)), plan)
         needed = sum(len(rows) for rows in lists)
         if needed > lent["frows"]:
-            raise Refused(8, 0, needed)
+            raise Late(8, 0, needed)
         for step, column in enumerate(order, 1):
             if column in order[:step - 1]:
-                raise Refused(16, step)
+                raise Late(16, step)
         true_lists = fill(n, job.columns())
         for j in range(1, n + 1):
             if lists[j - 1] != true_lists[j - 1]:
-                raise Refused(17, j)
+                raise Late(17, j)
         parents = parents_of(true_lists)
         test_order(order, parents)
         for step, column in enumerate(order, 1):
             if pops[step - 1] != parents.count(column):
-                raise Refused(19, step)
+                raise Late(19, step)
         peak = max(rooms(order, pops, lists), default=0)
         if declared != peak:
-            raise Refused(20, 0, peak)
+            raise Late(20, 0, peak)
         if peak > job.limit:
-            raise Refused(9, 0, peak)
+            raise Late(9, 0, peak)
     except Refused as refused:
-        return refused.args, None
+        return refused.args, refused.kept, None
     fstarts = [sum(len(rows) for rows in lists[:j]) for j in range(n + 1)]
-    return (0, 0, peak), (parents, order, pops, fstarts, sum(lists, []))
+    return (0, 0, peak), 0, (parents, order, pops, fstarts, sum(lists, []))
 
 
 # ---------------------------------------------------------------- Draws
@@ -279,7 +299,7 @@ class Dice:
         return out
 
 
-def job_of(columns, mark=0, limit=2 ** 40):
+def job_of(columns, mark=0, limit=MOST_LIMIT):
     starts = [sum(len(rows) for rows in columns[:j]) for j in range(len(columns) + 1)]
     return Job(len(columns), starts, sum(columns, []), mark, limit)
 
@@ -355,7 +375,7 @@ def sound(dice, columns):
 
 
 def draw_limit(dice, peak):
-    return dice.pick([peak, peak, peak + 1, peak + dice.below(300), peak + 2 ** dice.below(40), 2 ** 40])
+    return dice.pick([peak, peak, peak + 1, peak + dice.below(300), peak + 2 ** dice.below(40), MOST_LIMIT])
 
 
 def draw(dice, n=None):
@@ -371,7 +391,7 @@ def written(job, plan):
 
 def enough(dice, n, rows):
     """Lengths of lent slices that are long enough, some of them longer than needed."""
-    fixed = (n, n, n, n + 1, rows, 8 * n + 8)
+    fixed = (n, n, n, n + 1, rows, work_length(n))
     return {name: length + (dice.between(1, 5) if dice.often(30) else 0) for name, length in zip(LENT, fixed)}
 
 
@@ -384,7 +404,7 @@ def lent_for(dice, job, plan):
 def other_value(dice, value, n):
     """Near the value, anywhere in the fields, at their ends or beyond."""
     near = [value + 1, max(value - 1, 0), value + 2, 0, 1]
-    ends = [n, n + 1, max(n - 1, 0), 127, 128, 16384, 2 ** 40, 2 ** 40 + 1, 2 ** 42 - 1]
+    ends = [n, n + 1, max(n - 1, 0), 127, 128, 16384, MOST_PEAK, MOST_PEAK + 1, 2 ** 42 - 1]
     others = near + near + [dice.below(n + 2) for _ in near] + [dice.pick(ends) for _ in near[2:]]
     return dice.pick([x for x in others if x != value])
 
@@ -524,7 +544,7 @@ def wrong_rooms(plan):
 
 
 def damage_peak(dice, job, plan):
-    plan.peak = dice.pick(wrong_rooms(plan) + [plan.peak + 1, max(plan.peak - 1, 0), 0, job.limit, 2 ** 40, dice.below(200)])
+    plan.peak = dice.pick(wrong_rooms(plan) + [plan.peak + 1, max(plan.peak - 1, 0), 0, job.limit, MOST_PEAK, dice.below(200)])
     return plan
 
 
@@ -680,7 +700,7 @@ def case_other_key(dice):
     if way == 0:
         mark = dice.below(3)
     if way == 1:
-        limit = dice.pick([limit ^ 1, max(limit - 1, 0), min(limit + 128, 2 ** 40), dice.below(300)])
+        limit = dice.pick([limit ^ 1, max(limit - 1, 0), min(limit + 128, MOST_LIMIT), dice.below(300)])
     if way == 2:
         columns = columns + [[]] if dice.often(50) else pattern(dice, job.n)
     if way >= 3:
@@ -700,11 +720,11 @@ WIDE = [2 ** 8, 2 ** 16, 2 ** 32 - 1, 2 ** 32, 2 ** 32 + 1, 2 ** 63, 2 ** 64 - 1
 def spoil_head(dice, job):
     way = dice.below(4)
     if way == 0:
-        job.n = dice.pick([4097, 4096, job.n + 1, max(job.n - 1, 0)] + WIDE)
+        job.n = dice.pick([MOST_COLUMNS + 1, MOST_COLUMNS, job.n + 1, max(job.n - 1, 0)] + WIDE)
     if way == 1:
         job.mark = dice.pick([3, 4, 127, 128] + WIDE)
     if way >= 2:
-        job.limit = dice.pick([2 ** 40 + 1, 2 ** 40, 2 ** 41, 2 ** 42] + WIDE)
+        job.limit = dice.pick([MOST_LIMIT + 1, MOST_LIMIT, 2 ** 41, 2 ** 42] + WIDE)
 
 
 def spoil_starts(dice, job):
@@ -735,7 +755,7 @@ def spoil_rows(dice, job):
             return
         to = dice.pick([max(at - 1, 0), max(at - 1, 0), dice.below(len(job.rows))])
         near = dice.pick([dice.below(job.n % 5000 + 2), job.rows[to], job.rows[at] + 1, max(job.rows[at] - 1, 0)])
-        job.rows[at] = dice.pick([near, near, near, 0, 4096, 2 ** 32 - 1])
+        job.rows[at] = dice.pick([near, near, near, 0, MOST_COLUMNS, 2 ** 32 - 1])
 
 
 def in_fields(job):
@@ -792,7 +812,7 @@ def case_large(dice):
 
 
 def fits(case):
-    """A line stays shorter than the longest that the program reads."""
+    """A line stays shorter than the longest that `trial_check` reads."""
     job, data, lent = case
     return len(data) <= 1500 and lent["frows"] <= 400
 
@@ -831,7 +851,7 @@ def from_hex(text):
 
 
 def pieces(dice):
-    """The bench pieces that a check can show, each with the answer that its text gives."""
+    """The bench pieces that a check can show, each with the answer that its text gives. None keeps what the slices held."""
     def pair(limit):
         return job_of([[2], []], 0, limit)
 
@@ -901,12 +921,12 @@ def swept(dice):
 
 def line(job, data, lent):
     """The case as a line, and the number of its answer."""
-    answer, result = check(job, data, lent)
+    answer, kept, result = check(job, data, lent)
     lists = [job.starts, job.rows, data, *(result or ([],) * 5), []]
     lengths = [lent[name] for name in LENT]
     assert all(length <= MOST[name] for name, length in zip(("starts", "rows", "plan") + LENT, [len(x) for x in lists[:3]] + lengths))
     assert max(job.rows, default=0) < 2 ** 32 and max(job.starts + [job.n, job.mark, job.limit]) < 2 ** 64
-    head = [job.n, job.mark, job.limit, *answer, *(len(x) for x in lists), *lengths]
+    head = [job.n, job.mark, job.limit, *answer, kept, *(len(x) for x in lists), *lengths]
     text = " ".join(str(x) for part in [head] + lists for x in part) + "\n"
     assert len(text) <= LONGEST_LINE
     return f"{len(text):05d} {text}", answer[0]
@@ -915,7 +935,7 @@ def line(job, data, lent):
 def cases():
     dice = Dice(1)
     for job, data, lent, right in pieces(dice):
-        assert check(job, data, lent)[0] == right, (data, right, check(job, data, lent))
+        assert check(job, data, lent)[:2] == (right, 0), (data, right, check(job, data, lent))
         yield job, data, lent
     yield from swept(dice)
     for seed, (count, family) in enumerate(FAMILIES, 2):

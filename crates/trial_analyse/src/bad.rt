@@ -1,10 +1,12 @@
-// Bad jobs, with their refusals worked out by hand. Each leaves all lent slices untouched. A line is a case as tests/damage.py describes
-// it, without plan bytes and without results; all six lengths are the same. The cases are: 1 to 3, alone and several at once, of which the
-// first decides; 4 at place 0, for the number of starts and for the first start; 4 at the lowest column whose start falls, and at n for the
-// last start; 5, a row up to its column or beyond n; 6, a row up to the one before it; both faults in one row, which is 5, and faults in
-// two columns, of which the earlier decides; 7, which comes after the tests of the job and before 8 and 9.
+// Bad jobs, with their refusals worked out by hand. Each leaves all lent slices untouched, as its line says. A line is a case as
+// tests/damage.py describes it, without plan bytes and without results; all six lengths are the same. The cases are: 1 to 3, alone and
+// several at once, of which the first decides; 4 at place 0, for the number of starts and for the first start; 4 at the lowest column whose
+// start falls, and at n for the last start; 5, a row up to its column or beyond n; 6, a row up to the one before it; both faults in one
+// row, which is 5, and faults in two columns, of which the earlier decides; 7, which comes after the tests of the job and before 8 and 9.
 use super::call::Lengths;
+use super::call::Right;
 use super::call::wrong_in_call;
+use trial_comparison::no_result;
 use trial_lines::line;
 use trial_lines::line::Numbers;
 use trial_lines::sheet;
@@ -24,13 +26,17 @@ fn lengths(numbers: &Numbers) -> Lengths {
 // Counts what is wrong in the call of a bad job, which has no result.
 fn wrong(numbers: &Numbers, starts: &[u64], rows: &[u32]) -> usize {
     let nothing = [0usize; 10200];
+    let right = Right {
+        answer: line::right(numbers),
+        held: no_result(line::kept(numbers)),
+    };
     wrong_in_call(
         line::head(numbers),
         starts,
         rows,
         &lengths(numbers),
         &nothing,
-        line::right(numbers),
+        right,
     )
 }
 

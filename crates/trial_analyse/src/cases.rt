@@ -1,9 +1,11 @@
 // A pattern under a mark: what the elimination says of it, and the calls that are compared with that. A sheet holds all of it: the lists of
 // the fill, the plan, the peak as its room, and in its head the mark and the seed, which name the pattern.
 use super::call::Lengths;
+use super::call::Right;
 use super::call::wrong_in_call;
 use papers::Answer;
 use papers::JobHead;
+use trial_comparison::Held;
 use trial_elimination::fill;
 use trial_elimination::grid::Grid;
 use trial_elimination::grid::add;
@@ -45,7 +47,7 @@ fn limit(peak: usize, choice: usize) -> usize {
         1 => peak,
         2 => add(peak, 1),
         3 => 0,
-        _ => 1099511627776,
+        _ => papers::MAX_LIMIT as usize,
     }
 }
 
@@ -90,38 +92,39 @@ fn short(n: usize, choice: usize) -> bool {
     20 <= choice
 }
 
-// An answer without a place.
-fn answer(number: u64, count: usize) -> Answer {
-    Answer {
+// An answer without a place, and what the slices must hold.
+fn right(number: u64, count: usize, held: Held) -> Right {
+    let answer = Answer {
         number,
         place: 0,
         count: count as u64,
-    }
+    };
+    Right { answer, held }
 }
 
-// The right answer for a sound job: 7, 8, 9 or done.
-fn right_answer(sheet: &Sheet, choice: usize) -> Answer {
+// What is right for a sound job: 7, which keeps what the slices held, 8 or 9, which leave zeros, or done.
+fn right_answer(sheet: &Sheet, choice: usize) -> Right {
     let rows = length(sheet, sheet::ROWS);
     let peak = get(sheet, sheet::HEAD, sheet::ROOM);
     if short(sheet::n(sheet), choice) {
-        return answer(7, 0);
+        return right(7, 0, Held::Before);
     }
     if rows_length(rows, choice) < rows {
-        return answer(8, rows);
+        return right(8, rows, Held::Zeros);
     }
     if limit(peak, choice) < peak {
-        return answer(9, peak);
+        return right(9, peak, Held::Zeros);
     }
-    answer(0, peak)
+    right(0, peak, Held::Result)
 }
 
 // The head of the job at a choice.
 fn head(sheet: &Sheet, choice: usize) -> JobHead {
-    JobHead {
-        n: sheet::n(sheet) as u64,
-        mark: get(sheet, sheet::HEAD, MARK) as u64,
-        limit: limit(get(sheet, sheet::HEAD, sheet::ROOM), choice) as u64,
-    }
+    trial_comparison::head(
+        sheet::n(sheet),
+        get(sheet, sheet::HEAD, MARK) as u64,
+        limit(get(sheet, sheet::HEAD, sheet::ROOM), choice) as u64,
+    )
 }
 
 // Makes the calls with the limit and the lengths of every choice.
@@ -131,7 +134,8 @@ fn hold_choices(tally: &mut Tally, starts: &[u64], rows: &[u32], sheet: &Sheet) 
         let lent = lengths(sheet, choice);
         let wrong = wrong_in_call(head(sheet, choice), starts, rows, &lent, sheet, right);
         let seed = get(sheet, sheet::HEAD, SEED);
-        trial_tallies::tell(tally, right.number, wrong, seed as u64, choice as u64);
+        let number = right.answer.number;
+        trial_tallies::tell(tally, number, wrong, seed as u64, choice as u64);
     }
 }
 

@@ -8,7 +8,7 @@ use trial_lines::sheet::Bytes;
 use trial_tallies::Tally;
 use trial_tallies::plus;
 
-// The bytes that have to stand in front of the lent slice: the result in the first of the lent slices.
+// The bytes that have to stand at the start of the lent slice: the result in the first of the lent slices.
 const WRITTEN: usize = 0;
 
 // The list of the key's bytes.

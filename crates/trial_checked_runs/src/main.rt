@@ -28,14 +28,14 @@ fn wrong_below(case: &Sheet) -> usize {
     if right.number != 23 {
         return 1;
     }
-    trial_run_call::wrong_in_call(case, right)
+    trial_run_call::wrong_in_call(case, right, trial_simulation::keeps(case))
 }
 
-// Runs a plan that passed the check, in its peak and in one less.
+// Runs a plan that passed the check, in its peak and in one less. In the peak it must be done, and a run that is done keeps nothing.
 fn hold_runs(tally: &mut Tally, case: &mut Sheet, checked: Answer, seed: u64, key: u64) {
     let peak = checked.count as usize;
     set(case, sheet::HEAD, sheet::ROOM, peak);
-    let wrong = trial_run_call::wrong_in_call(case, checked);
+    let wrong = trial_run_call::wrong_in_call(case, checked, false);
     trial_tallies::tell(tally, DONE, wrong, seed, key);
     if peak != 0 {
         set(case, sheet::HEAD, sheet::ROOM, peak - 1);

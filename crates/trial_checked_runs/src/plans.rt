@@ -26,11 +26,7 @@ fn index64(x: u64) -> usize {
 
 // A job's head, with the greatest limit.
 fn head(job: &Sheet, mark: u8) -> JobHead {
-    JobHead {
-        n: sheet::n(job) as u64,
-        mark: wide(mark),
-        limit: 1099511627776,
-    }
+    trial_comparison::head(sheet::n(job), wide(mark), papers::MAX_LIMIT)
 }
 
 // Writes the plan of a job under a mark. Answers how many bytes it has.

@@ -3,6 +3,7 @@
 ghost use lib.ListN.{length};
 ghost use mathlib.Core.Path.{_≡_};
 use papers::Answer;
+use papers::JobHead;
 use trial_elimination::grid::add;
 use trial_elimination::sheet::Sheet;
 use trial_elimination::sheet::get;
@@ -17,6 +18,15 @@ pub fn words(sheet: &Sheet, part: usize) -> [u32; 300] {
     list
 }
 
+// The head of a job.
+pub fn head(n: usize, mark: u64, limit: u64) -> JobHead {
+    JobHead {
+        n: n as u64,
+        mark,
+        limit,
+    }
+}
+
 // A part of a sheet as starts, as many as the part has.
 pub fn longs(sheet: &Sheet, part: usize) -> [u64; 300] {
     let mut list = [0u64; 300];
@@ -24,6 +34,21 @@ pub fn longs(sheet: &Sheet, part: usize) -> [u64; 300] {
         list[i % 300] = get(sheet, part, i) as u64;
     }
     list
+}
+
+// What the lent slices must hold after a call: the result, then zeros; what they held before; or zeros alone.
+pub enum Held {
+    Result,
+    Before,
+    Zeros,
+}
+
+// What they must hold after a call without a result.
+pub fn no_result(kept: bool) -> Held {
+    if kept {
+        return Held::Before;
+    }
+    Held::Zeros
 }
 
 // What a place of a lent slice holds before a call: never 0, and never part of the result of a small pattern.
@@ -52,19 +77,16 @@ pub fn fill64(slice: &mut [u64; 300])
     }
 }
 
-// What a place must hold after an answer: behind the lent length what it held before, and the same if the answer is 1 to 7; the result if
-// the call is done; else 0.
-fn after(number: u64, lent: usize, i: usize, result: usize) -> u64 {
+// What a place must hold after a call: behind the lent length what it held before, in front of that what the slice must hold.
+fn after(held: Held, lent: usize, i: usize, result: usize) -> u64 {
     if lent <= i {
         return wide(before(i));
     }
-    if number == 0 {
-        return result as u64;
+    match held {
+        Held::Result => result as u64,
+        Held::Before => wide(before(i)),
+        Held::Zeros => 0,
     }
-    if number < 8 {
-        return wide(before(i));
-    }
-    0
 }
 
 // Where the comparison of a slice ends: four places behind its lent length, if there are as many.
@@ -75,21 +97,21 @@ fn end(lent: usize) -> usize {
     300
 }
 
-// Counts the places of a slice that do not hold what they must after an answer. A part of the sheet holds the result, then zeros.
-pub fn wrong32(found: &[u32; 300], lent: usize, number: u64, sheet: &Sheet, part: usize) -> usize {
+// Counts the places of a slice that do not hold what they must after a call. A part of the sheet holds the result, then zeros.
+pub fn wrong32(found: &[u32; 300], lent: usize, held: Held, sheet: &Sheet, part: usize) -> usize {
     let mut wrong = 0;
     for i in 0..end(lent) {
-        if wide(found[i % 300]) != after(number, lent, i, get(sheet, part, i)) {
+        if wide(found[i % 300]) != after(held, lent, i, get(sheet, part, i)) {
             wrong = add(wrong, 1);
         }
     }
     wrong
 }
 
-pub fn wrong64(found: &[u64; 300], lent: usize, number: u64, sheet: &Sheet, part: usize) -> usize {
+pub fn wrong64(found: &[u64; 300], lent: usize, held: Held, sheet: &Sheet, part: usize) -> usize {
     let mut wrong = 0;
     for i in 0..end(lent) {
-        if found[i % 300] != after(number, lent, i, get(sheet, part, i)) {
+        if found[i % 300] != after(held, lent, i, get(sheet, part, i)) {
             wrong = add(wrong, 1);
         }
     }

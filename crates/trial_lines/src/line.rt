@@ -6,16 +6,19 @@ use papers::JobHead;
 pub type Numbers = [u64; 4096];
 
 // The number, the place and the count of the right answer.
-pub const RIGHT: usize = 3;
+const RIGHT: usize = 3;
+
+// 1 if the lent slices must keep what they held.
+const KEPT: usize = 6;
 
 // The counts of the nine lists: given starts, rows and plan bytes, then the result in each of the six lent slices.
-const COUNTS: usize = 6;
+const COUNTS: usize = 7;
 
 // The lengths of the six lent slices.
-const LENGTHS: usize = 15;
+const LENGTHS: usize = 16;
 
 // The lists, one after the other.
-const LISTS: usize = 21;
+const LISTS: usize = 22;
 
 pub const STARTS: usize = 0;
 
@@ -44,6 +47,11 @@ pub fn right(numbers: &Numbers) -> Answer {
         place: at(numbers, RIGHT + 1),
         count: at(numbers, RIGHT + 2),
     }
+}
+
+// Tests whether the lent slices must keep what they held.
+pub fn kept(numbers: &Numbers) -> bool {
+    at(numbers, KEPT) == 1
 }
 
 // The sum of two numbers below a million.

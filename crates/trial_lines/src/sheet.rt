@@ -49,18 +49,15 @@ fn wide8(x: u8) -> u64 {
     x as u64
 }
 
-// What a place of a slice must hold if there is no result at it: what it held before if the answer is 1 to 7, else 0.
-fn rest(number: u64) -> u64 {
-    if number == 0 {
-        return 0;
-    }
-    if number <= 7 {
+// What a place of a slice must hold if there is no result at it: what it held before if the case says that slices keep that, else 0.
+fn rest(numbers: &Numbers) -> u64 {
+    if line::kept(numbers) {
         return wide(BEFORE);
     }
     0
 }
 
-// What a place of a slice must hold: behind its lent length what it held before, in front of that the result from `first` on, and then the
+// What a place of a slice must hold: behind its lent length what it held before, within it the result from `first` on, and then the
 // rest.
 fn after(numbers: &Numbers, slice: usize, first: usize, i: usize) -> u64 {
     if line::lent(numbers, slice) <= i {
@@ -69,7 +66,7 @@ fn after(numbers: &Numbers, slice: usize, first: usize, i: usize) -> u64 {
     if i < line::count(numbers, line::result(slice)) {
         return at(numbers, add(first, i));
     }
-    rest(at(numbers, line::RIGHT))
+    rest(numbers)
 }
 
 // Counts the places of a slice that do not hold what they must; looks at four places behind its lent length as well.

@@ -37,7 +37,7 @@ fn other(x: usize, n: usize, lot: usize, seed: usize) -> usize {
         4 => 0,
         5 => 4294967295,
         6 => 18446744073709551615,
-        7 => 4096,
+        7 => papers::MAX_COLUMNS as usize,
         8 => 4097,
         9 => add(n, 1),
         _ => choice(seed, add(n, 1)),

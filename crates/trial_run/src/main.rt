@@ -12,7 +12,8 @@ use trial_tallies::Tally;
 // Tries one case; what else is counted of it may change it.
 fn hold(tally: &mut Tally, case: &mut Sheet, seed: usize) {
     let right = trial_simulation::simulate(case);
-    let wrong = trial_run_call::wrong_in_call(case, right);
+    let kept = trial_simulation::keeps(case);
+    let wrong = trial_run_call::wrong_in_call(case, right, kept);
     trial_tallies::tell(tally, right.number, wrong, seed as u64, right.place);
     notes::note(tally, case, right);
 }

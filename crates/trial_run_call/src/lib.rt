@@ -1,6 +1,7 @@
 // For the test programs: runs one case and compares. Only this is proved: every function is safe and ends.
 use papers::Answer;
 use trial_comparison::differences;
+use trial_comparison::no_result;
 use trial_comparison::words;
 use trial_comparison::wrong32;
 use trial_elimination::grid::add;
@@ -9,8 +10,8 @@ use trial_elimination::sheet::Sheet;
 use trial_elimination::sheet::get;
 use trial_elimination::sheet::length;
 
-// Runs a case and counts what is wrong, in the answer and at every place of the stack list.
-pub fn wrong_in_call(case: &Sheet, right: Answer) -> usize {
+// Runs a case and counts what is wrong, in the answer and at every place of the stack list, which keeps what it held or is zero.
+pub fn wrong_in_call(case: &Sheet, right: Answer, kept: bool) -> usize {
     let starts = trial_comparison::longs(case, sheet::STARTS);
     let rows = words(case, sheet::ROWS);
     let columns = words(case, sheet::COLUMNS);
@@ -32,6 +33,6 @@ pub fn wrong_in_call(case: &Sheet, right: Answer) -> usize {
     );
     add(
         differences(found, right),
-        wrong32(&stack, e, right.number, case, sheet::STACK),
+        wrong32(&stack, e, no_result(kept), case, sheet::STACK),
     )
 }

@@ -18,6 +18,9 @@ fn answer(number: u64, place: usize, count: usize) -> Answer {
     }
 }
 
+// The most columns that a run takes, by this reading.
+const MOST_COLUMNS: usize = 4096;
+
 // Test 7: whether columns, pops or stack list have fewer than n places.
 fn short(case: &Sheet, n: usize) -> bool {
     length(case, sheet::COLUMNS) < n
@@ -25,10 +28,9 @@ fn short(case: &Sheet, n: usize) -> bool {
         || length(case, sheet::STACK) < n
 }
 
-// What a run must answer.
-pub fn simulate(case: &Sheet) -> Answer {
-    let n = sheet::n(case);
-    if 4096 < n {
+// The refusal of a run before its steps: 1 or 4 to 7. Number 0 means that there is none.
+fn early_answer(case: &Sheet, n: usize) -> Answer {
+    if MOST_COLUMNS < n {
         return answer(1, 0, 0);
     }
     let of_lists = lists::lists_answer(case, n);
@@ -38,5 +40,21 @@ pub fn simulate(case: &Sheet) -> Answer {
     if short(case, n) {
         return answer(7, 0, 0);
     }
+    answer(0, 0, 0)
+}
+
+// What a run must answer.
+pub fn simulate(case: &Sheet) -> Answer {
+    let n = sheet::n(case);
+    let early = early_answer(case, n);
+    if early.number != 0 {
+        return early;
+    }
     steps::steps_answer(case, n)
+}
+
+// Tests whether a run must leave what the stack list holds: it does so if it is refused before its steps. From the steps on, the list must
+// be zero after it.
+pub fn keeps(case: &Sheet) -> bool {
+    early_answer(case, sheet::n(case)).number != 0
 }

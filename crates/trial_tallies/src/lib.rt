@@ -9,9 +9,9 @@ const CASES: usize = 30;
 
 pub const WRONG: usize = 31;
 
-// The sum of two numbers below 2^40.
+// The sum of two numbers below 2^32.
 pub fn plus(a: u64, b: u64) -> u64 {
-    a % 1099511627776 + b % 1099511627776
+    a % 4294967296 + b % 4294967296
 }
 
 pub fn count(tally: &mut Tally, place: usize, more: u64) {

@@ -51,4 +51,5 @@ wrong-in-call-spec =
     (λ c κs. tt)
     (λ c κs. tt)
     (λ c κs. tt)
+    (λ c κs. tt)
     (λ c. tt))

@@ -36,7 +36,6 @@ wrong-in-call-spec =
     (λ c κs. tt)
     (λ c κs. tt)
     (λ c κs. tt)
-    (λ c κs. tt)
     (λ c. search needs)
     slice-aggregate-analyse
     (λ c. search needs)
