@@ -54,7 +54,7 @@ enum ls_number {
 /* The length of the work slice for n columns, in numbers of 64 bits. */
 #define LS_WORK(n) (8 * (n) + 8)
 
-/* Writes the key of a job to the front of bytes, then zeros. Done: count is the bytes of the key. */
+/* Writes the key of a job to the start of bytes, then zeros. Done: count is the bytes of the key. */
 uint64_t ls_write_key(uint64_t n, const uint64_t *starts, size_t starts_len, const uint32_t *rows, size_t rows_len, uint64_t mark, uint64_t limit,
                       uint8_t *bytes, size_t bytes_len, uint64_t *place, uint64_t *count);
 
@@ -65,7 +65,7 @@ uint64_t ls_analyse(uint64_t n, const uint64_t *starts, size_t starts_len, const
                     uint64_t *fstarts, size_t fstarts_len, uint32_t *frows, size_t frows_len, uint64_t *work, size_t work_len,
                     uint64_t *place, uint64_t *count);
 
-/* Analyses a job and writes its plan to the front of bytes, then zeros. Done: count is the bytes of the plan. */
+/* Analyses a job and writes its plan to the start of bytes, then zeros. Done: count is the bytes of the plan. */
 uint64_t ls_write_plan(uint64_t n, const uint64_t *starts, size_t starts_len, const uint32_t *rows, size_t rows_len, uint64_t mark, uint64_t limit,
                        uint32_t *parents, size_t parents_len, uint32_t *order, size_t order_len, uint32_t *pops, size_t pops_len,
                        uint64_t *fstarts, size_t fstarts_len, uint32_t *frows, size_t frows_len, uint64_t *work, size_t work_len,
