@@ -35,8 +35,8 @@ refusedAt number (suc p) count = refused (answer number (suc p) count)
 
 -- ---- refusals
 
--- a refusal of a call: the test that finds it, and the condition that gives it, which says with which answers. The crate refusal_laws
--- proves that the two agree.
+-- a refusal of a call: the test that finds it, and the condition that gives it, which says with which answers. The laws prove that the
+-- two agree.
 pub record Refusal (C : Type 0) : Type 1 where
   pub test : C → Verdict
   pub gives : C → Answer → Type 0
