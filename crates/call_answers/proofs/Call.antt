@@ -77,7 +77,8 @@ module _ (call : SolverCall) (key-bytes : Bytes (call .key)) (plan-bytes : Bytes
           let (r, c) = call-checked call key-bytes q in
           let u = passed-iff callRefusals call (call-agree call key-bytes) .0 q in
           let exact = check-exactly (solverCheck call (r .job)) plan-bytes in
-          ap (λ (a : Answer). a .number) c ∙ exact .done-iff .1 (no-answer-iff (checkEarly ++ checkLate) (solverCheck call (r .job)) .0 (λ b k. none b (inr (u, (r, k)))))
+          ap (λ (a : Answer). a .number) c
+          ∙ exact .done-iff .1 (no-answer-iff (checkEarly ++ checkLate) (solverCheck call (r .job)) .0 (λ b k. none b (inr (u, (r, k)))))
       go none (refused b) q = absurd (none b (inl (answered-iff callRefusals call (call-agree call key-bytes) .same b .0 q)))
 
   -- a call that is done has place 0

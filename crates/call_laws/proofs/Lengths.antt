@@ -16,7 +16,8 @@ use Rattle.papers.specs.Lists.{flat}
 use Rattle.papers.specs.Job.{Job, pattern}
 use Rattle.papers.specs.Numbers.{Stands, ended, too-long, not-shortest, value}
 use Rattle.papers.specs.Key.{listNumbers, listsNumbers, listsOf, keyNumbers, keyOf}
-use Rattle.papers.specs.Plan.{Field, column, pops, count, gap, declared, nothing, nextList, nextRow, nextStep, following, Reaches, begin, next, range}
+use Rattle.papers.specs.Plan.{Field, column, pops, count, gap, declared, nothing, nextList, nextRow, nextStep, following, Reaches, begin, next}
+use Rattle.papers.specs.Plan.{range}
 use Rattle.job_laws.specs.Passed.{Starts}
 use Rattle.list_laws.proofs.Tests.{Test, passes, fails, test}
 use Rattle.bytes_laws.proofs.Gaps.{length-gaps}

@@ -39,7 +39,12 @@ module _ (job : Job) (valid : Passed job) (plan : Plan) {peak : ℕ} {order pops
     (at-start : PlanAtStart (job .n) plan peak order pops fstarts frows) where
   plan-lists : PlanLists (job .n) (plan .lists) fstarts frows
   plan-lists =
-      record { count = at-start .stored .fit .all-lists; fit = at-start .stored .fit .lists; starts-are = at-start .stored .begins; rows-are = at-start .listed }
+      record {
+        count = at-start .stored .fit .all-lists;
+        fit = at-start .stored .fit .lists;
+        starts-are = at-start .stored .begins;
+        rows-are = at-start .listed;
+      }
 
   pub lists-stored : HoldLists (job .n) fstarts frows
   lists-stored = record { lists = plan .lists; are = plan-lists }
@@ -88,4 +93,5 @@ module _ (job : Job) (valid : Passed job) (plan : Plan) {peak : ℕ} {order pops
               → r ≡ ruling (first judgeRefusals (planFrom job plan)) peak
           unfolding judgeRefusals treeRefusals
           left-to-tree judged =
-              judged job plan on-tree ∙ sym (ap (λ v. ruling v peak) (first-passes _ _ (planFrom job plan) unrepeated ∙ first-passes _ _ (planFrom job plan) right))
+              judged job plan on-tree
+              ∙ sym (ap (λ v. ruling v peak) (first-passes _ _ (planFrom job plan) unrepeated ∙ first-passes _ _ (planFrom job plan) right))

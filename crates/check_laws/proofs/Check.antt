@@ -15,7 +15,8 @@ use Rattle.papers.specs.Job.{jobRefusals, Below, pattern}
 use Rattle.papers.specs.Numbers.{Read, got, bad, Bytes}
 use Rattle.papers.specs.Plan.{Plan, AreOf, planRead, Fit}
 use Rattle.papers.specs.Analysis.{allZero, earlyRefusals, earlyOf}
-use Rattle.papers.specs.Check.{CheckCall, otherKey, readTest, judgeRefusals, planTest, ofPlan, ofPlans, checkEarly, checkLate, checkDone, checked, planRefusals, badPlan}
+use Rattle.papers.specs.Check.{CheckCall, otherKey, readTest, judgeRefusals, planTest, ofPlan, ofPlans, checkEarly, checkLate, checkDone, checked}
+use Rattle.papers.specs.Check.{planRefusals, badPlan}
 use Rattle.job_laws.specs.Passed.{Passed}
 use Rattle.job_laws.proofs.Firsts.{append-passed-iff, first-of, first-last, over-passes-iff}
 use Rattle.job_laws.proofs.Passed.{passed-below}

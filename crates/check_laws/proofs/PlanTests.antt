@@ -14,7 +14,8 @@ use Rattle.papers.specs.Job.{Job, pattern, Below}
 use Rattle.papers.specs.Fill.{R}
 use Rattle.papers.specs.Order.{columnAt, popsOf}
 use Rattle.papers.specs.Plan.{Plan, columnsIn, popsIn, Fit}
-use Rattle.papers.specs.Check.{repeatedAt, truePeak, Repeated, JobPlan, judgeRefusals, listWrong, peakWrong, popsWrong, columnRepeated, columns, listAt, childrenAt, subtreeScattered}
+use Rattle.papers.specs.Check.{repeatedAt, truePeak, Repeated, JobPlan, judgeRefusals, listWrong, peakWrong, popsWrong, columnRepeated, columns}
+use Rattle.papers.specs.Check.{listAt, childrenAt, subtreeScattered}
 use Rattle.list_laws.proofs.Tests.{Test, passes, fails, test, true-false}
 use Rattle.list_laws.proofs.Members.{member-true, member-into, same-true, same-refl}
 use Rattle.list_laws.proofs.Counts.{distinct-length}

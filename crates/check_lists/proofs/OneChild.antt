@@ -58,6 +58,8 @@ module _ {n m : ℕ} {list starts rows fs fr w own : List ℕ} (c : ListComparab
             let are : MarkedAre n (m + 1) w₁ own = rw (a .marks) (rw (nil-merge own) at (marked-more none own (own-markable (c .next) o))) in
             record {
               answers =
-                  a .answers ∙ adds-exactly n (m + 1) w₁ own more list are (own-asc (c .next) o) (c .ascending) (b .begins) more-asc ∙ ap (same list) one-joined;
+                  a .answers
+                  ∙ adds-exactly n (m + 1) w₁ own more list are (own-asc (c .next) o) (c .ascending) (b .begins) more-asc
+                  ∙ ap (same list) one-joined;
               changed = own-change (c .next) o (a .marks);
             }

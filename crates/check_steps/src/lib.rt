@@ -38,7 +38,9 @@ pub fn first_repeat(order: &[u32], work: &mut [u64]) -> u64
 // In the loop the pops of the first i steps are right.
 pub fn first_wrong_pops(parents: &[u32], order: &[u32], pops: &[u32], work: &mut [u64]) -> u64
     requires { ⌜ PopsComparable (now parents) (now order) (now pops) (now work) ⌝ }
-    ensures { λ r. ⌜ r ≡ least (popsDiffer (now (parents .entry)) (now (order .entry)) (now (pops .entry))) (length (now (order .entry))) ⌝ }
+    ensures { λ r. ⌜
+        r ≡ least (popsDiffer (now (parents .entry)) (now (order .entry)) (now (pops .entry))) (length (now (order .entry)))
+        ⌝ }
 {
     let n = parents.len();
     tree::count_children(parents, &mut work[..n + 2]);

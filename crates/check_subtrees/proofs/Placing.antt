@@ -69,11 +69,13 @@ module _ (parents steps below : List ℕ) (i : ℕ) where
   pub late-judged : p ≢ 0 → numberFor steps p < numberFor steps (i + 1) → numberFor steps p ≡ judgedAs
   late-judged = rw above at (stray-late (parentIn parents) (numberFor steps) (numberFor below) (i + 1))
 
-  pub early-judged : p ≢ 0 → numberFor steps (i + 1) ≤ numberFor steps p → numberFor steps (i + 1) + numberFor below p < numberFor steps p + numberFor below (i + 1)
+  pub early-judged : p ≢ 0 → numberFor steps (i + 1) ≤ numberFor steps p
+      → numberFor steps (i + 1) + numberFor below p < numberFor steps p + numberFor below (i + 1)
       → numberFor steps p ≡ judgedAs
   early-judged = rw above at (stray-early (parentIn parents) (numberFor steps) (numberFor below) (i + 1))
 
-  pub none-judged : p ≢ 0 → numberFor steps (i + 1) ≤ numberFor steps p → numberFor steps p + numberFor below (i + 1) ≤ numberFor steps (i + 1) + numberFor below p
+  pub none-judged : p ≢ 0 → numberFor steps (i + 1) ≤ numberFor steps p
+      → numberFor steps p + numberFor below (i + 1) ≤ numberFor steps (i + 1) + numberFor below p
       → 0 ≡ judgedAs
   none-judged = rw above at (stray-none (parentIn parents) (numberFor steps) (numberFor below) (i + 1))
 

@@ -27,7 +27,9 @@ fn write_steps(order: &[u32], steps: &mut [u64])
 // descendants, its parent's at top less the parent's count; the counts change sides, so that no difference falls below 0.
 fn stray_step(parents: &[u32], steps: &[u64], below: &[u64], i: usize) -> u64
     requires { ⌜ PlacedAt (now parents) (now steps) (now below) i ⌝ }
-    ensures { λ r. ⌜ r ≡ strayStep (parentIn (now (parents .entry))) (numberFor (now (steps .entry))) (numberFor (now (below .entry))) (i + 1) ⌝ }
+    ensures { λ r. ⌜
+        r ≡ strayStep (parentIn (now (parents .entry))) (numberFor (now (steps .entry))) (numberFor (now (below .entry))) (i + 1)
+        ⌝ }
 {
     let p = parents[i] as usize;
     if p == 0 {

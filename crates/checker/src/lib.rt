@@ -22,7 +22,8 @@ pub fn check_plan(
 ) -> Answer
     ensures { λ r. ⌜
         EndsAs r
-        (sixSlices (now (parents .exit)) (now (order .exit)) (now (pops .exit)) (now (fstarts .exit)) (now (frows .exit)) (now (work .exit)))
+        (sixSlices (now (parents .exit)) (now (order .exit)) (now (pops .exit)) (now (fstarts .exit)) (now (frows .exit))
+        (now (work .exit)))
         (checked (jobOf head (now (starts .entry)) (now (rows .entry))) (now (plan .entry))
         (sixSlices (now (parents .entry)) (now (order .entry)) (now (pops .entry)) (now (fstarts .entry)) (now (frows .entry))
         (now (work .entry))))

@@ -45,7 +45,8 @@ pub fn covered(n: usize, j: usize, list: &[u32], work: &[u64]) -> bool
 pub fn join_rows(turn: usize, len: usize, more: &[u32], x: &mut [u32], y: &mut [u32]) -> usize
     requires { ⌜ Roomy turn len (now more) (now x) (now y) ⌝ }
     ensures { λ r. ⌜
-        Holds (1 - turn) r (now (x .exit)) (now (y .exit)) (merge (listInTurn turn len (now (x .entry)) (now (y .entry))) (now (more .entry)))
+        Holds (1 - turn) r (now (x .exit)) (now (y .exit))
+        (merge (listInTurn turn len (now (x .entry)) (now (y .entry))) (now (more .entry)))
         ⌝ }
 {
     if turn == 0 {

@@ -57,7 +57,8 @@ fn list_columns(
         Listing n r (columnOf (now (starts .entry)) (now (rows .entry)))
         (sixSlices (now (parents .entry)) (now (order .entry)) (now (pops .entry)) (now (fstarts .entry)) (now (frows .entry))
         (now (work .entry)))
-        (sixSlices (now (parents .exit)) (now (order .exit)) (now (pops .exit)) (now (fstarts .exit)) (now (frows .exit)) (now (work .exit)))
+        (sixSlices (now (parents .exit)) (now (order .exit)) (now (pops .exit)) (now (fstarts .exit)) (now (frows .exit))
+        (now (work .exit)))
         ⌝ }
 {
     let done = structure::column_lists(
@@ -103,7 +104,8 @@ pub fn planned(
         Made (jobOf head (now (starts .entry)) (now (rows .entry)))
         (sixSlices (now (parents .entry)) (now (order .entry)) (now (pops .entry)) (now (fstarts .entry)) (now (frows .entry))
         (now (work .entry)))
-        (sixSlices (now (parents .exit)) (now (order .exit)) (now (pops .exit)) (now (fstarts .exit)) (now (frows .exit)) (now (work .exit))) r
+        (sixSlices (now (parents .exit)) (now (order .exit)) (now (pops .exit)) (now (fstarts .exit)) (now (frows .exit))
+        (now (work .exit))) r
         ⌝ }
 {
     let n = head.n as usize;

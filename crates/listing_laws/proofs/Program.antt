@@ -13,7 +13,8 @@ use Rattle.papers.specs.Job.{Job, pattern}
 use Rattle.papers.specs.Fill.{R}
 use Rattle.papers.specs.Key.{listsOf}
 use Rattle.papers.specs.Plan.{planOf, planFor}
-use Rattle.papers.specs.Analysis.{Lent, allZero, EarlyCall, earlyRefusals, earlyOf, AnalysisCall, analysisEarly, analysisLate, analysisDone, analysed}
+use Rattle.papers.specs.Analysis.{Lent, allZero, EarlyCall, earlyRefusals, earlyOf, AnalysisCall, analysisEarly, analysisLate, analysisDone}
+use Rattle.papers.specs.Analysis.{analysed}
 use Rattle.papers.specs.Text.{textHead, textJob, Input, textRefusals, refusalLine, listingOf, buffers, jobPrinted, programPrints}
 use Rattle.job_laws.specs.Passed.{Passed}
 use Rattle.text_laws.proofs.LineTests.{head-columns}

@@ -52,8 +52,8 @@ module _ (mark : ℕ) (size : ℕ → ℕ) (kids : ℕ → List ℕ) (kin : Kin 
   siblings-in-turn f [] entries h = (tt, refl)
   siblings-in-turn f (c ∷ cs) entries h =
       let (a, z) = h c (List·Memᴰ·head refl) in
-      let e : entriesAfterAll size pops entries (steps f c) ≡ t (size c) ∷ entries = entries-above size pops (steps f c) [] entries (a .enough) ∙ ap (λ l. l ++ entries)
-      (a .left ∙ leaves-update (size c) z) in
+      let e : entriesAfterAll size pops entries (steps f c) ≡ t (size c) ∷ entries =
+      entries-above size pops (steps f c) [] entries (a .enough) ∙ ap (λ l. l ++ entries) (a .left ∙ leaves-update (size c) z) in
       let (s, q) = siblings-in-turn f cs (t (size c) ∷ entries) (λ d m. h d (List·Memᴰ·tail m)) in (
         enough-append size pops entries (steps f c) (flatMap (steps f) cs) (enough-above size pops (steps f c) [] entries (a .enough)) (rw e s),
         entries-append size pops entries (steps f c) (flatMap (steps f) cs) ∙ rw e q,

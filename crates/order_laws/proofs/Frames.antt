@@ -28,7 +28,8 @@ module _ (size pops : ℕ → ℕ) where
       → entriesAfterAll size pops (entries ++ base) js ≡ entriesAfterAll size pops entries js ++ base
   unfolding entriesAfterAll
   entries-above [] entries base h = refl
-  entries-above (j ∷ js) entries base h = rw (entries-frame (pops j) (size j) entries base (h .0)) (entries-above js (entriesAfter (pops j) (size j) entries) base (h .1))
+  entries-above (j ∷ js) entries base h =
+      rw (entries-frame (pops j) (size j) entries base (h .0)) (entries-above js (entriesAfter (pops j) (size j) entries) base (h .1))
 
   pub rooms-above : (js entries base : List ℕ) → Enough size pops entries js
       → rooms size pops (entries ++ base) js ≡ map (λ r. sum base + r) (rooms size pops entries js)

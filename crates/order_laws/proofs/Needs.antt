@@ -70,8 +70,8 @@ module _ (mark : ℕ) (size : ℕ → ℕ) (kids : ℕ → List ℕ) (kin : Kin 
       let own : largest (rooms size pops entries (steps f c)) ≡ sum entries + need f c =
       ap largest (steps-rooms mark size kids kin f c entries l u) ∙ largest-raised (sum entries) (rooms size pops [] (steps f c))
       (omega (arith, rooms-length size pops [] (steps f c), some-step f c l u)) in
-      let left : entriesAfterAll size pops entries (steps f c) ≡ t (size c) ∷ entries = steps-entries mark size kids kin f c entries l u ∙ ap (λ q. q ++ entries)
-      (leaves-update (size c) z) in
+      let left : entriesAfterAll size pops entries (steps f c) ≡ t (size c) ∷ entries =
+      steps-entries mark size kids kin f c entries l u ∙ ap (λ q. q ++ entries) (leaves-update (size c) z) in
       let rest = needs-in-turn f cs (t (size c) ∷ entries) (λ d m. h d (List·Memᴰ·tail m)) in
       let sums : t (size c) + sum entries ≡ sum entries + t (size c) = omega arith in
       rw (rooms-append size pops entries (steps f c) later, left, largest-append, own, rest, sums)

@@ -61,7 +61,8 @@ module _ (size pops : ℕ → ℕ) where
   rooms-length entries [] = refl
   rooms-length entries (j ∷ js) = ap suc (rooms-length (entriesAfter (pops j) (size j) entries) js)
 
-  pub entries-append : (entries js ks : List ℕ) → entriesAfterAll size pops entries (js ++ ks) ≡ entriesAfterAll size pops (entriesAfterAll size pops entries js) ks
+  pub entries-append : (entries js ks : List ℕ)
+      → entriesAfterAll size pops entries (js ++ ks) ≡ entriesAfterAll size pops (entriesAfterAll size pops entries js) ks
   unfolding entriesAfterAll
   entries-append entries [] ks = refl
   entries-append entries (j ∷ js) ks = entries-append (entriesAfter (pops j) (size j) entries) js ks

@@ -4,7 +4,8 @@ use mathlib.Core.Path.{refl}
 use native.Mathlib.Omega.{arith}
 use Rattle.papers.specs.Lists.{zeros}
 use Rattle.papers.specs.Job.{jobRefusals}
-use Rattle.papers.specs.Analysis.{allZero, EarlyCall, earlyRefusals, earlyOf, KeyCall, keyEarly, keyLate, keyDone, keyWritten, AnalysisCall, analysisEarly}
+use Rattle.papers.specs.Analysis.{allZero, EarlyCall, earlyRefusals, earlyOf, KeyCall, keyEarly, keyLate, keyDone, keyWritten, AnalysisCall}
+use Rattle.papers.specs.Analysis.{analysisEarly}
 use Rattle.papers.specs.Analysis.{analysisLate, analysisDone, analysed, PlanCall, analysisOf, planEarly, planLate, planDone, planZero, planWritten}
 use Rattle.refusal_laws.specs.Exactly.{Exactly}
 use Rattle.refusal_laws.proofs.Agreements.{AgreeEach, _▸_, part-agree, agree-behind}

@@ -13,7 +13,8 @@ use Rattle.papers.specs.declared.Answer.{Answer}
 use Rattle.papers.specs.Bounds.{maxColumns, maxMark, maxLimit}
 use Rattle.papers.specs.Lists.{least, Least}
 use Rattle.papers.specs.Refusals.{answer, Verdict, passed, refused, first}
-use Rattle.papers.specs.Job.{Job, start, falling, fallsAt, startsTest, jobRefusals, RowLists, jobLists, Falls, StartsFault, miscounted, not-zero, badStarts, columnsOver, limitOver, markUnknown}
+use Rattle.papers.specs.Job.{Job, start, falling, fallsAt, startsTest, jobRefusals, RowLists, jobLists, Falls, StartsFault, miscounted, not-zero}
+use Rattle.papers.specs.Job.{badStarts, columnsOver, limitOver, markUnknown}
 use Rattle.papers.specs.Job.{fallsAt as falls-at, last}
 use Rattle.list_laws.proofs.Leasts.{least-zero-iff}
 use Rattle.job_laws.proofs.Starts.{falls-false-iff, starts-few, starts-from, starts-fall, starts-end, starts-pass}

@@ -22,7 +22,8 @@ use Rattle.room.proofs.Entries.{entries-fit}
 use Rattle.room.proofs.OneStep.{sum-drop, room-here, after}
 
 module _ (factor order pops : List ℕ) where
-  next-entries : (k : ℕ) → entriesAt factor order pops (suc k) ≡ entriesAfter (popsOfStep pops (suc k)) (rowsAt factor order (suc k)) (entriesAt factor order pops k)
+  next-entries : (k : ℕ)
+      → entriesAt factor order pops (suc k) ≡ entriesAfter (popsOfStep pops (suc k)) (rowsAt factor order (suc k)) (entriesAt factor order pops k)
   unfolding upTo entriesAfterAll
   next-entries k = entries-append (rowsAt factor order) (popsOfStep pops) [] (upTo k) (suc k ∷ [])
 

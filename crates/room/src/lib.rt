@@ -73,7 +73,8 @@ pub struct Needs {
 pub fn peak(factor: &[u64], order: &[u32], pops: &[u32], below: &mut [u64]) -> Needs
     requires { ⌜ PeakGiven (now factor) (now order) (now pops) (now below) ⌝ }
     ensures { λ r. ⌜
-        r .peak ≡ peakOf (rowsAt (now (factor .entry)) (now (order .entry))) (popsOfStep (now (pops .entry))) (upTo (length (now (order .entry))))
+        r .peak ≡ peakOf (rowsAt (now (factor .entry)) (now (order .entry))) (popsOfStep (now (pops .entry)))
+        (upTo (length (now (order .entry))))
         ⌝ }
 {
     below[0] = 0;

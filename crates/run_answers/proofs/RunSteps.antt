@@ -13,7 +13,8 @@ use borrow.Author.Tests.{ltb-false, leb-true, le-ltb, le-leb}
 use Rattle.papers.specs.Lists.{member, every}
 use Rattle.papers.specs.Refusals.{answer, refusedAt}
 use Rattle.papers.specs.Order.{columnAt}
-use Rattle.papers.specs.Run.{RunCall, rowsIn, popsAt, roomIn, fits, stepFault, stateAfter, faultAt, stepsTest, stepColumn, heldAt, KnownColumn, badStep}
+use Rattle.papers.specs.Run.{RunCall, rowsIn, popsAt, roomIn, fits, stepFault, stateAfter, faultAt, stepsTest, stepColumn, heldAt, KnownColumn}
+use Rattle.papers.specs.Run.{badStep}
 use Rattle.papers.specs.Run.{AllFit, FaultyStep, unknown-column, too-many-pops, row-outside, over-room}
 use Rattle.list_laws.proofs.Tests.{Test, passes, fails, test, and-iff}
 use Rattle.list_laws.proofs.Members.{member-true, member-into}

@@ -51,8 +51,8 @@ pub fn store_keys(
     }
 }
 
-// The W of column j, from those of its children, which are done in this order. In the loop below is the sum of the entries of the children's
-// updates so far, and before the sum of all these but the last.
+// The W of column j, from those of its children, which are done in this order. In the loop `below` is the sum of the entries of the
+// children's updates so far, and `before` the sum of all these but the last.
 pub fn room_alone(factor: &[u64], rooms: &[u64], kids: &[u32], j: usize) -> u64
     requires { ⌜ Kids (now factor) (now rooms) (now kids) j ⌝ }
     ensures { λ r. ⌜ r ≡ needAt (now (factor .entry)) (now (rooms .entry)) (now (kids .entry)) j ⌝ }

@@ -11,7 +11,8 @@ use Rattle.papers.specs.Lists.{_∈_, flat}
 use Rattle.papers.specs.Refusals.{Verdict, passed, refused, of, first}
 use Rattle.papers.specs.Job.{Job, columnOf, jobRefusals, jobOf, headIn}
 use Rattle.papers.specs.Key.{listsOf}
-use Rattle.papers.specs.Analysis.{Lent, allZero, EarlyCall, earlyRefusals, earlyOf, AnalysisCall, analysisEarly, analysisLate, analysisDone, analysed}
+use Rattle.papers.specs.Analysis.{Lent, allZero, EarlyCall, earlyRefusals, earlyOf, AnalysisCall, analysisEarly, analysisLate, analysisDone}
+use Rattle.papers.specs.Analysis.{analysed}
 use Rattle.papers.specs.Text.{jobPrinted}
 use Rattle.job_laws.specs.Passed.{PassedLists, Passed}
 use Rattle.list_laws.proofs.Stores.{flat-more}

@@ -51,7 +51,8 @@ pub fn column(
 }
 
 // Writes the steps of j's children, `left` of them, from `at` on, except those of the largest child, whose block it hands back. It keeps
-// the largest child so far, at first the first one. It does a child that is no larger at once; a larger child takes the place of the one kept.
+// the largest child so far, at first the first one. It does a child that is no larger at once; a larger child takes the place of the one
+// kept.
 pub fn siblings(
     starts: &[u64],
     list: &[u32],

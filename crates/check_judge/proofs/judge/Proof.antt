@@ -57,7 +57,8 @@ unrepeated c plan at-start = passes-16 (jobOn (begun c)) plan (at-start .stored)
 
 right : (c : tie.Else2) (plan : Plan) → PlanThere (begun₁ c) plan → listWrong .test (planFrom (jobOn (begun₁ c)) plan) ≡ passed
 right c plan at-start =
-    passes-17 (jobOn (begun₁ c)) (begun₁ c .pre .valid) plan at-start (unrepeated (search) plan at-start) (tested-17 (search) .first-wrong-list .ensures .answers) (c .if2 .left)
+    passes-17 (jobOn (begun₁ c)) (begun₁ c .pre .valid) plan at-start (unrepeated (search) plan at-start)
+    (tested-17 (search) .first-wrong-list .ensures .answers) (c .if2 .left)
 
 slice-aggregate-steps : tie.Need-slice-aggregate-steps
 slice-aggregate-steps c = part-long _ (now (entry (search) .args .order)) (omega (arith, entry (search) .pre .long))
