@@ -7,15 +7,20 @@
 FARM := $(dir $(lastword $(MAKEFILE_LIST)))
 FARM_ROOT := $(FARM)../
 FARM_MACHINE := $(shell uname -m)
+FARM_ARCHIVES := $(FARM_ROOT)target/staticlib/libc_api.a $(FARM_ROOT)target/staticlib/libsolver.a
+FARM_LIBRARY := $(FARM_ARCHIVES)
 ifeq ($(FARM_MACHINE),x86_64)
 FARM_CC := gcc
+else ifdef FARM_OWN
+# Included by the Makefile here, which has a library for this machine.
+FARM_CC := $(CC)
+FARM_LIBRARY := $(FARM_OWN)
 else
 FARM_CC := x86_64-linux-gnu-gcc
 FARM_LDFLAGS := -static
 endif
 FARM_CFLAGS := -std=c11 -O2 -Wall -Wextra -Wpedantic
 FARM_SANITIZE := -std=c11 -g -O1 -Wall -Wextra -Wpedantic -fsanitize=address,undefined -fno-sanitize-recover=all
-FARM_LIBRARY := $(FARM_ROOT)target/staticlib/libc_api.a $(FARM_ROOT)target/staticlib/libsolver.a
 FARM_SOURCE := $(addprefix $(FARM),farm.c matrix_market.c cholmod_analysis.c picture_tree.c picture_room.c picture_fill.c svg.c)
 FARM_NEEDS := $(FARM_SOURCE) $(addprefix $(FARM),matrix_market.h cholmod_analysis.h pictures.h svg.h farm.mk) $(FARM_ROOT)include/loomsaffron.h
 
@@ -50,7 +55,7 @@ $(FARM)farm: $(FARM_NEEDS) $(FARM_LIBRARY)
 $(FARM)farm-tried: $(FARM_NEEDS) $(FARM_LIBRARY)
 	$(FARM_CC) $(FARM_SANITIZE) $(FARM_ORDERS) -o $@ $(FARM_SOURCE) $(FARM_LINK)
 
-$(FARM_LIBRARY): $(FARM_ROOT)target/staticlib/lib%.a: $(wildcard $(FARM_ROOT)crates/*/src/*.rt)
+$(FARM_ARCHIVES): $(FARM_ROOT)target/staticlib/lib%.a: $(wildcard $(FARM_ROOT)crates/*/src/*.rt)
 	cd $(FARM_ROOT) && rt staticlib $*
 
 .PHONY: farm-all farm-test farm-clean
