@@ -2,7 +2,7 @@
 -- its number and its place: a column or a step of 1 to n, a byte of the key, or a byte that reading behind it can reach.
 -- Assumes nothing.
 use Prim.Native.Nat.{ℕ, zero, suc, _+_, _*_, _≤_}
-use mathlib.Core.Path.{_≡_, refl, sym, ap, _∙_}
+use mathlib.Core.Path.{_≡_, refl, _∙_}
 use mathlib.Core.Bool.{Bool, true, false}
 use mathlib.Core.List.{List, [], _∷_, _++_}
 use native.Mathlib.Omega.{arith}
@@ -10,22 +10,22 @@ use lib.ListN.{length}
 use Rattle.papers.specs.declared.Answer.{Answer}
 use Rattle.papers.specs.Bounds.{maxGroups}
 use Rattle.papers.specs.Lists.{least}
-use Rattle.papers.specs.Refusals.{answer, Verdict, passed, refused, refusedIf, refusedAt, Refusal, first, Outcome}
-use Rattle.papers.specs.Job.{RowLists, jobLists, StartsFault, miscounted, not-zero, falling, last, badStarts, FaultyRow, five, six, jobRefusals}
+use Rattle.papers.specs.Refusals.{answer, Verdict, passed, refused, refusedIf, refusedAt, Refusal, first}
+use Rattle.papers.specs.Job.{RowLists, jobLists, StartsFault, miscounted, not-zero, falling, last, badStarts, FaultyColumn, five, six, jobRefusals}
 use Rattle.papers.specs.Numbers.{Read, got, bad}
 use Rattle.papers.specs.Key.{keyOf}
 use Rattle.papers.specs.Plan.{Plan, planRead, PlanFault, twelve, thirteen, fourteen, fifteen}
-use Rattle.papers.specs.Analysis.{Lent, allZero, earlyRefusals}
+use Rattle.papers.specs.Analysis.{allZero, earlyRefusals}
 use Rattle.papers.specs.Check.{CheckCall, judgeRefusals, planTest, planRefusals, checkEarly, checkLate, checkDone, checked}
 use Rattle.list_laws.proofs.Leasts.{least-found-iff}
-use Rattle.job_laws.proofs.Firsts.{first-passes, first-refuses, first-append-passed, first-append-refused, append-passed-iff}
+use Rattle.job_laws.proofs.Firsts.{first-passes, first-refuses, first-append-passed, first-append-refused}
 use Rattle.job_laws.proofs.Outcomes.{outcome-early, outcome-late, outcome-done}
 use Rattle.job_laws.proofs.Starts.{starts-iff}
 use Rattle.refusal_laws.proofs.Agreements.{Agree, _▸_}
 use Rattle.refusal_laws.proofs.Job.{starts-agree}
 use Rattle.refusal_laws.proofs.Rows.{rows-agree}
 use Rattle.check_laws.proofs.PlanBytes.{read-agree}
-use Rattle.check_laws.proofs.Check.{plan-test-got, done-zero}
+use Rattle.check_laws.proofs.Check.{done-zero}
 use Rattle.call_laws.proofs.Lengths.{mostOf, key-short, reaches-short}
 
 -- number and place are at most these
@@ -98,9 +98,9 @@ starts-place (not-zero e d) = omega arith
 starts-place (falling e z l) = l .0 .1
 starts-place (last e z none d) = omega arith
 
-row-within : {c : RowLists} {a : Answer} → FaultyRow c a → (a .number ≤ 6) × (a .place ≤ c .n)
-row-within (five r fine o) = (omega arith, r .1)
-row-within (six r fine o f) = (omega arith, r .1)
+column-within : {c : RowLists} {j m : ℕ} → FaultyColumn c j m → m ≤ 6
+column-within (five r fine o) = omega arith
+column-within (six r fine o f) = omega arith
 
 plan-within : {n from : ℕ} {s : List ℕ} {a : Answer} → PlanFault n s from a → Within 15 (from + maxGroups * (2 * n + mostOf n n) + 1) a
 plan-within {n} (twelve r some e) = let h = reaches-short n r in record { number = omega arith; place = omega arith }
@@ -132,7 +132,7 @@ module _ (call : CheckCall) where
       ▸ λ p. of-agree Small _ (starts-agree (jobLists (call .job)))
       (λ a (p, h, e). let l = starts-place h in within 4 p 0 e (omega arith) (omega arith))
       ▸ λ fine. of-agree Small _ (rows-agree (jobLists (call .job)))
-      (λ a h. let (l, k) = row-within h in record { number = omega arith; place = omega arith })
+      (λ a (j, m, (l, u), f, none, e). let s = column-within f in within m j 0 e (omega arith) (omega arith))
       ▸ λ p. of-if Small _ _ (within 7 0 0 refl (omega arith) (omega arith))
       ▸ λ p. of-least Small 11 _ _ (λ p l. within 11 p 0 refl (omega arith) (omega (arith, key-within fine)))
       ▸ λ p. of-agree Small _ (read-agree call)

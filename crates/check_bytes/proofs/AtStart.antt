@@ -10,7 +10,7 @@ use Rattle.papers.specs.Lists.{upTo, flat, zeros, thenZeros}
 use Rattle.papers.specs.Job.{Job, pattern}
 use Rattle.papers.specs.Tree.{parent}
 use Rattle.papers.specs.Plan.{Plan, Fit}
-use Rattle.papers.specs.Analysis.{Lent, holding, holdingPlan, LongEnough, fixedLengths}
+use Rattle.papers.specs.Analysis.{Lent, holdingPlan, LongEnough, fixedLengths}
 use Rattle.list_laws.proofs.Stores.{sets-zeros, take-then-zeros}
 use Rattle.job_laws.specs.Parts.{InSlices}
 use Rattle.job_laws.proofs.Parts.{length-columns, length-pops, length-begins}
@@ -55,7 +55,7 @@ pub done-holds : (job : Job) (plan : Plan) (before : Lent) {parents₁ parents o
     → parents₁ ≡ zeros (before .parents)
     → parents ≡ sets parents₁ 0 (map (parent (pattern job)) (upTo (job .n))) → InSlices plan before order pops starts rows
     → sixSlices parents order pops starts rows (zeros (before .work)) ≡ holdingPlan job plan before
-unfolding holdingPlan holding
+unfolding holdingPlan
 done-holds job plan before h c e s =
     sixes (stored _ (before .parents) c e (omega (arith, parents-count (parent (pattern job)) (job .n) refl))) (s .columns) (s .popped) (s .begins)
     (s .listed) refl

@@ -10,11 +10,12 @@ use lib.Dec.{ltb}
 use Rattle.papers.specs.declared.Answer.{Answer}
 use Rattle.papers.specs.Bounds.{maxColumns, maxMark, maxLimit}
 use Rattle.papers.specs.Refusals.{answer, Verdict, passed, refused, answerOf, first, refusedIf}
-use Rattle.papers.specs.Job.{Job, columnOf, startsTest, columnFault, rowsTest, jobRefusals}
+use Rattle.papers.specs.Job.{Job, columnOf, startsTest, columnFault, jobRefusals}
+use Rattle.job_laws.specs.Passed.{rowsTest}
 use Rattle.job_laws.proofs.Firsts.{_&_, first-each}
 use Rattle.job_laws.proofs.Faults.{faults-each}
 use Rattle.job_laws.proofs.Starts.{StartsVerdict, four, fine, starts-verdict}
-use Rattle.job_laws.proofs.Rows.{rows-at-most, rows-test-is}
+use Rattle.job_laws.proofs.Rows.{rows-at-most}
 
 -- if the verdict refuses, its number is one of 1 to 6, and its count 0
 abbrev pub OfJob : Verdict → Type 0
@@ -36,8 +37,8 @@ starts-numbered n starts rows = go (starts-verdict n starts rows)
 pub rows-numbered : (n : ℕ) (starts rows : List ℕ) → OfJob (rowsTest n starts rows)
 unfolding columnFault
 rows-numbered n starts rows =
-    rw (rows-test-is n starts rows)
-    (faults-each (columnFault n starts rows) n (λ j. 0) OfJob tt (λ j l h f. (omega arith, rows-at-most n j j (columnOf starts rows j), refl)))
+    faults-each (columnFault n starts rows) n (λ number j. answer number j 0) OfJob tt
+    (λ j l h f. (omega arith, rows-at-most n j j (columnOf starts rows j), refl))
 
 -- a refusal of a job has one of the numbers 1 to 6, and count 0
 pub job-numbered : (job : Job) → OfJob (first jobRefusals job)

@@ -8,7 +8,7 @@ use lib.ListN.{length, getD, length-map, List·getD-append}
 use Rattle.papers.specs.Lists.{flat, startsFrom, thenZeros}
 use Rattle.papers.specs.Job.{Job, start}
 use Rattle.papers.specs.Plan.{Plan, columnsIn, popsIn, Fit}
-use Rattle.papers.specs.Analysis.{Lent, holding, holdingPlan}
+use Rattle.papers.specs.Analysis.{Lent, holdingPlan}
 use Rattle.list_laws.proofs.Stores.{length-then-zeros, take-then-zeros, length-starts}
 use Rattle.job_laws.specs.Parts.{InSlices, Parts}
 use Rattle.job_laws.proofs.Starts.{start-at}
@@ -17,7 +17,7 @@ use Rattle.job_laws.proofs.Laid.{laid-starts}
 -- slices that hold a plan begin with its lists
 pub holding-in-slices : (job : Job) (plan : Plan) (lent : Lent) {after : Lent} → after ≡ holdingPlan job plan lent
     → InSlices plan lent (after .order) (after .pops) (after .factorStarts) (after .factorRows)
-unfolding holdingPlan holding
+unfolding holdingPlan
 holding-in-slices job plan lent h = record {
   columns = ap (λ (l : Lent). l .order) h;
   popped = ap (λ (l : Lent). l .pops) h;

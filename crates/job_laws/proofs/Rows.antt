@@ -8,10 +8,11 @@ use mathlib.Core.List.{List, [], _∷_, List·Memᴰ·head, List·Memᴰ·tail, 
 use native.Mathlib.Omega.{arith}
 use borrow.Author.Tests.{lt-ltb, le-ltb, le-leb, lt-leb}
 use Rattle.papers.specs.Lists.{_∈_, Asc}
-use Rattle.papers.specs.Refusals.{passed}
-use Rattle.papers.specs.Job.{columnOf, rowFault, rowsFault, columnFault, rowsTest}
+use Rattle.papers.specs.Refusals.{answer, passed}
+use Rattle.papers.specs.Job.{columnOf, rowFault, rowsFault, columnFault}
+use Rattle.job_laws.specs.Passed.{rowsTest}
 use Rattle.list_laws.proofs.Tests.{below-or}
-use Rattle.job_laws.proofs.Faults.{faultTest, faults-passed-iff}
+use Rattle.job_laws.proofs.Faults.{faults-passed-iff}
 
 -- ---- one row
 
@@ -102,14 +103,9 @@ module _ (n : ℕ) (starts rows : List ℕ) where
   unfolding columnFault
   column-fine-iff j = rows-fine-iff n j j (columnOf starts rows j) (omega arith)
 
-  -- the verdict on the rows names the first column at fault
-  pub rows-test-is : rowsTest n starts rows ≡ faultTest (columnFault n starts rows) n (λ j. 0)
-  unfolding rowsTest
-  rows-test-is = refl
-
   -- rows pass exactly when each column's rows ascend above it, up to n
   pub rows-iff : (rowsTest n starts rows ≡ passed)
       ↔ ((j : ℕ) → 1 ≤ j → j ≤ n → Asc j (columnOf starts rows j) × ((i : ℕ) → i ∈ columnOf starts rows j → i ≤ n))
   rows-iff =
-      let k = faults-passed-iff (columnFault n starts rows) n (λ j. 0) in
-      (λ e j l h. column-fine-iff j .0 (k .0 (sym rows-test-is ∙ e) j l h), λ g. rows-test-is ∙ k .1 (λ j l h. column-fine-iff j .1 (g j l h)))
+      let k = faults-passed-iff (columnFault n starts rows) n (λ number j. answer number j 0) in
+      (λ e j l h. column-fine-iff j .0 (k .0 e j l h), λ g. k .1 (λ j l h. column-fine-iff j .1 (g j l h)))

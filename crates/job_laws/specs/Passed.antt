@@ -1,4 +1,4 @@
--- Defines what a job that passes 1 to 6 is, and lists that pass 4 to 6.
+-- Defines what a job that passes 1 to 6 is, and lists that pass 4 to 6; and the verdict on rows that are handed over by themselves.
 -- Assumes nothing.
 use Prim.Native.Nat.{ℕ, suc, _+_, _≤_}
 use mathlib.Core.Path.{_≡_}
@@ -6,7 +6,8 @@ use mathlib.Core.List.{List}
 use lib.ListN.{length}
 use Rattle.papers.specs.Bounds.{maxColumns, maxMark, maxLimit}
 use Rattle.papers.specs.Lists.{_∈_, Asc}
-use Rattle.papers.specs.Job.{Job, start, columnOf}
+use Rattle.papers.specs.Refusals.{Verdict}
+use Rattle.papers.specs.Job.{Job, start, columnOf, badRow}
 
 -- starts that pass: n + 1 of them, from 0 up to the row count
 pub record Starts (n : ℕ) (starts rows : List ℕ) : Type 0 where
@@ -27,3 +28,7 @@ pub record Passed (job : Job) : Type 0 where
   pub marked : job .mark ≤ maxMark
   pub limited : job .limit ≤ maxLimit
   pub lists : PassedLists (job .n) (job .starts) (job .rows)
+
+-- the verdict on the rows of n columns: 5 or 6, or passed
+abbrev pub rowsTest : ℕ → List ℕ → List ℕ → Verdict
+rowsTest n starts rows = badRow .test (record { n = n; starts = starts; rows = rows })

@@ -11,13 +11,13 @@ use lib.ListN.{length, getD}
 use lib.Seq.{slice, slice-cons}
 use Rattle.papers.specs.Lists.{least}
 use Rattle.papers.specs.Refusals.{answer, passed, answerOf}
-use Rattle.papers.specs.Job.{startsTest, rowFault, rowsFault, columnFault, rowsTest}
-use Rattle.job_laws.specs.Passed.{Starts}
+use Rattle.papers.specs.Job.{startsTest, rowFault, rowsFault, columnFault}
+use Rattle.job_laws.specs.Passed.{Starts, rowsTest}
 use Rattle.list_laws.proofs.Slices.{slice-none}
 use Rattle.job_laws.proofs.Firsts.{answer-refused, answer-passed}
 use Rattle.job_laws.proofs.Faults.{faulty, faults-next, faults-pass, faults-refuse}
 use Rattle.job_laws.proofs.Starts.{start-at, column-at, starts-iff, start-within}
-use Rattle.job_laws.proofs.Rows.{rows-fault, rows-next, rows-test-is}
+use Rattle.job_laws.proofs.Rows.{rows-fault, rows-next}
 
 -- the first `done` columns are read, and no fault is found
 pub record Columns (n : ℕ) (starts rows : List ℕ) (number place done : ℕ) : Type 0 where
@@ -65,8 +65,7 @@ module _ {n : ℕ} {starts rows : List ℕ} {number place done : ℕ} (k : Colum
   last-column l =
       let e : done ≡ n = let q = k .reached in omega arith in
       let none = subst (λ m. least (faulty (columnFault n starts rows)) m ≡ 0) e (k .none) in
-      rw (k .no-number, k .no-place) (answer-passed (rows-test-is n starts rows ∙ faults-pass (columnFault n starts rows) n (λ j. 0) none)
-      refl)
+      rw (k .no-number, k .no-place) (answer-passed (faults-pass (columnFault n starts rows) n (λ number j. answer number j 0) none) refl)
 
   module _ (l : done < n) where
     pub first-row : Rows n starts rows (done + 1) (getD starts (done + 1) 0) number place (getD starts done 0) (done + 1)
@@ -94,5 +93,5 @@ module _ {n : ℕ} {starts rows : List ℕ} {number place done : ℕ} (k : Colum
           → answer f (done + 1) 0 ≡ answerOf (rowsTest n starts rows)
       found f h e z =
           let q = rw add-one at (column-fault r f h e z) in
-          answer-refused (rows-test-is n starts rows ∙ faults-refuse (columnFault n starts rows) n (λ j. 0) done (k .none) (omega arith)
-          (omega arith)) (rw (add-one, q))
+          answer-refused (faults-refuse (columnFault n starts rows) n (λ number j. answer number j 0) done (k .none) (omega arith) (omega arith))
+          (rw (add-one, q))

@@ -2,7 +2,8 @@
 use papers::Answer;
 ghost use mathlib.Core.Path.{_≡_};
 ghost use Rattle.papers.specs.Refusals.{answerOf};
-ghost use Rattle.papers.specs.Job.{rowFault, rowsTest};
+ghost use Rattle.papers.specs.Job.{rowFault};
+ghost use Rattle.job_laws.specs.Passed.{rowsTest};
 ghost use Rattle.job_rows.specs.Started.{Started};
 
 // The fault of a row of column j: 5 if it does not exceed j or exceeds n, 6 if it does not exceed the row before it, 0 if it has none.

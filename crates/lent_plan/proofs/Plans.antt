@@ -13,10 +13,10 @@ use Rattle.papers.specs.Fill.{R}
 use Rattle.papers.specs.Order.{popsOf, orderOf}
 use Rattle.papers.specs.Key.{listsOf}
 use Rattle.papers.specs.Plan.{planOf, planFor}
-use Rattle.papers.specs.Analysis.{Lent, holding, holdingPlan}
+use Rattle.papers.specs.Analysis.{Lent, holdingPlan}
 use Rattle.job_laws.specs.Passed.{Passed}
 use Rattle.list_laws.proofs.Stores.{take-then-zeros, length-starts}
-use Rattle.job_laws.proofs.Passed.{passes-iff, passed-below}
+use Rattle.job_laws.proofs.Passed.{passed-below}
 use Rattle.job_laws.proofs.Laid.{length-lists}
 use Rattle.column_laws.proofs.Testing.{tested}
 use Rattle.column_laws.proofs.Families.{length-grows}
@@ -126,7 +126,7 @@ module _ {job : Job} {before : Lent} (g : Plannable job before) where
             (job .mark))
 
         holds : sixSlices (mid .parents) steps counts (mid .factorStarts) (mid .factorRows) work ≡ holdingPlan job (planOf job) before
-        unfolding holdingPlan holding planOf planFor
+        unfolding holdingPlan planOf planFor
         holds =
             sixes (listed .parents) (order-holds ∙ ap (λ l. thenZeros l (before .order)) (sym (map-map _ _ order ∙ map-id order)))
             (pops-hold ∙ ap (λ l. thenZeros l (before .pops)) (sym (map-map _ _ order))) (listed .starts) (listed .rows)

@@ -14,19 +14,19 @@ use Rattle.papers.specs.declared.Answer.{Answer}
 use Rattle.papers.specs.Bounds.{maxColumns}
 use Rattle.papers.specs.Lists.{least, flat}
 use Rattle.papers.specs.Refusals.{answer, Verdict, passed, refused, refusedIf, first}
-use Rattle.papers.specs.Job.{Job, Pattern, pattern, start, columnOf, fallsAt, startsTest, columnFault, rowsTest, jobRefusals}
+use Rattle.papers.specs.Job.{Job, Pattern, pattern, start, columnOf, fallsAt, startsTest, columnFault, jobRefusals}
 use Rattle.papers.specs.Fill.{R}
 use Rattle.papers.specs.Key.{listsOf}
 use Rattle.papers.specs.Plan.{planOf, planFor}
 use Rattle.papers.specs.Analysis.{Lent, earlyRefusals, AnalysisCall, analysisEarly, analysisLate}
-use Rattle.job_laws.specs.Passed.{Passed}
+use Rattle.job_laws.specs.Passed.{Passed, rowsTest}
 use Rattle.list_laws.proofs.Tests.{Test, passes, fails, test}
 use Rattle.list_laws.proofs.Leasts.{least-found-iff}
 use Rattle.list_laws.proofs.Stores.{flat-append}
 use Rattle.job_laws.proofs.Firsts.{_&_, first-each}
 use Rattle.job_laws.proofs.Starts.{starts-few, starts-from, starts-fall, starts-end, starts-pass}
 use Rattle.job_laws.proofs.Faults.{faults-each}
-use Rattle.job_laws.proofs.Rows.{rows-at-most, rows-test-is}
+use Rattle.job_laws.proofs.Rows.{rows-at-most}
 use Rattle.job_laws.proofs.Passed.{passed-below}
 use Rattle.job_laws.proofs.Laid.{lists-none, lists-more}
 use Rattle.order_laws.proofs.Patterns.{rows-fit, order-ordered}
@@ -80,9 +80,8 @@ starts-small n starts rows h =
 rows-small : (n : ℕ) (starts rows : List ℕ) → n < 2 ^ 64 → SmallIn (rowsTest n starts rows)
 unfolding columnFault
 rows-small n starts rows h =
-    rw (rows-test-is n starts rows)
-    (faults-each (columnFault n starts rows) n (λ j. 0) SmallIn tt (λ k l u f. small-at (columnFault n starts rows k) k f
-    (omega (arith, rows-at-most n k k (columnOf starts rows k))) (omega arith)))
+    faults-each (columnFault n starts rows) n (λ number j. answer number j 0) SmallIn tt (λ k l u f. small-at (columnFault n starts rows k) k f
+    (omega (arith, rows-at-most n k k (columnOf starts rows k))) (omega arith))
 
 -- ---- 8 and 9
 

@@ -71,7 +71,7 @@ module _ (input : Input) where
 
   columns-few : first textRefusals input ≡ passed → textHead (input .text) .head .n ≤ programColumns
   unfolding textRefusals
-  columns-few e = head-columns input (first-passed-iff textRefusals input .0 e .1 .0)
+  columns-few e = head-columns input (first-passed-iff textRefusals input .0 e .1 .1 .0)
 
   rows-few : first analysisLate call ≡ passed → length (flat (listsOf (job .n) (R (pattern job)))) ≤ programFactorRows
   unfolding analysisLate planOf planFor buffers

@@ -1,20 +1,19 @@
 -- Proves that the answers which a listing may print of a text have small numbers: places are lines, and n is a decimal of few digits.
 -- Assumes nothing.
-use Prim.Native.Nat.{ℕ, zero, suc, _+_, _^_, _<_, _≤_}
+use Prim.Native.Nat.{ℕ, suc, _+_, _^_, _<_, _≤_}
 use mathlib.Core.Path.{_≡_, refl}
 use mathlib.Core.List.{List, [], _∷_}
 use native.Mathlib.Omega.{arith}
 use lib.Dec.{ltb}
 use lib.ListN.{length}
-use borrow.Author.Tests.{ltb-true}
 use Rattle.papers.specs.Bounds.{maxDigits, programRows}
-use Rattle.papers.specs.Lists.{least, flat}
-use Rattle.papers.specs.Refusals.{first}
-use Rattle.papers.specs.Text.{headOf, isRowLine, numbersAt, textHead, textLists, Input, headTest, lineFault, rowLinesTest, endTest, textRefusals}
+use Rattle.papers.specs.Lists.{flat}
+use Rattle.papers.specs.Refusals.{answer, first}
+use Rattle.papers.specs.Text.{headOf, isRowLine, numbersAt, textHead, textLists, Input, lineFault, badLine, textRefusals}
 use Rattle.list_laws.proofs.Tests.{Test, passes, fails, test}
-use Rattle.list_laws.proofs.Leasts.{least-found-iff}
 use Rattle.text_laws.proofs.ByWords.{first-line-iff}
 use Rattle.job_laws.proofs.Firsts.{_&_, first-each}
+use Rattle.job_laws.proofs.Faults.{faults-each}
 use Rattle.listing_laws.proofs.Answers.{SmallIn, small-if, small-at}
 
 -- n has no more digits than a decimal may have
@@ -38,33 +37,20 @@ line-fault text j = go (test (isRowLine (numbersAt text (suc j)))) (test (ltb pr
     go (passes a) (passes b) = rw (a, b, lineFault) (omega arith)
     go (passes a) (fails b) = rw (a, b, lineFault) (omega arith)
 
-row-lines-small : (input : Input) → SmallIn (rowLinesTest input)
-unfolding rowLinesTest
-row-lines-small input = go (least (λ j. ltb 0 (lineFault (input .text) j)) (textHead (input .text) .head .n)) refl
-  where
-    go : (p : ℕ) → least (λ j. ltb 0 (lineFault (input .text) j)) (textHead (input .text) .head .n) ≡ p → SmallIn (rowLinesTest input)
-    go zero e = rw (e, rowLinesTest) tt
-    go (suc j) e =
-        let f = least-found-iff (λ j. ltb 0 (lineFault (input .text) j)) (textHead (input .text) .head .n) j .0 e in
-        let n = head-short (input .text) in
-        rw (e, rowLinesTest) (small-at (lineFault (input .text) (suc j)) (suc (suc j)) (ltb-true 0 _ (f .1)) (line-fault (input .text) (suc j))
-        (omega (arith, f .0)))
-
-head-small : (input : Input) → SmallIn (headTest input)
-unfolding headTest
-head-small input = go (test (textHead (input .text) .fine))
-  where
-    go : Test (textHead (input .text) .fine) → SmallIn (headTest input)
-    go (passes e) = rw (e, headTest) (small-if _ _ (small-at 26 1 (omega arith) (omega arith) (omega arith)))
-    go (fails e) = rw (e, headTest) (small-at 25 1 (omega arith) (omega arith) (omega arith))
+row-lines-small : (input : Input) → SmallIn (badLine .test input)
+row-lines-small input =
+    let n = head-short (input .text) in
+    faults-each (lineFault (input .text)) (textHead (input .text) .head .n) (λ number j. answer number (suc j) 0) SmallIn tt
+    (λ j l u f. small-at (lineFault (input .text) j) (suc j) f (line-fault (input .text) j) (omega arith))
 
 pub text-small : (input : Input) → SmallIn (first textRefusals input)
-unfolding textRefusals endTest
+unfolding textRefusals
 text-small input =
     let n = head-short (input .text) in
     first-each SmallIn textRefusals input tt
     (small-if _ _ (small-at 26 0 (omega arith) (omega arith) (omega arith))
-    & head-small input
+    & small-if _ _ (small-at 25 1 (omega arith) (omega arith) (omega arith))
+    & small-if _ _ (small-at 26 1 (omega arith) (omega arith) (omega arith))
     & row-lines-small input
     & small-if _ _ (small-at 25 (textHead (input .text) .head .n + 2) (omega arith) (omega arith) (omega arith))
     & tt)

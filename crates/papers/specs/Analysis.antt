@@ -39,23 +39,17 @@ allZero lent =
       work = zeros (lent .work);
     }
 
--- done: each output slice holds its part of the result, then zeros, and work is zero
-unfoldable pub holding : List ℕ → List ℕ → List ℕ → List ℕ → List ℕ → Lent → Lent
-holding parents order pops starts rows lent =
-    record {
-      parents = thenZeros parents (lent .parents);
-      order = thenZeros order (lent .order);
-      pops = thenZeros pops (lent .pops);
-      factorStarts = thenZeros starts (lent .factorStarts);
-      factorRows = thenZeros rows (lent .factorRows);
-      work = zeros (lent .work);
-    }
-
--- the slices when they hold a plan: its parents, order, pops, factor starts and factor rows
+-- done: each output slice holds its part of a plan, then zeros, and work is zero
 unfoldable pub holdingPlan : Job → Plan → Lent → Lent
 holdingPlan job plan lent =
-    holding (map (parent (pattern job)) (upTo (job .n))) (columnsIn (plan .steps)) (popsIn (plan .steps)) (startsFrom 0 (plan .lists))
-    (flat (plan .lists)) lent
+    record {
+      parents = thenZeros (map (parent (pattern job)) (upTo (job .n))) (lent .parents);
+      order = thenZeros (columnsIn (plan .steps)) (lent .order);
+      pops = thenZeros (popsIn (plan .steps)) (lent .pops);
+      factorStarts = thenZeros (startsFrom 0 (plan .lists)) (lent .factorStarts);
+      factorRows = thenZeros (flat (plan .lists)) (lent .factorRows);
+      work = zeros (lent .work);
+    }
 
 -- the part of a slice that holds a written key or plan: as many bytes as the answer counts
 abbrev pub writtenPart : Answer → List ℕ → List ℕ

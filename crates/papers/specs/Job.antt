@@ -10,8 +10,7 @@ use lib.ListN.{length, getD}
 use lib.Seq.{slice}
 use Rattle.papers.specs.Bounds.{maxColumns, maxMark, maxLimit}
 use Rattle.papers.specs.Lists.{_∈_, Asc, nth, least, Least}
-use Rattle.papers.specs.Refusals.{answer, Verdict, refused, refusedIf, refusedAt, Refusal, when, on}
-use Rattle.papers.specs.declared.Answer.{Answer}
+use Rattle.papers.specs.Refusals.{answer, Verdict, refused, refusedIf, Refusal, when, firstFault, on}
 use Rattle.papers.specs.declared.JobHead.{JobHead}
 
 -- a job: n, the start numbers, the rows strictly below the diagonal, the sibling mark, the room limit
@@ -130,19 +129,13 @@ rowsFault n j before (r ∷ rs) = elim (rowFault n j before r) [ zero ↦ rowsFa
 unfoldable pub columnFault : ℕ → List ℕ → List ℕ → ℕ → ℕ
 columnFault n starts rows j = rowsFault n j j (columnOf starts rows j)
 
--- finds 5 and 6: the first row at fault in reading order decides; the place is its column
-unfoldable pub rowsTest : ℕ → List ℕ → List ℕ → Verdict
-rowsTest n starts rows =
-    let j = least (λ j. ltb 0 (columnFault n starts rows j)) n in
-    refusedAt (columnFault n starts rows j) j 0
-
 -- row k of column j, where the rows of a column count from 0
 abbrev pub rowOf : RowLists → ℕ → ℕ → ℕ
 rowOf c j k = getD (columnOf (c .starts) (c .rows) j) k 0
 
 -- column j has a row k
 abbrev pub IsRow : RowLists → ℕ → ℕ → Type 0
-IsRow c j k = (1 ≤ j) × (j ≤ c .n) × (k < length (columnOf (c .starts) (c .rows) j))
+IsRow c j k = k < length (columnOf (c .starts) (c .rows) j)
 
 -- the fault 5 of row k of column j: it is at most j, or more than n
 abbrev pub Outside : RowLists → ℕ → ℕ → Type 0
@@ -152,20 +145,18 @@ Outside c j k = (rowOf c j k ≤ j) ⊎ (c .n < rowOf c j k)
 abbrev pub NotAbove : RowLists → ℕ → ℕ → Type 0
 NotAbove c j k = (0 < k) × (rowOf c j k ≤ rowOf c j (k - 1))
 
--- no row that is read before row k of column j has a fault
+-- no row before row k of column j has a fault
 abbrev pub FineBefore : RowLists → ℕ → ℕ → Type 0
-FineBefore c j k =
-    ((i m : ℕ) → i < j → IsRow c i m → (¬ Outside c i m) × (¬ NotAbove c i m))
-    × ((m : ℕ) → m < k → (¬ Outside c j m) × (¬ NotAbove c j m))
+FineBefore c j k = (m : ℕ) → m < k → (¬ Outside c j m) × (¬ NotAbove c j m)
 
--- the first row at fault in reading order decides; a row with both faults is 5
-pub data FaultyRow (c : RowLists) : Answer → Type 0 where
-  five : {j k : ℕ} → IsRow c j k → FineBefore c j k → Outside c j k → FaultyRow c (answer 5 j 0)
-  six : {j k : ℕ} → IsRow c j k → FineBefore c j k → ¬ Outside c j k → NotAbove c j k → FaultyRow c (answer 6 j 0)
+-- the fault of column j: that of its first row at fault; a row with both faults is 5
+pub data FaultyColumn (c : RowLists) (j : ℕ) : ℕ → Type 0 where
+  five : {k : ℕ} → IsRow c j k → FineBefore c j k → Outside c j k → FaultyColumn c j 5
+  six : {k : ℕ} → IsRow c j k → FineBefore c j k → ¬ Outside c j k → NotAbove c j k → FaultyColumn c j 6
 
--- 5 and 6: a row is at fault
+-- 5 and 6: a row is at fault; the first in reading order decides, and the place is its column
 abbrev pub badRow : Refusal RowLists
-badRow = record { test = λ c. rowsTest (c .n) (c .starts) (c .rows); gives = FaultyRow }
+badRow = firstFault (λ c. c .n) (λ c. columnFault (c .n) (c .starts) (c .rows)) FaultyColumn (λ c number j. answer number j 0)
 
 -- the refusals of a job: 1 to 6
 unfoldable pub jobRefusals : List (Refusal Job)

@@ -1,7 +1,7 @@
 -- Defines what an answer is, what a refusal is, and the outcome of a call: its refusals are listed in the order tested, and the first that
 -- is given decides.
 -- Assumes nothing.
-use Prim.Native.Nat.{ℕ, zero, suc, _<_}
+use Prim.Native.Nat.{ℕ, zero, suc, _<_, _≤_}
 use mathlib.Core.Path.{_≡_}
 use mathlib.Core.Logic.{_⊎_}
 use mathlib.Core.Bool.{Bool, true, false}
@@ -55,6 +55,19 @@ abbrev pub atLeast : {C : Type 0} → ℕ → (C → ℕ) → (C → ℕ → Boo
 atLeast number bound test holds = record {
   test = λ call. refusedAt number (least (test call) (bound call)) 0;
   gives = λ call a. (p : ℕ) × Least (holds call) (bound call) p × (a ≡ answer number p 0);
+}
+
+-- finds the first of 1 to a bound that is at fault; the fault of each is a number, 0 if it has none
+unfoldable pub faultTest : (ℕ → ℕ) → ℕ → (ℕ → ℕ → Answer) → Verdict
+faultTest fault bound given = elim (least (λ k. ltb 0 (fault k)) bound) [ zero ↦ passed | suc k ↦ refused (given (fault (suc k)) (suc k)) ]
+
+-- a refusal at the first of 1 to a bound that is at fault: the bound, the fault of each, what its faults are, and the answer for a fault
+abbrev pub firstFault : {C : Type 0} → (C → ℕ) → (C → ℕ → ℕ) → (C → ℕ → ℕ → Type 0) → (C → ℕ → ℕ → Answer) → Refusal C
+firstFault bound fault Faulty given = record {
+  test = λ call. faultTest (fault call) (bound call) (given call);
+  gives = λ call a.
+      (k number : ℕ) × ((1 ≤ k) × (k ≤ bound call)) × Faulty call k number
+      × ((i m : ℕ) → 1 ≤ i → i < k → ¬ Faulty call i m) × (a ≡ given call number k);
 }
 
 -- a refusal of a part of the call

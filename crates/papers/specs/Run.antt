@@ -1,13 +1,12 @@
 -- Defines a run of steps on a stack of updates: when it refuses, its whole outcome, and how it is handed the lists of an analysis.
 -- Assumes nothing.
 use Prim.Native.Nat.{ℕ, zero, suc, _+_, _-_, _<_, _≤_, max}
-use mathlib.Core.Path.{_≡_}
 use mathlib.Core.Bool.{Bool, true, false, _&&_}
 use mathlib.Core.List.{List, [], _∷_, map}
 use lib.Dec.{ltb, leb}
 use lib.ListN.{length, take, drop}
 use Rattle.papers.specs.Lists.{_∈_, nth, member, every, least, zeros}
-use Rattle.papers.specs.Refusals.{answer, Verdict, refusedAt, Refusal, when, on, Outcome, outcome}
+use Rattle.papers.specs.Refusals.{answer, Refusal, when, on, Outcome, outcome, firstFault}
 use Rattle.papers.specs.Job.{start, columnOf, columnsOver, RowLists, badStarts, badRow}
 use Rattle.papers.specs.Tree.{t}
 use Rattle.papers.specs.Room.{roomAt}
@@ -109,12 +108,6 @@ runFixed n columns pops stack =
 abbrev pub runLengths : RunCall → List Fixed
 runLengths call = runFixed (call .n) (call .columns) (call .pops) (call .stack)
 
--- finds 14, 21, 22, 23: the first step at fault decides; the count is the greatest room in use of the steps before it
-unfoldable pub stepsTest : RunCall → Verdict
-stepsTest call =
-    let s = least (λ s. ltb 0 (faultAt call s)) (call .n) in
-    refusedAt (faultAt call s) s (stateAfter call (s - 1) .greatest)
-
 -- step s names a column from 1 to n
 abbrev pub KnownColumn : RunCall → ℕ → Type 0
 KnownColumn call s = (1 ≤ stepColumn call s) × (stepColumn call s ≤ call .n)
@@ -131,16 +124,9 @@ pub data FaultyStep (call : RunCall) (s : ℕ) : ℕ → Type 0 where
   over-room : KnownColumn call s → popsAt call s ≤ length (heldAt call s) → AllFit call s
       → call .room < roomIn call s (stateAfter call (s - 1)) → FaultyStep call s 23
 
--- 14, 21, 22, 23: a step is at fault
+-- 14, 21, 22, 23: a step is at fault; the first decides, and the count is the greatest room in use of the steps before it
 abbrev pub badStep : Refusal RunCall
-badStep = record {
-  test = stepsTest;
-  gives = λ call a.
-      (s number : ℕ) × ((1 ≤ s) × (s ≤ call .n))
-      × FaultyStep call s number
-      × ((k m : ℕ) → 1 ≤ k → k < s → ¬ FaultyStep call k m)
-      × (a ≡ answer number s (stateAfter call (s - 1) .greatest));
-}
+badStep = firstFault (λ call. call .n) faultAt FaultyStep (λ call number s. answer number s (stateAfter call (s - 1) .greatest))
 
 -- 24: updates are left after the last step
 abbrev pub updatesLeft : Refusal RunCall

@@ -1,6 +1,6 @@
 -- Defines the job text that the listing program reads, when it is refused (25, 26), and the listing that the program prints.
 -- Assumes nothing.
-use Prim.Native.Nat.{ℕ, zero, suc, _+_, _-_, _*_, _/_, _%_, _^_, _<_, _≤_}
+use Prim.Native.Nat.{ℕ, zero, suc, _+_, _-_, _*_, _/_, _%_, _^_, _<_}
 use mathlib.Core.Path.{_≡_}
 use mathlib.Core.Logic.{_⊎_}
 use mathlib.Core.Bool.{Bool, true, false, not, _&&_, _||_}
@@ -9,7 +9,7 @@ use lib.Dec.{ltb, leb, eqb}
 use lib.ListN.{length, replicate}
 use Rattle.papers.specs.Bounds.{inputBytes, programColumns, programRows, programFactorRows, workLength, maxDigits, defaultMark, listingBytes}
 use Rattle.papers.specs.Lists.{_∈_, every, upTo, least, flat, zeros, thenZeros}
-use Rattle.papers.specs.Refusals.{answer, Verdict, passed, refused, refusedIf, Refusal, when, on, of, first, Outcome, outcome}
+use Rattle.papers.specs.Refusals.{answer, passed, refused, Refusal, when, on, of, first, Outcome, outcome, firstFault}
 use Rattle.papers.specs.Job.{Job, Pattern, pattern}
 use Rattle.papers.specs.Fill.{R}
 use Rattle.papers.specs.Order.{popsOf, orderOf, roomsOf}
@@ -187,20 +187,21 @@ inputOver =
     when (λ input. input .more || ltb inputBytes (length (input .text))) (λ input. (input .more ≡ true) ⊎ (inputBytes < length (input .text)))
     (λ input. answer 26 0 0)
 
--- finds 25 and 26 of line 1
-unfoldable pub headTest : Input → Verdict
-headTest input =
-    let line1 = textHead (input .text) in
-    elim (line1 .fine) [ false ↦ refused (answer 25 1 0) | true ↦ refusedIf (ltb programColumns (line1 .head .n)) (answer 26 1 0) ]
-
--- the faults of line 1: 25 bad text, then 26 too many columns
-pub data HeadFault (text : List ℕ) : Answer → Type 0 where
-  bad-head : ((head : JobHead) → ¬ HeadLine text head) → HeadFault text (answer 25 1 0)
-  columns-over : {head : JobHead} → HeadLine text head → programColumns < head .n → HeadFault text (answer 26 1 0)
-
--- 25 and 26 of line 1
+-- 25 at line 1: it consists of neither n and limit nor n, limit and mark
 abbrev pub badHead : Refusal Input
-badHead = record { test = headTest; gives = λ input. HeadFault (input .text) }
+badHead =
+    when (λ input. not (textHead (input .text) .fine)) (λ input. (head : JobHead) → ¬ HeadLine (input .text) head) (λ input. answer 25 1 0)
+
+-- a refusal of a text whose line 1 is good, by the n of that line
+abbrev pub byHead : (ℕ → Refusal (List ℕ)) → Refusal Input
+byHead r = record {
+  test = λ input. r (textHead (input .text) .head .n) .test (input .text);
+  gives = λ input a. (head : JobHead) × HeadLine (input .text) head × r (head .n) .gives (input .text) a;
+}
+
+-- 26 at line 1: there are more columns than the program takes
+abbrev pub headOver : Refusal Input
+headOver = byHead (λ n. when (λ text. ltb programColumns n) (λ text. programColumns < n) (λ text. answer 26 1 0))
 
 -- the fault of column j's line: 25 if it is missing or bad text, then 26 if the lines so far have more pattern rows than the program takes;
 -- 0 if it has none
@@ -212,48 +213,23 @@ lineFault text j =
           [ true ↦ 26 | false ↦ 0 ]
     ]
 
--- finds the first of the n row lines at fault; column j's is line j + 1
-unfoldable pub rowLinesTest : Input → Verdict
-rowLinesTest input =
-    elim (least (λ j. ltb 0 (lineFault (input .text) j)) (textHead (input .text) .head .n)) [
-      | zero ↦ passed
-      | suc j ↦ refused (answer (lineFault (input .text) (suc j)) (suc (suc j)) 0)
-    ]
-
 -- the faults of column j's line: 25 bad text, then 26 too many pattern rows in the lines so far
 pub data FaultyLine (text : List ℕ) (j : ℕ) : ℕ → Type 0 where
   bad-line : ((rows : List ℕ) → ¬ RowLine text (suc j) rows) → FaultyLine text j 25
   rows-over : (lists : List (List ℕ)) → length lists ≡ j → RowLines text 2 lists → programRows < length (flat lists) → FaultyLine text j 26
 
--- 25 and 26 of the row lines: the first at fault decides; the place is its line
+-- 25 and 26 of the row lines: the first at fault decides; column j's is line j + 1
 abbrev pub badLine : Refusal Input
-badLine = record {
-  test = rowLinesTest;
-  gives = λ input a.
-      (head : JobHead) × HeadLine (input .text) head
-      × ((j number : ℕ) × ((1 ≤ j) × (j ≤ head .n))
-      × FaultyLine (input .text) j number
-      × ((k m : ℕ) → 1 ≤ k → k < j → ¬ FaultyLine (input .text) k m)
-      × (a ≡ answer number (suc j) 0));
-}
-
--- finds text behind the last row line
-unfoldable pub endTest : Input → Verdict
-endTest input =
-    let n = textHead (input .text) .head .n in
-    refusedIf (ltb 0 (length (afterLines (suc n) (input .text)))) (answer 25 (n + 2) 0)
+badLine = byHead (λ n. firstFault (λ text. n) lineFault FaultyLine (λ text number j. answer number (suc j) 0))
 
 -- 25 at line n + 2: text follows the last row line
 abbrev pub textAfter : Refusal Input
-textAfter = record {
-  test = endTest;
-  gives = λ input a.
-      (head : JobHead) × HeadLine (input .text) head × (0 < length (afterLines (suc (head .n)) (input .text))) × (a ≡ answer 25 (head .n + 2) 0);
-}
+textAfter =
+    byHead (λ n. when (λ text. ltb 0 (length (afterLines (suc n) text))) (λ text. 0 < length (afterLines (suc n) text)) (λ text. answer 25 (n + 2) 0))
 
--- the refusals of a text: 26 at place 0, line 1, the row lines, the end
+-- the refusals of a text: 26 at place 0, 25 and 26 of line 1, those of the row lines, 25 at the end
 unfoldable pub textRefusals : List (Refusal Input)
-textRefusals = inputOver ∷ badHead ∷ badLine ∷ textAfter ∷ []
+textRefusals = inputOver ∷ badHead ∷ headOver ∷ badLine ∷ textAfter ∷ []
 
 -- ---- what is printed
 

@@ -9,8 +9,8 @@ use lib.Dec.{eqb}
 use lib.ListN.{length, replicate, take, drop}
 use Rattle.papers.specs.Bounds.{workLength}
 use Rattle.papers.specs.Lists.{upTo, head0, member, same, every, keep, sum, largest, merge, insert, sort, least, flat, startsFrom, thenZeros}
-use Rattle.papers.specs.Refusals.{answer, first, refusedIf, refusedAt, outcome}
-use Rattle.papers.specs.Job.{Job, start, columnOf, pattern, fallsAt, startsTest, rowFault, rowsFault, columnFault, rowsTest, jobRefusals}
+use Rattle.papers.specs.Refusals.{answer, first, refusedIf, refusedAt, faultTest, outcome}
+use Rattle.papers.specs.Job.{Job, start, columnOf, pattern, fallsAt, startsTest, rowFault, rowsFault, columnFault, jobRefusals}
 use Rattle.papers.specs.Fill.{gather, lists, R}
 use Rattle.papers.specs.Tree.{parent, t, children, isUnder, subtreeOf}
 use Rattle.papers.specs.Room.{topUpdate, roomAt, entriesAfter, rooms, peakOf, frontRoom}
@@ -18,12 +18,12 @@ use Rattle.papers.specs.Order.{columnAt, siblingKey, alone, arranged, stepsOf, 
 use Rattle.papers.specs.Numbers.{groupsOf, bytesOf, encode, over, lastGroup, readFrom, readNumber, then, onto, inField, field, atEnd, differsAt}
 use Rattle.papers.specs.Key.{gapsOf, listNumbers, listsNumbers, listsOf, keyNumbers, keyOf, readRows, readList, readLists}
 use Rattle.papers.specs.Plan.{planOf, stepNumbers, planNumbers, planBytes, readStep, readSteps, readPlan, planRead, planFor}
-use Rattle.papers.specs.Analysis.{Lent, allZero, holding, holdingPlan, analysisDone, analysed, planDone, planZero, planWritten, someShort}
+use Rattle.papers.specs.Analysis.{Lent, allZero, holdingPlan, analysisDone, analysed, planDone, planZero, planWritten, someShort}
 use Rattle.papers.specs.Analysis.{earlyRefusals, analysisEarly, analysisLate, planEarly, planLate}
-use Rattle.papers.specs.Check.{readTest, repeatedAt, truePeak, ofPlan, checkDone, checked, judgeRefusals, planTest, planRefusals, checkEarly}
+use Rattle.papers.specs.Check.{readTest, repeatedAt, truePeak, checkDone, checked, judgeRefusals, planTest, planRefusals, checkEarly}
 use Rattle.papers.specs.Check.{checkLate}
 use Rattle.papers.specs.Text.{isDigit, startingWith, cut, afterLines, onWord, wordsOf, isDecimal, allDecimal, valueOf, numbersOf, numbersAt, headOf}
-use Rattle.papers.specs.Text.{rowsOfLine, isRowLine, textHead, textLists, textJob, headTest, lineFault, rowLinesTest, endTest, textRefusals}
+use Rattle.papers.specs.Text.{rowsOfLine, isRowLine, textHead, textLists, textJob, lineFault, textRefusals}
 use Rattle.papers.specs.Text.{digitsOf, decimalOf, printed, refusalLine, stepLines, listingOf, buffers, jobPrinted, programPrints}
 use Rattle.papers.specs.declared.Answer.{Answer}
 use Rattle.pieces.proofs.Worked.{none, pair, pairBytes, loose, dense, filling, crossed, star, nine, nineText, nineListing}
@@ -64,11 +64,11 @@ unfolding lentFor sameAnswer flatMap upTo head0 member same every keep sum large
     bytesOf encode over lastGroup readFrom readNumber start columnOf gather lists R parent t children isUnder subtreeOf topUpdate frontRoom roomAt
     entriesAfter rooms peakOf columnAt siblingKey alone arranged stepsOf orderOf orderPeak gapsOf listNumbers listsNumbers listsOf keyNumbers
     keyOf planFor planOf stepNumbers planNumbers planBytes then onto inField field readStep readSteps readRows readList readLists atEnd readPlan
-    first refusedIf refusedAt outcome fallsAt startsTest rowFault rowsFault columnFault rowsTest jobRefusals allZero holding someShort
+    first refusedIf refusedAt faultTest outcome fallsAt startsTest rowFault rowsFault columnFault jobRefusals allZero someShort
     earlyRefusals holdingPlan analysisEarly analysisLate analysisDone analysed planEarly planLate planDone planZero planWritten differsAt planRead
     readTest repeatedAt scattered truePeak judgeRefusals planTest planRefusals checkEarly checkLate checkDone checked roomsOf isDigit startingWith
-    cut afterLines onWord wordsOf isDecimal allDecimal valueOf numbersOf numbersAt headOf rowsOfLine isRowLine textHead textLists textJob headTest
-    lineFault rowLinesTest endTest textRefusals digitsOf decimalOf printed refusalLine stepLines listingOf buffers jobPrinted programPrints
+    cut afterLines onWord wordsOf isDecimal allDecimal valueOf numbersOf numbersAt headOf rowsOfLine isRowLine textHead textLists textJob
+    lineFault textRefusals digitsOf decimalOf printed refusalLine stepLines listingOf buffers jobPrinted programPrints
 holds (number x bytes) = same (bytesOf x) bytes
 holds (analysis job a) = sameAnswer (analysed job (lentFor (job .n)) .answered) a
 holds (order job columns) = same (analysed job (lentFor (job .n)) .lent .order) columns

@@ -36,17 +36,6 @@ module _ (n j : ℕ) where
       go zero e (fault k f q l x h) = fault (suc k) f (rows-next n j before r rs e ∙ q) (omega arith) x (also k e h)
       go (suc g) e s = fault 0 g (rows-fault n j before r rs (omega arith) ∙ e) (omega arith) e (λ i l. absurd (omega arith))
 
-  pub fine-iff : (before : ℕ) (rs : List ℕ) → (rowsFault n j before rs ≡ 0) ↔ ((k : ℕ) → k < length rs → faultOf before rs k ≡ 0)
-  fine-iff before rs = (λ z. there z (scan before rs), λ h. back h (scan before rs))
-    where
-      there : rowsFault n j before rs ≡ 0 → Scan before rs → (k : ℕ) → k < length rs → faultOf before rs k ≡ 0
-      there z (fine q h) = h
-      there z (fault k f q l x h) = absurd (omega arith)
-
-      back : ((k : ℕ) → k < length rs → faultOf before rs k ≡ 0) → Scan before rs → rowsFault n j before rs ≡ 0
-      back h (fine q g) = q
-      back h (fault k f q l x g) = absurd (omega (arith, h k l))
-
   pub fault-iff : (before : ℕ) (rs : List ℕ) (f : ℕ)
       → (rowsFault n j before rs ≡ suc f) ↔ ((k : ℕ) × (k < length rs) × (faultOf before rs k ≡ suc f) × ((i : ℕ) → i < k → faultOf before rs i ≡ 0))
   fault-iff before rs f = (λ e. there e (scan before rs), λ h. back h (scan before rs))

@@ -6,15 +6,13 @@ use mathlib.Core.Path.{_≡_, refl}
 use mathlib.Core.Logic.{_↔_, _⊎_, inl, inr}
 use native.Mathlib.Omega.{arith}
 use lib.ListN.{length}
-use Rattle.papers.specs.declared.Answer.{Answer}
-use Rattle.papers.specs.Lists.{Least}
 use Rattle.papers.specs.Refusals.{answer}
-use Rattle.papers.specs.Job.{columnOf, columnFault, rowsTest, RowLists, rowOf, IsRow, Outside, NotAbove, FineBefore, five, six, FaultyRow}
+use Rattle.papers.specs.Job.{columnOf, columnFault, RowLists, rowOf, IsRow, Outside, NotAbove, FineBefore, five, six, FaultyColumn, badRow}
 use Rattle.list_laws.proofs.Tests.{below-or}
 use Rattle.job_laws.proofs.Rows.{row-low, row-over, row-falls, row-fine}
-use Rattle.refusal_laws.proofs.Agreements.{Agree, agree-same}
-use Rattle.refusal_laws.proofs.Tests.{below-iff, agree-at}
-use Rattle.refusal_laws.proofs.ColumnRows.{faultOf, fine-iff, fault-iff}
+use Rattle.refusal_laws.proofs.Agreements.{Agree}
+use Rattle.refusal_laws.proofs.Tests.{Faults, agree-faults}
+use Rattle.refusal_laws.proofs.ColumnRows.{faultOf, fault-iff}
 
 module _ (c : RowLists) where
   -- row k of column j has neither fault
@@ -69,12 +67,6 @@ module _ (c : RowLists) where
   abbrev faultIn : ℕ → ℕ
   faultIn j = columnFault (c .n) (c .starts) (c .rows) j
 
-  column-fine-iff : (j : ℕ) → (faultIn j ≡ 0) ↔ ((k : ℕ) → k < length (columnOf (c .starts) (c .rows) j) → RowFine j k)
-  unfolding columnFault
-  column-fine-iff j =
-      let i = fine-iff (c .n) j j (columnOf (c .starts) (c .rows) j) in
-      (λ z k l. row-fine-iff j k .1 (i .0 z k l), λ h. i .1 (λ k l. row-fine-iff j k .0 (h k l)))
-
   column-fault-iff : (j f : ℕ)
       → (faultIn j ≡ suc f) ↔ ((k : ℕ) × (k < length (columnOf (c .starts) (c .rows) j)) × (rowFaultAt j k ≡ suc f) × ((i : ℕ) → i < k → RowFine j i))
   unfolding columnFault
@@ -84,29 +76,9 @@ module _ (c : RowLists) where
         λ (k, l, x, m). t .1 (k, l, x, λ i h. row-fine-iff j i .0 (m i h)),
       )
 
-  -- the test names the least column at fault
-  abbrev Named : Answer → Type 0
-  Named a = (j : ℕ) × Least (λ j. 0 < faultIn j) (c .n) j × (a ≡ answer (faultIn j) j 0)
-
-  named : (j k f : ℕ) → IsRow c j k → FineBefore c j k → rowFaultAt j k ≡ suc f → Named (answer (suc f) j 0)
-  named j k f here before e =
-      let q = column-fault-iff j f .1 (k, here .2, e, before .1) in
-      (j, ((here .0, here .1), omega arith, λ i l h p. absurd (omega (arith, column-fine-iff i .1 (λ m u. before .0 i m h (l, omega arith, u))))), cc)
-
-  from-named : (a : Answer) (j : ℕ) → Least (λ j. 0 < faultIn j) (c .n) j → (f : ℕ) → faultIn j ≡ f → a ≡ answer f j 0 → FaultyRow c a
-  from-named a j l zero e q = absurd (omega (arith, l .1))
-  from-named a j l (suc f) e q = let (k, u, x, m) = column-fault-iff j f .0 e in go k (l .0 .0, l .0 .1, u) x (earlier, m) (row-is j k)
-    where
-      earlier : (i r : ℕ) → i < j → IsRow c i r → RowFine i r
-      earlier i r h s = column-fine-iff i .0 (let z = l .2 i (s .0) h in omega arith) r (s .2)
-
-      go : (k : ℕ) → IsRow c j k → rowFaultAt j k ≡ suc f → FineBefore c j k → RowIs j k → FaultyRow c a
-      go k here x before (outside y o) = let z : a ≡ answer 5 j 0 = cc in rw z (five here before o)
-      go k here x before (fallen y o n) = let z : a ≡ answer 6 j 0 = cc in rw z (six here before o n)
-      go k here x before (clear y n) = absurd (omega arith)
-
-  named-iff : (a : Answer) → Named a ↔ FaultyRow c a
-  named-iff a = (λ (j, l, q). from-named a j l (faultIn j) refl q, back a)
+  -- the fault of a column is the one whose condition holds
+  column-faults : Faults faultIn (FaultyColumn c)
+  column-faults = record { is = is; some = λ j. some j (faultIn j) refl }
     where
       is-five : {j k : ℕ} → Outside c j k → RowIs j k → rowFaultAt j k ≡ 5
       is-five o (outside e p) = e
@@ -118,11 +90,19 @@ module _ (c : RowLists) where
       is-six o x (fallen e p y) = e
       is-six o x (clear e f) = absurd (f .1 x)
 
-      back : (a : Answer) → FaultyRow c a → Named a
-      back a (five {j = j} {k = k} here before o) = named j k 4 here before (is-five o (row-is j k))
-      back a (six {j = j} {k = k} here before o x) = named j k 5 here before (is-six o x (row-is j k))
+      is : (j m : ℕ) → FaultyColumn c j m → (faultIn j ≡ m) × (0 < m)
+      is j m (five {k = k} here before o) = (column-fault-iff j 4 .1 (k, here, is-five o (row-is j k), before), omega arith)
+      is j m (six {k = k} here before o x) = (column-fault-iff j 5 .1 (k, here, is-six o x (row-is j k), before), omega arith)
+
+      some : (j f : ℕ) → faultIn j ≡ f → (faultIn j ≡ 0) ⊎ FaultyColumn c j (faultIn j)
+      some j zero e = inl e
+      some j (suc f) e = let (k, here, x, before) = column-fault-iff j f .0 e in inr (rw e (go k here x before (row-is j k)))
+        where
+          go : (k : ℕ) → IsRow c j k → rowFaultAt j k ≡ suc f → FineBefore c j k → RowIs j k → FaultyColumn c j (suc f)
+          go k here x before (outside y o) = let z : suc f ≡ 5 = omega arith in rw z (five here before o)
+          go k here x before (fallen y o n) = let z : suc f ≡ 6 = omega arith in rw z (six here before o n)
+          go k here x before (clear y n) = absurd (omega arith)
 
   -- the test of 5 and 6 agrees with its condition
-  pub rows-agree : Agree (rowsTest (c .n) (c .starts) (c .rows)) (FaultyRow c)
-  unfolding rowsTest
-  rows-agree = agree-same _ (agree-at _ (c .n) (λ k l h. below-iff 0 (faultIn k)) faultIn (λ j. 0) (λ j l u p. p)) named-iff
+  pub rows-agree : Agree (badRow .test c) (badRow .gives c)
+  rows-agree = agree-faults column-faults (c .n) (λ number j. answer number j 0) (λ m j h. h)

@@ -10,10 +10,11 @@ use lib.Dec.{ltb, eqb}
 use borrow.Author.Tests.{ltb-true, ltb-false, lt-ltb, eqb-true, eq-eqb, not-true}
 use Rattle.papers.specs.declared.Answer.{Answer}
 use Rattle.papers.specs.Lists.{least, Least}
-use Rattle.papers.specs.Refusals.{answer, Verdict, passed, refused, refusedIf, refusedAt}
+use Rattle.papers.specs.Refusals.{answer, Verdict, passed, refused, refusedIf, refusedAt, faultTest}
 use Rattle.list_laws.proofs.Tests.{Test, passes, fails, test, Compare, below, level, above, compare, true-false}
 use Rattle.list_laws.proofs.Leasts.{least-zero-iff, least-found-iff}
 use Rattle.job_laws.proofs.Firsts.{refused-passed, refused-if, passed-if}
+use Rattle.job_laws.proofs.Faults.{faulty, faults-pass, faults-found}
 use Rattle.refusal_laws.proofs.Agreements.{Agree, agree-by}
 
 -- ---- comparisons
@@ -120,12 +121,12 @@ pub record FirstFaults (fault : ℕ → ℕ) (Bad : ℕ → ℕ → Type 0) : Ty
 
 module _ {fault : ℕ → ℕ} {Bad : ℕ → ℕ → Type 0} (faults : FirstFaults fault Bad) (n : ℕ) where
   -- a fault is found at p + 1: it is that of the condition, and no place before has one
-  first-fault : (p : ℕ) → least (λ k. ltb 0 (fault k)) n ≡ suc p
+  first-fault : (p : ℕ) → least (faulty fault) n ≡ suc p
       → (suc p ≤ n) × Bad (suc p) (fault (suc p)) × ((i : ℕ) → 1 ≤ i → i < suc p → fault i ≡ 0)
   first-fault p e = (at .0, go (ltb-true 0 (fault (suc p)) (at .1)) (faults .some (suc p) before), before)
     where
       at : (suc p ≤ n) × (ltb 0 (fault (suc p)) ≡ true) × ((k : ℕ) → 1 ≤ k → k ≤ p → ltb 0 (fault k) ≡ false)
-      at = least-found-iff (λ k. ltb 0 (fault k)) n p .0 e
+      at = least-found-iff (faulty fault) n p .0 e
 
       before : (i : ℕ) → 1 ≤ i → i < suc p → fault i ≡ 0
       before i l h = omega (arith, ltb-false 0 (fault i) (at .2 i l (omega arith)))
@@ -134,35 +135,33 @@ module _ {fault : ℕ → ℕ} {Bad : ℕ → ℕ → Type 0} (faults : FirstFau
       go h (inl z) = absurd (omega arith)
       go h (inr b) = b
 
-  -- a verdict that names the least place at fault, with its fault
-  pub agree-first-faults : (v : Verdict) (given : ℕ → ℕ → Answer) → ((m k : ℕ) → 0 < m → 0 < given m k .number)
-      → (least (λ k. ltb 0 (fault k)) n ≡ 0 → v ≡ passed)
-      → ((p : ℕ) → least (λ k. ltb 0 (fault k)) n ≡ suc p → v ≡ refused (given (fault (suc p)) (suc p)))
-      → Agree v (λ a. (k m : ℕ) × ((1 ≤ k) × (k ≤ n)) × Bad k m × ((i m : ℕ) → 1 ≤ i → i < k → ¬ Bad i m) × (a ≡ given m k))
-  agree-first-faults v given some pass refuse =
-      agree-by v _ (λ a (k, m, r, b, none, q). rw q (is k m r b none (least (λ k. ltb 0 (fault k)) n) refl, some m k (faults .is k m b .1)))
-      (there (least (λ k. ltb 0 (fault k)) n) refl)
+  -- the test that finds the first place at fault agrees with the conditions of the faults
+  pub agree-first-faults : (given : ℕ → ℕ → Answer) → ((m k : ℕ) → 0 < m → 0 < given m k .number) → Agree (faultTest fault n given)
+      (λ a. (k m : ℕ) × ((1 ≤ k) × (k ≤ n)) × Bad k m × ((i m : ℕ) → 1 ≤ i → i < k → ¬ Bad i m) × (a ≡ given m k))
+  agree-first-faults given some =
+      agree-by _ _ (λ a (k, m, r, b, none, q). rw q (is k m r b none (least (faulty fault) n) refl, some m k (faults .is k m b .1)))
+      (there (least (faulty fault) n) refl)
     where
-      there : (p : ℕ) → least (λ k. ltb 0 (fault k)) n ≡ p
-          → (v ≡ passed) ⊎ ((a : Answer) × ((k m : ℕ) × ((1 ≤ k) × (k ≤ n)) × Bad k m × ((i m : ℕ) → 1 ≤ i → i < k → ¬ Bad i m) × (a ≡ given m k)))
-      there zero e = inl (pass e)
+      there : (p : ℕ) → least (faulty fault) n ≡ p → (faultTest fault n given ≡ passed)
+          ⊎ ((a : Answer) × ((k m : ℕ) × ((1 ≤ k) × (k ≤ n)) × Bad k m × ((i m : ℕ) → 1 ≤ i → i < k → ¬ Bad i m) × (a ≡ given m k)))
+      there zero e = inl (faults-pass fault n given e)
       there (suc p) e =
           let (l, b, before) = first-fault p e in
           inr (_, (suc p, fault (suc p), (omega arith, l), b, λ i m f h x. let j = faults .is i m x in omega (arith, before i f h), refl))
 
-      is : (k m : ℕ) → (1 ≤ k) × (k ≤ n) → Bad k m → ((i m : ℕ) → 1 ≤ i → i < k → ¬ Bad i m) → (p : ℕ) → least (λ k. ltb 0 (fault k)) n ≡ p
-          → v ≡ refused (given m k)
+      is : (k m : ℕ) → (1 ≤ k) × (k ≤ n) → Bad k m → ((i m : ℕ) → 1 ≤ i → i < k → ¬ Bad i m) → (p : ℕ) → least (faulty fault) n ≡ p
+          → faultTest fault n given ≡ refused (given m k)
       is k m r b none zero e =
           let (f, h) = faults .is k m b in
-          absurd (omega (arith, ltb-false 0 (fault k) (least-zero-iff (λ k. ltb 0 (fault k)) n .0 e k (r .0) (r .1))))
+          absurd (omega (arith, ltb-false 0 (fault k) (least-zero-iff (faulty fault) n .0 e k (r .0) (r .1))))
       is k m r b none (suc p) e = go (compare k (suc p))
         where
           found : (suc p ≤ n) × Bad (suc p) (fault (suc p)) × ((i : ℕ) → 1 ≤ i → i < suc p → fault i ≡ 0)
           found = first-fault p e
 
-          go : Compare k (suc p) → v ≡ refused (given m k)
+          go : Compare k (suc p) → faultTest fault n given ≡ refused (given m k)
           go (below h) = let (f, s) = faults .is k m b in absurd (omega (arith, found .2 k (r .0) h))
-          go (level h) = rw (← faults .is k m b .0, h) (refuse p e)
+          go (level h) = rw (← faults .is k m b .0, h) (faults-found fault n given p e)
           go (above h) = absurd (none (suc p) (fault (suc p)) (omega arith) h (found .1))
 
 -- the fault of place k, whatever the places before it have: none, or m exactly when `Bad k m`
@@ -170,10 +169,7 @@ pub record Faults (fault : ℕ → ℕ) (Bad : ℕ → ℕ → Type 0) : Type 0 
   pub is : (k m : ℕ) → Bad k m → (fault k ≡ m) × (0 < m)
   pub some : (k : ℕ) → (fault k ≡ 0) ⊎ Bad k (fault k)
 
--- a verdict that names the least place at fault, with its fault
-pub agree-faults : {fault : ℕ → ℕ} {Bad : ℕ → ℕ → Type 0} → Faults fault Bad → (n : ℕ) (v : Verdict) (given : ℕ → ℕ → Answer)
+pub agree-faults : {fault : ℕ → ℕ} {Bad : ℕ → ℕ → Type 0} → Faults fault Bad → (n : ℕ) (given : ℕ → ℕ → Answer)
     → ((m k : ℕ) → 0 < m → 0 < given m k .number)
-    → (least (λ k. ltb 0 (fault k)) n ≡ 0 → v ≡ passed)
-    → ((p : ℕ) → least (λ k. ltb 0 (fault k)) n ≡ suc p → v ≡ refused (given (fault (suc p)) (suc p)))
-    → Agree v (λ a. (k m : ℕ) × ((1 ≤ k) × (k ≤ n)) × Bad k m × ((i m : ℕ) → 1 ≤ i → i < k → ¬ Bad i m) × (a ≡ given m k))
+    → Agree (faultTest fault n given) (λ a. (k m : ℕ) × ((1 ≤ k) × (k ≤ n)) × Bad k m × ((i m : ℕ) → 1 ≤ i → i < k → ¬ Bad i m) × (a ≡ given m k))
 agree-faults faults n = agree-first-faults (record { is = faults .is; some = λ k before. faults .some k }) n

@@ -11,9 +11,9 @@ use lib.Dec.{ltb, leb}
 use lib.ListN.{length, take}
 use borrow.Author.Tests.{ltb-false, leb-true, le-ltb, le-leb}
 use Rattle.papers.specs.Lists.{member, every}
-use Rattle.papers.specs.Refusals.{answer, refusedAt}
+use Rattle.papers.specs.Refusals.{answer}
 use Rattle.papers.specs.Order.{columnAt}
-use Rattle.papers.specs.Run.{RunCall, rowsIn, popsAt, roomIn, fits, stepFault, stateAfter, faultAt, stepsTest, stepColumn, heldAt, KnownColumn}
+use Rattle.papers.specs.Run.{RunCall, rowsIn, popsAt, roomIn, fits, stepFault, stateAfter, faultAt, stepColumn, heldAt, KnownColumn}
 use Rattle.papers.specs.Run.{badStep}
 use Rattle.papers.specs.Run.{AllFit, FaultyStep, unknown-column, too-many-pops, row-outside, over-room}
 use Rattle.list_laws.proofs.Tests.{Test, passes, fails, test, and-iff}
@@ -96,7 +96,4 @@ module _ (call : RunCall) where
 
   -- the test of the steps (14, 21, 22, 23) agrees with its condition
   pub steps-agree : Agree (badStep .test call) (badStep .gives call)
-  unfolding stepsTest refusedAt
-  steps-agree =
-      agree-faults step-faults (call .n) _ (λ number s. answer number s (stateAfter call (s - 1) .greatest)) (λ m s h. h)
-      (λ e. rw e) (λ p e. rw e)
+  steps-agree = agree-faults step-faults (call .n) (λ number s. answer number s (stateAfter call (s - 1) .greatest)) (λ m s h. h)

@@ -6,7 +6,7 @@ use mathlib.Core.List.{List}
 use Rattle.papers.specs.Lists.{flat, startsFrom}
 use Rattle.papers.specs.Job.{Job}
 use Rattle.papers.specs.Plan.{Plan, columnsIn, popsIn, Fit}
-use Rattle.papers.specs.Analysis.{Lent, holding, holdingPlan}
+use Rattle.papers.specs.Analysis.{Lent, holdingPlan}
 use Rattle.papers.specs.Run.{handedOn}
 use Rattle.list_laws.proofs.Stores.{take-then-zeros}
 use Rattle.job_laws.proofs.Parts.{length-columns, length-pops, length-begins, last-begin}
@@ -15,7 +15,7 @@ use Rattle.run_laws.specs.Runs.{planRun}
 -- a run of the lists handed on is a run of the plan's own lists
 pub handed-on : (job : Job) (plan : Plan) (lent : Lent) (room : ℕ) (stack : List ℕ) → Fit (job .n) plan
     → handedOn (job .n) (holdingPlan job plan lent) room stack ≡ planRun (job .n) plan room stack
-unfolding handedOn holdingPlan holding
+unfolding handedOn holdingPlan
 handed-on job plan lent room stack fit =
     rw (
       take-then-zeros (startsFrom 0 (plan .lists)) (lent .factorStarts) (length-begins fit),

@@ -13,9 +13,9 @@ use borrow.Author.Tests.{lt-ltb, le-ltb}
 use Rattle.papers.specs.declared.Answer.{Answer}
 use Rattle.papers.specs.Lists.{least, zeros}
 use Rattle.papers.specs.Refusals.{answer, Verdict, passed, refused, first, Outcome, outcome}
-use Rattle.papers.specs.Run.{RunCall, State, stateAfter, faultAt, stepsTest, badStep, updatesLeft, runLate, runDone}
+use Rattle.papers.specs.Run.{RunCall, State, stateAfter, faultAt, badStep, updatesLeft, runLate, runDone}
 use Rattle.job_laws.proofs.Firsts.{first-none, first-passes, first-refuses, first-last, refused-if, passed-if}
-use Rattle.job_laws.proofs.Faults.{faulty, faultTest, faults-pass, faults-refuse}
+use Rattle.job_laws.proofs.Faults.{faulty, faults-pass, faults-refuse}
 use Rattle.job_laws.proofs.Outcomes.{outcome-late, outcome-done}
 use Rattle.run_steps.specs.Steps.{stepsAnswer}
 
@@ -31,9 +31,9 @@ module _ (call : RunCall) where
   answer-passed : first runLate call ≡ passed → runDone call .answered ≡ stepsAnswer call
   answer-passed e = sym (ap (λ (o : Outcome (List ℕ)). o .answered) (outcome-done [] runLate runDone zeros call (call .stack) (first-none call) e))
 
-  steps-test-is : stepsTest call ≡ faultTest (faultAt call) (call .n) (λ s. stateAfter call (s - 1) .greatest)
-  unfolding stepsTest
-  steps-test-is = refl
+  -- the answer for the fault of step s
+  abbrev given : ℕ → ℕ → Answer
+  given number s = answer number s (stateAfter call (s - 1) .greatest)
 
   -- ---- the ways out
 
@@ -43,16 +43,15 @@ module _ (call : RunCall) where
   unfolding runLate
   answer-fault {fault} {done} {greatest} z l e h g =
       let before : stateAfter call done ≡ stateAfter call (suc done - 1) = ap (stateAfter call) (omega arith) in
-      let refuses = faults-refuse (faultAt call) (call .n) (λ s. stateAfter call (s - 1) .greatest) done z (omega arith) (omega (arith, e)) in
-      (rw (add-one, ← e, g ∙ ap (λ (s : State). s .greatest) before)) ∙ answer-late (first-refuses badStep _ call (steps-test-is ∙ refuses))
+      let refuses = faults-refuse (faultAt call) (call .n) given done z (omega arith) (omega (arith, e)) in
+      (rw (add-one, ← e, g ∙ ap (λ (s : State). s .greatest) before)) ∙ answer-late (first-refuses badStep _ call refuses)
 
   -- no step is at fault
   module _ {greatest : ℕ} (z : least (faulty (faultAt call)) (call .n) ≡ 0) (g : greatest ≡ stateAfter call (call .n) .greatest) where
     rest : first runLate call ≡ updatesLeft .test call
     unfolding runLate
     rest =
-        first-passes badStep (updatesLeft ∷ []) call (steps-test-is ∙ faults-pass (faultAt call) (call .n) (λ s. stateAfter call (s - 1) .greatest) z)
-        ∙ first-last updatesLeft call
+        first-passes badStep (updatesLeft ∷ []) call (faults-pass (faultAt call) (call .n) given z) ∙ first-last updatesLeft call
 
     -- updates are left
     pub answer-left : 0 < length (stateAfter call (call .n) .held) → answer 24 (call .n) greatest ≡ stepsAnswer call

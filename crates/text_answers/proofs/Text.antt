@@ -2,26 +2,24 @@
 -- agree only if line 1 is well formed; that of a row line only if the row lines before it have no fault.
 -- Assumes nothing.
 use Prim.Native.Nat.{ℕ, suc, _+_, _<_, _≤_}
-use mathlib.Core.Path.{_≡_, refl, ap, _∙_}
+use mathlib.Core.Path.{_≡_, refl, ap}
 use mathlib.Core.Logic.{_⊎_, inl, inr, _≢_}
 use mathlib.Core.Bool.{true, false}
 use mathlib.Core.List.{List, [], _∷_}
 use native.Mathlib.Omega.{arith}
 use lib.ListN.{length}
-use Rattle.papers.specs.declared.Answer.{Answer}
 use Rattle.papers.specs.declared.JobHead.{JobHead}
 use Rattle.papers.specs.Bounds.{inputBytes, programColumns, programRows}
 use Rattle.papers.specs.Lists.{flat}
-use Rattle.papers.specs.Refusals.{answer, passed, refused}
+use Rattle.papers.specs.Refusals.{answer}
 use Rattle.papers.specs.Text.{numbersAt, isRowLine, afterLines, Head, HeadLine, textHead, textLists}
-use Rattle.papers.specs.Text.{Input, inputOver, headTest, HeadFault, bad-head, columns-over, badHead, lineFault, rowLinesTest}
-use Rattle.papers.specs.Text.{FaultyLine, bad-line, rows-over, badLine, endTest, textAfter, textRefusals}
+use Rattle.papers.specs.Text.{Input, inputOver, badHead, headOver, lineFault}
+use Rattle.papers.specs.Text.{FaultyLine, bad-line, rows-over, badLine, textAfter, textRefusals}
 use Rattle.list_laws.proofs.Tests.{Test, passes, fails, test, true-false, below-or, same-or}
 use Rattle.text_laws.proofs.TextLists.{length-lists}
-use Rattle.text_laws.proofs.LineTests.{head-bad, head-fine, head-passed, line-bad, line-over, line-fine, line-is-row}
-use Rattle.job_laws.proofs.Firsts.{over-refuses, over-passes-iff}
-use Rattle.refusal_laws.proofs.Agreements.{Agree, agree-same, agree-by, AgreeEach, _▸_}
-use Rattle.refusal_laws.proofs.Tests.{below-iff, either-iff, agree-if, FirstFaults, agree-first-faults}
+use Rattle.text_laws.proofs.LineTests.{head-passed, line-bad, line-over, line-fine, line-is-row}
+use Rattle.refusal_laws.proofs.Agreements.{Agree, agree-same, AgreeEach, _▸_}
+use Rattle.refusal_laws.proofs.Tests.{below-iff, either-iff, not-iff, agree-if, FirstFaults, agree-first-faults}
 use Rattle.text_answers.proofs.TextLines.{head-fine-line, head-line-read, only-head, row-line-iff, row-lines-iff}
 
 -- ---- the whole input, and line 1
@@ -31,30 +29,12 @@ module _ (input : Input) where
   input-agree : Agree (inputOver .test input) (inputOver .gives input)
   input-agree = agree-if _ _ (omega arith) (either-iff (input .more) _ (λ e. e, λ e. e) (below-iff inputBytes (length (input .text))))
 
-  -- the test of line 1 (25 and 26) agrees with its condition
+  -- the test of 25 at line 1 agrees with its condition
   head-agree : Agree (badHead .test input) (badHead .gives input)
-  head-agree = agree-by _ _ gives (go (test (textHead (input .text) .fine)) (below-or programColumns (textHead (input .text) .head .n)))
-    where
-      gives : (a : Answer) → HeadFault (input .text) a → (headTest input ≡ refused a) × (0 < a .number)
-      gives a (bad-head none) = (head-bad input (bad (test (textHead (input .text) .fine))), omega arith)
-        where
-          bad : Test (textHead (input .text) .fine) → textHead (input .text) .fine ≡ false
-          bad (passes f) = absurd (none _ (head-fine-line (input .text) f))
-          bad (fails f) = f
-      gives a (columns-over l o) =
-          let e = head-line-read (input .text) l in
-          let over : programColumns < textHead (input .text) .head .n = rw e o in
-          (head-fine input (ap (λ (h : Head). h .fine) e) ∙ over-refuses programColumns _ _ over, omega arith)
-
-      go : Test (textHead (input .text) .fine)
-          → (programColumns < textHead (input .text) .head .n) ⊎ (textHead (input .text) .head .n ≤ programColumns)
-          → (headTest input ≡ passed) ⊎ ((a : Answer) × HeadFault (input .text) a)
-      go (fails f) c = inr (answer 25 1 0, bad-head none)
-        where
-          none : (head : JobHead) → ¬ HeadLine (input .text) head
-          none head l = true-false (ap (λ (h : Head). h .fine) (head-line-read (input .text) l)) f
-      go (passes f) (inl o) = inr (answer 26 1 0, columns-over (head-fine-line (input .text) f) o)
-      go (passes f) (inr l) = inl (head-fine input f ∙ over-passes-iff programColumns _ _ .1 l)
+  head-agree =
+      let i = not-iff (textHead (input .text) .fine) {P = (head : JobHead) × HeadLine (input .text) head}
+      (λ f. (_, head-fine-line (input .text) f), λ (head, l). ap (λ (h : Head). h .fine) (head-line-read (input .text) l)) in
+      agree-if _ _ (omega arith) (λ e head l. i .0 e (head, l), λ none. i .1 (λ (head, l). none head l))
 
 -- ---- the row lines
 
@@ -100,24 +80,25 @@ module _ (text : List ℕ) where
       go j before (passes r) (inr o) = inl (line-fine text j r o)
 
 module _ (input : Input) (fine : textHead (input .text) .fine ≡ true) where
+  -- the test of 26 at line 1 agrees with its condition
+  columns-agree : Agree (headOver .test input) (headOver .gives input)
+  columns-agree =
+      agree-same _ (agree-if _ _ (omega arith) (below-iff programColumns (textHead (input .text) .head .n)))
+      (λ a. only-head (input .text) fine (λ head. (programColumns < head .n) × (a ≡ answer 26 1 0)))
+
   -- the test of the row lines (25 and 26) agrees with its condition
   lines-agree : Agree (badLine .test input) (badLine .gives input)
-  unfolding rowLinesTest
   lines-agree =
       agree-same _
-      (agree-first-faults (line-faults (input .text)) (textHead (input .text) .head .n) _ (λ number j. answer number (suc j) 0) (λ m k h. h)
-      (λ e. rw (e, rowLinesTest)) (λ p e. rw (e, rowLinesTest)))
+      (agree-first-faults (line-faults (input .text)) (textHead (input .text) .head .n) (λ number j. answer number (suc j) 0) (λ m k h. h))
       (λ a. only-head (input .text) fine (λ head. (j number : ℕ) × ((1 ≤ j) × (j ≤ head .n)) × FaultyLine (input .text) j number
       × ((k m : ℕ) → 1 ≤ k → k < j → ¬ FaultyLine (input .text) k m) × (a ≡ answer number (suc j) 0)))
 
   -- the test of 25 behind the last row line agrees with its condition
   end-agree : Agree (textAfter .test input) (textAfter .gives input)
-  unfolding endTest
   end-agree =
       agree-same _ (agree-if _ _ (omega arith) (below-iff 0 (length (afterLines (suc (textHead (input .text) .head .n)) (input .text)))))
-      (λ a. let i = only-head (input .text) fine
-      (λ head. (0 < length (afterLines (suc (head .n)) (input .text))) × (a ≡ answer 25 (head .n + 2) 0)) in
-      (λ h. let (head, l, (o, e)) = i .0 h in (head, l, o, e), λ (head, l, o, e). i .1 (head, l, (o, e))))
+      (λ a. only-head (input .text) fine (λ head. (0 < length (afterLines (suc (head .n)) (input .text))) × (a ≡ answer 25 (head .n + 2) 0)))
 
 -- a text is refused exactly by the numbers and lines of its conditions
 pub text-agree : (input : Input) → AgreeEach textRefusals input
@@ -125,6 +106,7 @@ unfolding textRefusals
 text-agree input =
     input-agree input
     ▸ λ p. head-agree input
-    ▸ λ p. lines-agree input (head-passed input p)
-    ▸ λ q. end-agree input (head-passed input p)
-    ▸ λ r. tt
+    ▸ λ p. columns-agree input (head-passed input p)
+    ▸ λ q. lines-agree input (head-passed input p)
+    ▸ λ r. end-agree input (head-passed input p)
+    ▸ λ s. tt

@@ -30,7 +30,7 @@ text-names input u =
     let text = input .text in
     let n = textHead text .head .n in
     let each = first-passed-iff textRefusals input .0 (passed-iff textRefusals input (text-agree input) .1 u) in
-    let fine = lines-passed input (each .1 .1 .0) in
+    let fine = lines-passed input (each .1 .1 .1 .0) in
     record {
       first-line = head-fine-line text (head-passed input (each .1 .0));
       columns = length-lists text n;

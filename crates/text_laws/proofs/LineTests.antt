@@ -1,7 +1,7 @@
 -- The tests of a text's lines by what they read: line 1 by its numbers, the line of a column by its numbers and the rows so far.
 -- Assumes nothing.
 use Prim.Native.Nat.{ℕ, zero, suc, _<_, _≤_}
-use mathlib.Core.Path.{_≡_, refl, sym, _∙_}
+use mathlib.Core.Path.{_≡_, refl}
 use mathlib.Core.Logic.{_⊎_, inl, inr}
 use mathlib.Core.Bool.{Bool, true, false}
 use mathlib.Core.List.{List}
@@ -11,33 +11,25 @@ use lib.ListN.{length}
 use borrow.Author.Tests.{ltb-false, lt-ltb, le-ltb}
 use Rattle.papers.specs.Bounds.{programColumns, programRows}
 use Rattle.papers.specs.Lists.{least, flat}
-use Rattle.papers.specs.Refusals.{answer, passed, refused, refusedIf}
-use Rattle.papers.specs.Text.{Input, numbersAt, isRowLine, textHead, textLists, headTest, lineFault, rowLinesTest}
+use Rattle.papers.specs.Refusals.{passed, refusedIf, faultTest}
+use Rattle.papers.specs.Text.{Input, numbersAt, isRowLine, textHead, textLists, badHead, headOver, lineFault, badLine}
 use Rattle.list_laws.proofs.Leasts.{least-zero-iff}
 use Rattle.list_laws.proofs.Tests.{Test, passes, fails, test, below-or}
 
 -- ---- line 1
 
 module _ (input : Input) where
-  pub head-bad : textHead (input .text) .fine ≡ false → headTest input ≡ refused (answer 25 1 0)
-  unfolding headTest
-  head-bad f = rw (f, headTest)
-
-  pub head-fine : textHead (input .text) .fine ≡ true
-      → headTest input ≡ refusedIf (ltb programColumns (textHead (input .text) .head .n)) (answer 26 1 0)
-  unfolding headTest
-  head-fine f = rw (f, headTest)
-
   -- one that passes is well formed
-  pub head-passed : headTest input ≡ passed → textHead (input .text) .fine ≡ true
+  pub head-passed : badHead .test input ≡ passed → textHead (input .text) .fine ≡ true
+  unfolding refusedIf
   head-passed e = go (test (textHead (input .text) .fine))
     where
       go : Test (textHead (input .text) .fine) → textHead (input .text) .fine ≡ true
       go (passes f) = f
-      go (fails f) = let q = sym (head-bad f) ∙ e in let z : _≡_ {A = ℕ} 0 1 = cc in absurd (omega arith)
+      go (fails f) = let q = rw (f, refusedIf) at e in let z : _≡_ {A = ℕ} 0 1 = cc in absurd (omega arith)
 
   -- and names no more columns than the program has
-  pub head-columns : headTest input ≡ passed → textHead (input .text) .head .n ≤ programColumns
+  pub head-columns : headOver .test input ≡ passed → textHead (input .text) .head .n ≤ programColumns
   unfolding refusedIf
   head-columns e = go (below-or programColumns (textHead (input .text) .head .n))
     where
@@ -45,7 +37,7 @@ module _ (input : Input) where
           → textHead (input .text) .head .n ≤ programColumns
       go (inr l) = l
       go (inl l) =
-          let q = rw (lt-ltb programColumns (textHead (input .text) .head .n) l, refusedIf) at (sym (head-fine (head-passed e)) ∙ e) in
+          let q = rw (lt-ltb programColumns (textHead (input .text) .head .n) l, refusedIf) at e in
           let z : _≡_ {A = ℕ} 0 1 = cc in
           absurd (omega arith)
 
@@ -74,9 +66,9 @@ module _ (text : List ℕ) (j : ℕ) where
       go (fails r) = absurd (omega (arith, line-bad r))
 
 -- row lines that pass have no fault
-pub lines-passed : (input : Input) → rowLinesTest input ≡ passed → (j : ℕ) → 1 ≤ j → j ≤ textHead (input .text) .head .n
+pub lines-passed : (input : Input) → badLine .test input ≡ passed → (j : ℕ) → 1 ≤ j → j ≤ textHead (input .text) .head .n
     → lineFault (input .text) j ≡ 0
-unfolding rowLinesTest
+unfolding faultTest
 lines-passed input e j l h =
     omega (arith, ltb-false 0 (lineFault (input .text) j) (least-zero-iff faulty (textHead (input .text) .head .n) .0 (go _ refl) j l h))
   where
@@ -86,4 +78,4 @@ lines-passed input e j l h =
     go : (p : ℕ) → least (λ j. ltb 0 (lineFault (input .text) j)) (textHead (input .text) .head .n) ≡ p
         → least faulty (textHead (input .text) .head .n) ≡ 0
     go zero z = z
-    go (suc p) z = let q = rw (z, rowLinesTest) at e in let w : _≡_ {A = ℕ} 0 1 = cc in absurd (omega arith)
+    go (suc p) z = let q = rw (z, faultTest) at e in let w : _≡_ {A = ℕ} 0 1 = cc in absurd (omega arith)

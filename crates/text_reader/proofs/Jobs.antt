@@ -12,7 +12,7 @@ use borrow.Author.Tests.{lt-ltb, le-ltb}
 use Rattle.papers.specs.declared.JobHead.{JobHead}
 use Rattle.papers.specs.Bounds.{inputBytes, programColumns}
 use Rattle.papers.specs.Refusals.{answer, refused, first}
-use Rattle.papers.specs.Text.{numbersAt, headOf, textHead, textJob, inputOver, headTest, badHead, badLine, textAfter, textRefusals}
+use Rattle.papers.specs.Text.{numbersAt, headOf, textHead, textJob, inputOver, badHead, headOver, badLine, textAfter, textRefusals}
 use Rattle.job_laws.proofs.Firsts.{first-passes, first-refuses, refused-if, passed-if}
 use Rattle.text_laws.proofs.ByWords.{behind-none}
 use Rattle.text_words.specs.Words.{LineTo}
@@ -55,27 +55,22 @@ module _ (text : List ℕ) where
       first-refuses inputOver _ (record { text = text; more = more }) (refused-if (more || ltb inputBytes (length text)) _ e)
 
   module _ (h : length text ≤ inputBytes) where
-    to-head : first textRefusals (whole text) ≡ first (badHead ∷ badLine ∷ textAfter ∷ []) (whole text)
+    to-head : first textRefusals (whole text) ≡ first (badHead ∷ headOver ∷ badLine ∷ textAfter ∷ []) (whole text)
     unfolding textRefusals
-    to-head =
-        first-passes inputOver (badHead ∷ badLine ∷ textAfter ∷ []) (whole text) (passed-if _ _ (le-ltb inputBytes (length text) h))
+    to-head = first-passes inputOver _ (whole text) (passed-if _ _ (le-ltb inputBytes (length text) h))
 
     head-refused : textHead text .fine ≡ false → first textRefusals (whole text) ≡ refused (answer 25 1 0)
-    unfolding headTest
-    head-refused f = to-head ∙ first-refuses badHead (badLine ∷ textAfter ∷ []) (whole text) (rw (f, headTest))
+    head-refused f = to-head ∙ first-refuses badHead _ (whole text) (refused-if _ _ (rw f))
 
     module _ (f : textHead text .fine ≡ true) where
+      to-columns : first textRefusals (whole text) ≡ first (headOver ∷ badLine ∷ textAfter ∷ []) (whole text)
+      to-columns = to-head ∙ first-passes badHead _ (whole text) (passed-if _ _ (rw f))
+
       columns-refused : programColumns < textHead text .head .n → first textRefusals (whole text) ≡ refused (answer 26 1 0)
-      unfolding headTest
-      columns-refused l =
-          to-head ∙ first-refuses badHead (badLine ∷ textAfter ∷ []) (whole text)
-          (rw (f, headTest) (refused-if _ _ (lt-ltb programColumns (textHead text .head .n) l)))
+      columns-refused l = to-columns ∙ first-refuses headOver _ (whole text) (refused-if _ _ (lt-ltb programColumns (textHead text .head .n) l))
 
       to-lines : textHead text .head .n ≤ programColumns → first textRefusals (whole text) ≡ first (badLine ∷ textAfter ∷ []) (whole text)
-      unfolding headTest
-      to-lines l =
-          to-head ∙ first-passes badHead (badLine ∷ textAfter ∷ []) (whole text)
-          (rw (f, headTest) (passed-if _ _ (le-ltb programColumns (textHead text .head .n) l)))
+      to-lines l = to-columns ∙ first-passes headOver _ (whole text) (passed-if _ _ (le-ltb programColumns (textHead text .head .n) l))
 
 -- ---- what is told of a text
 

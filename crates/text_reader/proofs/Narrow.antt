@@ -6,15 +6,16 @@ use mathlib.Core.Path.{_≡_, refl, sym, ap, _∙_}
 use mathlib.Core.Logic.{_⊎_, inl, inr}
 use mathlib.Core.List.{List, [], _∷_, map}
 use native.Mathlib.Omega.{arith}
-use lib.Dec.{ltb, eqb}
+use lib.Dec.{eqb}
 use lib.ListN.{length, take, drop, length-map}
 use Rattle.papers.specs.Bounds.{maxColumns}
 use Rattle.papers.specs.Lists.{least}
-use Rattle.papers.specs.Refusals.{answer, Verdict, passed, refused, refusedAt, Refusal, first}
-use Rattle.papers.specs.Job.{Job, start, columnOf, fallsAt, rowFault, rowsFault, columnFault, startsTest, rowsTest, jobRefusals}
-use Rattle.list_laws.proofs.Leasts.{least-found-iff, least-same}
+use Rattle.papers.specs.Refusals.{answer, Verdict, passed, refused, Refusal, first}
+use Rattle.papers.specs.Job.{Job, start, columnOf, fallsAt, rowFault, rowsFault, columnFault, startsTest, jobRefusals}
+use Rattle.job_laws.specs.Passed.{rowsTest}
 use Rattle.list_laws.proofs.Tests.{below-or, Test, passes, fails, test}
 use Rattle.job_laws.proofs.Firsts.{first-passes, first-refuses, over-refuses}
+use Rattle.job_laws.proofs.Faults.{faults-same}
 use Rattle.job_laws.proofs.Rows.{row-over, rows-fault, rows-next}
 use Rattle.text_lines.specs.Narrowed.{narrowed}
 use Rattle.text_reader.specs.Reading.{keptJob}
@@ -61,15 +62,7 @@ module _ (n : ℕ) (starts rows : List ℕ) (few : n ≤ maxColumns) where
   fault-same j l = rw (column-kept starts rows j) (column-same n j few l j (columnOf starts rows j))
 
   rows-same : rowsTest n starts (map narrowed rows) ≡ rowsTest n starts rows
-  unfolding rowsTest refusedAt
-  rows-same =
-      rw (least-same _ (λ j. ltb 0 (columnFault n starts rows j)) n (λ k a b. ap (ltb 0) (fault-same k b)))
-      (go (least (λ j. ltb 0 (columnFault n starts rows j)) n) refl)
-    where
-      go : (j : ℕ) → least (λ j. ltb 0 (columnFault n starts rows j)) n ≡ j
-          → refusedAt (columnFault n starts (map narrowed rows) j) j 0 ≡ refusedAt (columnFault n starts rows j) j 0
-      go zero e = refl
-      go (suc j) e = ap (λ (f : ℕ). refusedAt f (suc j) 0) (fault-same (suc j) (least-found-iff _ n j .0 e .0))
+  rows-same = faults-same (columnFault n starts (map narrowed rows)) (columnFault n starts rows) n (λ number j. answer number j 0) (λ j l h. fault-same j h)
 
 -- only the number of rows matters to the test of the starts
 starts-same : (n : ℕ) (starts rows : List ℕ) → startsTest n starts (map narrowed rows) ≡ startsTest n starts rows

@@ -41,7 +41,7 @@ passed-sizes input e =
     let each = first-passed-iff textRefusals input .0 e in
     let n = textHead (input .text) .head .n in
     record {
-      columns = head-columns input (each .1 .0);
+      columns = head-columns input (each .1 .1 .0);
       starts = length-starts 0 (textLists (input .text) n) ∙ ap (λ (m : ℕ). m + 1) (length-lists (input .text) n);
-      rows = rows-fit (input .text) n (lines-passed input (each .1 .1 .0));
+      rows = rows-fit (input .text) n (lines-passed input (each .1 .1 .1 .0));
     }

@@ -6,12 +6,10 @@ use mathlib.Core.List.{List, [], _∷_}
 use native.Mathlib.Omega.{arith}
 use native.Mathlib.Numerals.{add-two}
 use lib.ListN.{length}
-use borrow.Author.Tests.{lt-ltb}
 use Rattle.papers.specs.Lists.{least}
 use Rattle.papers.specs.Refusals.{answer, passed, refused, first}
-use Rattle.papers.specs.Text.{afterLines, textHead, lineFault, rowLinesTest, badLine, endTest, textAfter}
-use Rattle.list_laws.proofs.Leasts.{least-here}
-use Rattle.job_laws.proofs.Faults.{faulty}
+use Rattle.papers.specs.Text.{afterLines, textHead, lineFault, badLine, textAfter}
+use Rattle.job_laws.proofs.Faults.{faulty, faults-pass, faults-refuse}
 use Rattle.job_laws.proofs.Firsts.{first-passes, first-refuses, first-last, over-refuses, over-passes-iff}
 use Rattle.text_reader.specs.Reading.{whole}
 
@@ -19,24 +17,20 @@ module _ (text : List ℕ) where
   -- the first line at fault
   pub lines-refuse : (j m : ℕ) → least (faulty (lineFault text)) j ≡ 0 → suc j ≤ textHead text .head .n → lineFault text (suc j) ≡ m → 0 < m
       → first (badLine ∷ textAfter ∷ []) (whole text) ≡ refused (answer m (j + 2) 0)
-  unfolding rowLinesTest
   lines-refuse j m z l e h =
-      let f = least-here (faulty (lineFault text)) j (textHead text .head .n) z (lt-ltb 0 (lineFault text (suc j)) (omega arith)) l in
-      rw (add-two j) (first-refuses badLine (textAfter ∷ []) (whole text) (rw (f, rowLinesTest, e)))
+      rw (add-two j, ← e) (first-refuses badLine (textAfter ∷ []) (whole text)
+      (faults-refuse (lineFault text) (textHead text .head .n) (λ number j. answer number (suc j) 0) j z l (omega arith)))
 
   module _ (z : least (faulty (lineFault text)) (textHead text .head .n) ≡ 0) where
-    lines-pass : rowLinesTest (whole text) ≡ passed
-    unfolding rowLinesTest
-    lines-pass = rw (z, rowLinesTest)
+    lines-pass : badLine .test (whole text) ≡ passed
+    lines-pass = faults-pass (lineFault text) (textHead text .head .n) (λ number j. answer number (suc j) 0) z
 
-    to-end : first (badLine ∷ textAfter ∷ []) (whole text) ≡ endTest (whole text)
+    to-end : first (badLine ∷ textAfter ∷ []) (whole text) ≡ textAfter .test (whole text)
     to-end = first-passes badLine (textAfter ∷ []) (whole text) lines-pass ∙ first-last textAfter (whole text)
 
     pub end-refuses : 0 < length (afterLines (suc (textHead text .head .n)) text)
         → first (badLine ∷ textAfter ∷ []) (whole text) ≡ refused (answer 25 (textHead text .head .n + 2) 0)
-    unfolding endTest
     end-refuses h = to-end ∙ over-refuses 0 _ _ h
 
     pub end-passes : length (afterLines (suc (textHead text .head .n)) text) ≡ 0 → first (badLine ∷ textAfter ∷ []) (whole text) ≡ passed
-    unfolding endTest
     end-passes h = to-end ∙ over-passes-iff 0 (length (afterLines (suc (textHead text .head .n)) text)) _ .1 (omega arith)
