@@ -6,7 +6,7 @@ use mathlib.Core.List.{List, _++_}
 use lib.ListN.{length, take, drop}
 use Rattle.papers.specs.Lists.{zeros}
 use Rattle.order.specs.Given.{Given, OrderMade}
-use Rattle.lent_plan.specs.Ordering.{Orderable, Ordering}
+use Rattle.lent_order.specs.Ordering.{Orderable, Ordering}
 use lib.Seq.{length-take-le}
 
 module _ {mark n : ℕ} {parents order pops starts work : List ℕ} (h : Orderable mark n parents order pops starts work) where

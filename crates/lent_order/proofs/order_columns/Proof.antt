@@ -2,10 +2,10 @@
 -- Assumes nothing.
 use mathlib.Core.Path.{sym}
 use lib.Seq.{length-take-le}
-use Rattle.lent_plan.proofs.Orderings.{order-given, ordering-made}
+use Rattle.lent_order.proofs.Orderings.{order-given, ordering-made}
 use borrow.Author.Needs.{needs}
-use Rattle.lent_plan.proofs.order_columns.Statement.{statement}
-use Rattle.lent_plan.proofs.order_columns.Tie as tie
+use Rattle.lent_order.proofs.order_columns.Statement.{statement}
+use Rattle.lent_order.proofs.order_columns.Tie as tie
 
 -- The places that the answers look back to: `entry (search)` is the one behind the answer at hand.
 abbrev entry : tie.Start → tie.Start

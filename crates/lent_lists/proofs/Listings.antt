@@ -21,7 +21,7 @@ use Rattle.slices.proofs.From.{stored-from}
 use Rattle.structure.specs.Listed.{Listable, ColumnsListed}
 use Rattle.lent.specs.Six.{sixSlices}
 use Rattle.lent.proofs.Alike.{part-long}
-use Rattle.lent_plan.specs.Listing.{ListableIn, Listing}
+use Rattle.lent_lists.specs.Listing.{ListableIn, Listing}
 
 -- ---- zeros behind the first places
 

@@ -6,9 +6,9 @@ use lib.ListN.{length-append}
 use borrow.Author.Needs.{needs}
 use denote.Ref.{now}
 use Rattle.lent.proofs.Alike.{part-long}
-use Rattle.lent_plan.proofs.Listings.{listable, some-listed, last-fits, cleared-behind, all-listed}
-use Rattle.lent_plan.proofs.list_columns.Statement.{statement}
-use Rattle.lent_plan.proofs.list_columns.Tie as tie
+use Rattle.lent_lists.proofs.Listings.{listable, some-listed, last-fits, cleared-behind, all-listed}
+use Rattle.lent_lists.proofs.list_columns.Statement.{statement}
+use Rattle.lent_lists.proofs.list_columns.Tie as tie
 
 -- The places that the answers look back to: `entry (search)` is the one behind the answer at hand.
 abbrev entry : tie.Start → tie.Start
