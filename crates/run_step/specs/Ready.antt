@@ -1,4 +1,4 @@
--- Defines what a run's steps require, and what a step leaves.
+-- Defines what taking a step requires, and what it leaves.
 -- Assumes nothing.
 use Prim.Native.Nat.{ℕ, suc, _+_, _<_, _≤_}
 use mathlib.Core.Path.{_≡_}
@@ -9,20 +9,6 @@ use Rattle.column_laws.specs.Tested.{Tested}
 use Rattle.run_held.specs.declared.Held.{Held}
 use Rattle.run_front.specs.Column.{Column}
 use Rattle.run_updates.specs.Kept.{runOf, stateOf, Kept}
-
--- the lists have places for n steps, on a factor that passes 1, 4, 5 and 6
-pub record StepsGiven (n : ℕ) (starts rows columns pops stack : List ℕ) : Type 0 where
-  pub tested : Tested n starts rows
-  pub columns-long : n ≤ length columns
-  pub pops-long : n ≤ length pops
-  pub stack-long : n ≤ length stack
-
--- the lists hold the step after `done` steps, and the stack list and the record keep the updates
-pub record StepGiven (n : ℕ) (starts rows columns pops stack : List ℕ) (held : Held) (done : ℕ) : Type 0 where
-  pub tested : Tested n starts rows
-  pub kept : Kept n starts rows stack held
-  pub column-listed : done < length columns
-  pub pops-listed : done < length pops
 
 -- the step after `done` steps can be taken: the lists hold it, its column exists, it pops no more than is held, and its update has a place
 pub record Ready (n : ℕ) (starts rows columns pops stack : List ℕ) (held : Held) (done : ℕ) : Type 0 where

@@ -20,8 +20,8 @@ use Rattle.run_updates.specs.Kept.{heldIn, stateOf, runOf, Kept}
 use Rattle.run_updates.proofs.Stack.{held-drop, held-push}
 use Rattle.run_updates.proofs.Entries.{total, total-cons, total-parts, total-small, update-small}
 use Rattle.run_updates.proofs.Step.{pops-at, used, used-is}
-use Rattle.run_steps.specs.Ready.{Ready, StepTaken}
-use Rattle.run_steps.proofs.Pushed.{push-root, push-update}
+use Rattle.run_step.specs.Ready.{Ready, StepTaken}
+use Rattle.run_step.proofs.Pushed.{push-root, push-update}
 
 -- the last of `count` updates, at most n, is at a place of the stack list
 pub record Place (n : ℕ) (stack : List ℕ) (count : ℕ) : Type 0 where

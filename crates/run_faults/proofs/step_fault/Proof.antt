@@ -6,9 +6,9 @@ use denote.Ref.{now}
 use borrow.Author.Tests.{not-true, not-false}
 use borrow.Author.Needs.{needs}
 use Rattle.run_front.specs.Column.{Column}
-use Rattle.run_steps.proofs.Faults.{fault-low, fault-high, fault-few, fault-outside, fault-over, fault-none}
-use Rattle.run_steps.proofs.step_fault.Statement.{statement}
-use Rattle.run_steps.proofs.step_fault.Tie as tie
+use Rattle.run_faults.proofs.Faults.{fault-low, fault-high, fault-few, fault-outside, fault-over, fault-none}
+use Rattle.run_faults.proofs.step_fault.Statement.{statement}
+use Rattle.run_faults.proofs.step_fault.Tie as tie
 
 -- The places that the answers look back to: `entry (search)` is the one behind the answer at hand.
 abbrev entry : tie.Start → tie.Start

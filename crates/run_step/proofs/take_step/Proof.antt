@@ -4,9 +4,9 @@
 use native.Mathlib.Omega.{arith}
 use borrow.Author.Needs.{needs}
 use denote.Ref.{now}
-use Rattle.run_steps.proofs.Taken.{Place, takes, taken-root, store-within, taken-update}
-use Rattle.run_steps.proofs.take_step.Statement.{statement}
-use Rattle.run_steps.proofs.take_step.Tie as tie
+use Rattle.run_step.proofs.Taken.{Place, takes, taken-root, store-within, taken-update}
+use Rattle.run_step.proofs.take_step.Statement.{statement}
+use Rattle.run_step.proofs.take_step.Tie as tie
 
 -- The places that the answers look back to: `entry (search)` is the one behind the answer at hand.
 abbrev entry : tie.Start → tie.Start
