@@ -15,7 +15,7 @@ use Rattle.job_laws.proofs.Firsts.{first-none, first-last, over-refuses, over-p
 use Rattle.job_laws.proofs.Outcomes.{outcome-late, outcome-done}
 use Rattle.write_stored.specs.Stored.{stored}
 use Rattle.write_stored.proofs.Stores.{short-is, whole-is}
-use Rattle.plan_bytes.specs.Beside.{storedBeside}
+use Rattle.plan_store.specs.Beside.{storedBeside}
 
 module _ (written : List ℕ) (slices : PlanLent) where
   pub beside-short : length (slices .bytes) < length written

@@ -4,9 +4,9 @@ use mathlib.Core.Path.{refl, sym}
 use native.Mathlib.Omega.{arith}
 use lib.Seq.{length-take-le}
 use Rattle.write_plan.proofs.Planned.{few}
-use Rattle.plan_bytes.proofs.Besides.{refused-beside, done-beside}
-use Rattle.plan_bytes.proofs.store_beside.Statement.{statement}
-use Rattle.plan_bytes.proofs.store_beside.Tie as tie
+use Rattle.plan_store.proofs.Besides.{refused-beside, done-beside}
+use Rattle.plan_store.proofs.store_beside.Statement.{statement}
+use Rattle.plan_store.proofs.store_beside.Tie as tie
 
 -- The places that the answers look back to: `entry (search)` is the one behind the answer at hand.
 abbrev entry : tie.Start → tie.Start
