@@ -3,10 +3,10 @@
 use mathlib.Core.Path.{refl, sym, _∙_}
 use borrow.Author.Needs.{needs}
 use Rattle.papers.specs.Numbers.{bytesOf}
-use Rattle.check_key.proofs.Bytes.{bytes-inside}
-use Rattle.check_key.proofs.Numbers.{left-all, left-number, differs-number, left-one}
-use Rattle.check_key.proofs.match_two.Statement.{statement}
-use Rattle.check_key.proofs.match_two.Tie as tie
+use Rattle.check_numbers.proofs.Bytes.{bytes-inside}
+use Rattle.check_numbers.proofs.Numbers.{left-all, left-number, differs-number, left-one}
+use Rattle.check_numbers.proofs.match_two.Statement.{statement}
+use Rattle.check_numbers.proofs.match_two.Tie as tie
 
 -- The places that the answers look back to: `entry (search)` is the one behind the answer at hand.
 abbrev entry : tie.Start → tie.Start

@@ -10,9 +10,9 @@ use Rattle.papers.specs.Key.{listsNumbers, listsOf}
 use Rattle.job_laws.specs.Passed.{PassedLists}
 use Rattle.job_laws.proofs.Passed.{lists-iff}
 use Rattle.write_lists.proofs.Columns.{numbersFrom, column-list, numbers-next, numbers-none}
-use Rattle.check_key.proofs.Numbers.{Left, left-all, left-numbers, differs-numbers, left-none}
-use Rattle.check_key.proofs.match_lists.Statement.{statement}
-use Rattle.check_key.proofs.match_lists.Tie as tie
+use Rattle.check_numbers.proofs.Numbers.{Left, left-all, left-numbers, differs-numbers, left-none}
+use Rattle.check_numbers.proofs.match_lists.Statement.{statement}
+use Rattle.check_numbers.proofs.match_lists.Tie as tie
 
 -- the lists of the first `done` columns agree, up to k
 record Columns (n : ℕ) (starts rows plan : List ℕ) (at k done : ℕ) : Type 0 where

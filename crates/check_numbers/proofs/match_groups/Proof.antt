@@ -9,9 +9,9 @@ use Rattle.papers.specs.Bounds.{maxGroups}
 use Rattle.papers.specs.Numbers.{bytesOf}
 use Rattle.bytes_laws.proofs.Numbers.{bytes-length}
 use Rattle.groups.proofs.LittleArray.{array-byte}
-use Rattle.check_key.proofs.Bytes.{Bytes, bytes-start, bytes-lack, bytes-other, bytes-turn, bytes-stop}
-use Rattle.check_key.proofs.match_groups.Statement.{statement}
-use Rattle.check_key.proofs.match_groups.Tie as tie
+use Rattle.check_numbers.proofs.Bytes.{Bytes, bytes-start, bytes-lack, bytes-other, bytes-turn, bytes-stop}
+use Rattle.check_numbers.proofs.match_groups.Statement.{statement}
+use Rattle.check_numbers.proofs.match_groups.Tie as tie
 
 abbrev Inv-loop : tie.InvT-loop
 Inv-loop plan at x bytes count i₀ i = Bytes (bytesOf x) plan at i

@@ -7,9 +7,9 @@ use lib.Seq.{slice}
 use borrow.Author.Needs.{needs}
 use Rattle.papers.specs.Key.{gapsOf}
 use Rattle.write_gaps.proofs.Rows.{RowsLeft, rows-all, gaps-next, row-above, rows-next, gaps-none}
-use Rattle.check_key.proofs.Numbers.{Left, left-all, left-number, differs-number, left-none}
-use Rattle.check_key.proofs.match_gaps.Statement.{statement}
-use Rattle.check_key.proofs.match_gaps.Tie as tie
+use Rattle.check_numbers.proofs.Numbers.{Left, left-all, left-number, differs-number, left-none}
+use Rattle.check_numbers.proofs.match_gaps.Statement.{statement}
+use Rattle.check_numbers.proofs.match_gaps.Tie as tie
 
 -- the gaps of the rows before i agree, up to k
 record Gaps (plan : List ℕ) (at : ℕ) (rows : List ℕ) (from to j k before i : ℕ) : Type 0 where

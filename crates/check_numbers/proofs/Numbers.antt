@@ -7,10 +7,10 @@ use mathlib.Core.Path.{_≡_, refl, sym, ap, _∙_}
 use lib.ListN.{length}
 use Rattle.papers.specs.Numbers.{bytesOf, encode}
 use Rattle.bytes_laws.proofs.Numbers.{encode-append}
-use Rattle.check_key.specs.Matches.{matchFrom}
-use Rattle.check_key.specs.declared.KeyMatch.the-variants.{Begins, Differs}
-use Rattle.check_key.specs.declared.KeyMatch.{KeyMatch}
-use Rattle.check_key.proofs.Bytes.{bytes-begin, bytes-differ, bytes-inside}
+use Rattle.check_numbers.specs.Matches.{matchFrom}
+use Rattle.check_numbers.specs.declared.KeyMatch.the-variants.{Begins, Differs}
+use Rattle.check_numbers.specs.declared.KeyMatch.{KeyMatch}
+use Rattle.check_numbers.proofs.Bytes.{bytes-begin, bytes-differ, bytes-inside}
 
 -- of the numbers `whole`, which are compared with the plan from `at` on, xs are left at place k
 pub record Left (whole plan : List ℕ) (at : ℕ) (xs : List ℕ) (k : ℕ) : Type 0 where

@@ -2,9 +2,9 @@
 -- Assumes nothing.
 use mathlib.Core.Path.{sym, _∙_}
 use borrow.Author.Needs.{needs}
-use Rattle.check_key.proofs.Bytes.{one-byte}
-use Rattle.check_key.proofs.match_number.Statement.{statement}
-use Rattle.check_key.proofs.match_number.Tie as tie
+use Rattle.check_numbers.proofs.Bytes.{one-byte}
+use Rattle.check_numbers.proofs.match_number.Statement.{statement}
+use Rattle.check_numbers.proofs.match_number.Tie as tie
 
 -- The places that the answers look back to: `byte-there (search)` is the one behind the answer at hand.
 abbrev byte-there : tie.Then1 → tie.Then1

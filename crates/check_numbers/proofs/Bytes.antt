@@ -14,9 +14,9 @@ use borrow.Author.Tests.{lt-ltb, le-ltb, eq-eqb, ne-eqb, eqb-true, eqb-false}
 use Rattle.papers.specs.Numbers.{bytesOf}
 use Rattle.list_laws.proofs.Tests.{Test, passes, fails, test, below-or}
 use Rattle.groups.proofs.Written.{bytes-small}
-use Rattle.check_key.specs.Matches.{matchFrom}
-use Rattle.check_key.specs.declared.KeyMatch.the-variants.{Begins, Differs}
-use Rattle.check_key.specs.declared.KeyMatch.{KeyMatch}
+use Rattle.check_numbers.specs.Matches.{matchFrom}
+use Rattle.check_numbers.specs.declared.KeyMatch.the-variants.{Begins, Differs}
+use Rattle.check_numbers.specs.declared.KeyMatch.{KeyMatch}
 
 pub begins-inj : {a b : ℕ} → Begins a ≡ Begins b → a ≡ b
 begins-inj e = cc

@@ -2,9 +2,9 @@
 -- Assumes nothing.
 use borrow.Author.Needs.{needs}
 use Rattle.write_lists.proofs.Counted.{list-is}
-use Rattle.check_key.proofs.Numbers.{left-all, left-number, differs-number, left-last}
-use Rattle.check_key.proofs.match_list.Statement.{statement}
-use Rattle.check_key.proofs.match_list.Tie as tie
+use Rattle.check_numbers.proofs.Numbers.{left-all, left-number, differs-number, left-last}
+use Rattle.check_numbers.proofs.match_list.Statement.{statement}
+use Rattle.check_numbers.proofs.match_list.Tie as tie
 
 -- The places that the answers look back to: `entry (search)` is the one behind the answer at hand.
 abbrev entry : tie.Start → tie.Start
