@@ -7,11 +7,11 @@ use native.Mathlib.Omega.{arith}
 use lib.ListN.{length, length-set}
 use denote.Ref.{now}
 use borrow.Author.Needs.{needs}
-use Rattle.text_reader.proofs.RowLines.{told-rows, told-bad}
-use Rattle.text_reader.proofs.LinesRead.{LinesRead, lines-start, told-first, starts-long, rows-long, lines-bad, lines-over}
-use Rattle.text_reader.proofs.LinesRead.{lines-turn, lines-left, lines-done}
-use Rattle.text_reader.proofs.read_lines.Statement.{statement}
-use Rattle.text_reader.proofs.read_lines.Tie as tie
+use Rattle.text_rows.proofs.RowLines.{told-rows, told-bad}
+use Rattle.text_rows.proofs.LinesRead.{LinesRead, lines-start, told-first, starts-long, rows-long, lines-bad, lines-over}
+use Rattle.text_rows.proofs.LinesRead.{lines-turn, lines-left, lines-done}
+use Rattle.text_rows.proofs.read_lines.Statement.{statement}
+use Rattle.text_rows.proofs.read_lines.Tie as tie
 
 abbrev Inv-loop : tie.InvT-loop
 Inv-loop text at n starts₀ rows₀ j₀ total₀ k₀ starts rows j total k = LinesRead text n starts₀ rows₀ starts rows j total k

@@ -20,13 +20,13 @@ use Rattle.text_laws.proofs.Numbers.{numbers-later}
 use Rattle.text_words.specs.Words.{LineTo}
 use Rattle.text_lines.specs.Narrowed.{narrowed}
 use Rattle.text_lines.specs.declared.Line.the-variants.{Rows}
-use Rattle.text_reader.specs.declared.Lines.{Lines}
-use Rattle.text_reader.specs.declared.Lines.the-variants as lines
-use Rattle.text_reader.specs.Reading.{columnLists, LinesTold, all-lines, bad-lines}
+use Rattle.text_rows.specs.declared.Lines.{Lines}
+use Rattle.text_rows.specs.declared.Lines.the-variants as lines
+use Rattle.text_rows.specs.RowsRead.{columnLists, LinesTold, all-lines, bad-lines}
 use Rattle.text_laws.proofs.TextLists.{lists-none, lists-more, length-lists}
 use Rattle.text_laws.proofs.LineTests.{line-bad, line-over, line-fine}
-use Rattle.text_reader.proofs.Tests.{lines-refuse, end-refuses, end-passes}
-use Rattle.text_reader.proofs.RowLines.{RowLine}
+use Rattle.text_rows.proofs.Tests.{lines-refuse, end-refuses, end-passes}
+use Rattle.text_rows.proofs.RowLines.{RowLine}
 
 -- the lines of the first j columns, up to k, with `total` rows
 pub record LinesRead (text : List ℕ) (n : ℕ) (starts₀ rows₀ starts rows : List ℕ) (j total k : ℕ) : Type 0 where

@@ -13,7 +13,7 @@ use Rattle.text_lines.specs.Narrowed.{narrowed}
 use Rattle.text_lines.specs.declared.Line.{Line}
 use Rattle.text_lines.specs.declared.Line.the-variants.{Rows, Bad}
 use Rattle.text_lines.specs.Lines.{LineTold, row-line, no-row-line}
-use Rattle.text_reader.specs.declared.Lines.the-variants as lines
+use Rattle.text_rows.specs.declared.Lines.the-variants as lines
 
 -- a line of rows, kept
 pub record RowLine (text : List ℕ) (k t : ℕ) (rows rows′ : List ℕ) (count next : ℕ) : Type 0 where

@@ -13,7 +13,7 @@ use Rattle.papers.specs.Text.{afterLines, textHead, lineFault, rowLinesTest, ba
 use Rattle.list_laws.proofs.Leasts.{least-here}
 use Rattle.job_laws.proofs.Faults.{faulty}
 use Rattle.job_laws.proofs.Firsts.{first-passes, first-refuses, first-last, over-refuses, over-passes-iff}
-use Rattle.text_reader.specs.Reading.{whole}
+use Rattle.text_rows.specs.RowsRead.{whole}
 
 module _ (text : List ℕ) where
   -- the first line at fault
