@@ -34,7 +34,7 @@ pub fn write_plan(
         }))
         ⌝ }
 {
-    let fault = lent::early_fault(
+    let fault = lent_tests::early_fault(
         head,
         starts,
         rows,

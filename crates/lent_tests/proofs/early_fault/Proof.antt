@@ -4,8 +4,8 @@ use mathlib.Core.Path.{sym, _∙_}
 use borrow.Author.Needs.{needs}
 use Rattle.job_laws.specs.Passed.{Passed}
 use Rattle.job_laws.proofs.Outcomes.{job-answered, early-job, early-short, early-none}
-use Rattle.lent.proofs.early_fault.Statement.{statement}
-use Rattle.lent.proofs.early_fault.Tie as tie
+use Rattle.lent_tests.proofs.early_fault.Statement.{statement}
+use Rattle.lent_tests.proofs.early_fault.Tie as tie
 
 -- The places that the answers look back to: 1 to 6 are decided; the job passes; 7 is decided.
 abbrev judged : tie.After-first-fault → tie.After-first-fault

@@ -1,9 +1,9 @@
 -- Proves that `too_short` tests the lengths: each test that holds makes the slices too short, and if the first four fail, the last decides.
 -- Assumes nothing.
-use Rattle.lent.proofs.Shorts.{short-parents, short-order, short-pops, short-starts, short-work}
+use Rattle.lent_tests.proofs.Shorts.{short-parents, short-order, short-pops, short-starts, short-work}
 use borrow.Author.Needs.{needs}
-use Rattle.lent.proofs.too_short.Statement.{statement}
-use Rattle.lent.proofs.too_short.Tie as tie
+use Rattle.lent_tests.proofs.too_short.Statement.{statement}
+use Rattle.lent_tests.proofs.too_short.Tie as tie
 
 -- The places that the answers look back to: the entry; parents, order and pops are long enough.
 abbrev entry : tie.Start → tie.Start
