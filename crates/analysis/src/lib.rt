@@ -28,7 +28,7 @@ pub fn analyse(
         (now (work .entry))))
         ⌝ }
 {
-    let fault = lent::early_fault(
+    let fault = lent_tests::early_fault(
         head,
         starts,
         rows,

@@ -24,8 +24,8 @@ use Rattle.lent.specs.Six.{sixSlices}
 use Rattle.lent.proofs.Sixes.{each-zero}
 use Rattle.lent.proofs.Alike.{Alike, long-alike}
 use Rattle.column_laws.proofs.Testing.{tested}
-use Rattle.check_key.specs.declared.KeyMatch.{KeyMatch}
-use Rattle.check_key.specs.declared.KeyMatch.the-variants.{Begins, Differs}
+use Rattle.check_numbers.specs.declared.KeyMatch.{KeyMatch}
+use Rattle.check_numbers.specs.declared.KeyMatch.the-variants.{Begins, Differs}
 use Rattle.check_key.specs.Matches.{keyMatch}
 use Rattle.check_key.proofs.Answers.{begins-key}
 use Rattle.read_plan.specs.declared.PlanFound.{PlanFound}

@@ -21,8 +21,8 @@ use Rattle.job_laws.proofs.Outcomes.{outcome-early, outcome-late, outcome-done,
 use Rattle.check_laws.proofs.PlanBytes.{read-got, read-bad, read-agree}
 use Rattle.check_laws.proofs.Check.{first-plans}
 use Rattle.lent.specs.Six.{sixSlices}
-use Rattle.check_key.specs.declared.KeyMatch.{KeyMatch}
-use Rattle.check_key.specs.declared.KeyMatch.the-variants.{Begins, Differs}
+use Rattle.check_numbers.specs.declared.KeyMatch.{KeyMatch}
+use Rattle.check_numbers.specs.declared.KeyMatch.the-variants.{Begins, Differs}
 use Rattle.check_key.specs.Matches.{keyMatch}
 use Rattle.check_key.proofs.Answers.{begins-key, differs-key}
 use Rattle.check_judge.proofs.Rulings.{at-refuses, at-passes, number-of}

@@ -1,5 +1,5 @@
 // The judgement on a plan's bytes: compares them with the key, reads them into the slices, and judges the plan there.
-use check_key::KeyMatch;
+use check_numbers::KeyMatch;
 use papers::Answer;
 use papers::JobHead;
 use read_plan::PlanReading;

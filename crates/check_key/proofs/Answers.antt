@@ -14,11 +14,12 @@ use Rattle.papers.specs.Lists.{least}
 use Rattle.papers.specs.Numbers.{differsAt}
 use Rattle.list_laws.proofs.Leasts.{least-none, least-here}
 use Rattle.bytes_laws.proofs.NumberReading.{Stands, stands}
-use Rattle.check_key.specs.Matches.{matchFrom, keyMatch}
-use Rattle.check_key.specs.declared.KeyMatch.the-variants.{Begins, Differs}
-use Rattle.check_key.specs.declared.KeyMatch.{KeyMatch}
-use Rattle.check_key.proofs.Bytes.{begins-inj, begins-differs, byte-there, byte-differs, byte-lacks, Byte, there, differs}
-use Rattle.check_key.proofs.Bytes.{lacks, byte, bytes-inside}
+use Rattle.check_numbers.specs.Matches.{matchFrom}
+use Rattle.check_key.specs.Matches.{keyMatch}
+use Rattle.check_numbers.specs.declared.KeyMatch.the-variants.{Begins, Differs}
+use Rattle.check_numbers.specs.declared.KeyMatch.{KeyMatch}
+use Rattle.check_numbers.proofs.Bytes.{begins-inj, begins-differs, byte-there, byte-differs, byte-lacks, Byte, there, differs}
+use Rattle.check_numbers.proofs.Bytes.{lacks, byte, bytes-inside}
 
 -- ---- what is found is what refusal 11 names
 

@@ -9,11 +9,12 @@ use Rattle.papers.specs.Job.{Job}
 use Rattle.papers.specs.Numbers.{encode}
 use Rattle.papers.specs.Key.{keyNumbers, keyOf}
 use Rattle.key.proofs.Written.{keyLists}
-use Rattle.check_key.specs.Matches.{matchFrom, keyMatch}
-use Rattle.check_key.specs.declared.KeyMatch.the-variants.{Begins, Differs}
-use Rattle.check_key.specs.declared.KeyMatch.{KeyMatch}
+use Rattle.check_numbers.specs.Matches.{matchFrom}
+use Rattle.check_key.specs.Matches.{keyMatch}
+use Rattle.check_numbers.specs.declared.KeyMatch.the-variants.{Begins, Differs}
+use Rattle.check_numbers.specs.declared.KeyMatch.{KeyMatch}
 use Rattle.check_key.proofs.Answers.{key-matches}
-use Rattle.check_key.proofs.Numbers.{Left, left-all, left-numbers, differs-numbers, left-last}
+use Rattle.check_numbers.proofs.Numbers.{Left, left-all, left-numbers, differs-numbers, left-last}
 
 module _ (job : Job) (plan : List ℕ) where
   found : {r : KeyMatch} → r ≡ matchFrom (encode (keyNumbers job)) plan 0 → r ≡ keyMatch (keyOf job) plan

@@ -1,4 +1,2 @@
-pub mod Bytes
 pub mod Answers
-pub mod Numbers
 pub mod Keys

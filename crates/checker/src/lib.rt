@@ -29,7 +29,7 @@ pub fn check_plan(
         (now (work .entry))))
         ⌝ }
 {
-    let fault = lent::early_fault(
+    let fault = lent_tests::early_fault(
         head,
         starts,
         rows,

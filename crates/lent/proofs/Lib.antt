@@ -1,3 +1,2 @@
 pub mod Sixes
-pub mod Shorts
 pub mod Alike

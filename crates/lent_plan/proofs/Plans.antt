@@ -24,9 +24,9 @@ use Rattle.rows_needed.specs.Walk.{RowsCountable}
 use Rattle.order_laws.proofs.Patterns.{order-length}
 use Rattle.lent.specs.Six.{sixSlices}
 use Rattle.lent.proofs.Sixes.{sixes}
-use Rattle.lent_plan.specs.Listing.{ListableIn, AllListed, Listing}
+use Rattle.lent_lists.specs.Listing.{ListableIn, AllListed, Listing}
 use Rattle.lent.proofs.Alike.{Alike, long-alike}
-use Rattle.lent_plan.specs.Ordering.{Orderable, Ordering}
+use Rattle.lent_order.specs.Ordering.{Orderable, Ordering}
 use Rattle.order.proofs.Ties.{parentsOf, startsOf, length-parents, same-order, same-pops, same-peak, rowed}
 use Rattle.lent_plan.specs.Made.{Plannable, Made}
 use Rattle.lent_plan.proofs.Made.{made-refused}

@@ -1,3 +1,1 @@
-pub mod Ordering
-pub mod Listing
 pub mod Made

@@ -16,8 +16,8 @@ use Rattle.job_laws.proofs.Parts.{length-columns, length-pops}
 use Rattle.plan_laws.proofs.Analysed.{analysis-done, done-valid, done-peak, done-fit, done-parts}
 use Rattle.write_plan.proofs.Steps.{steps-again}
 use Rattle.lent.proofs.Alike.{Alike, zeros-alike}
-use Rattle.plan_bytes.specs.AtStart.{JobPlanAtStart}
-use Rattle.plan_bytes.specs.Beside.{storedBeside}
+use Rattle.plan_store.specs.AtStart.{JobPlanAtStart}
+use Rattle.plan_store.specs.Beside.{storedBeside}
 use Rattle.plan_bytes.proofs.Ways.{way-stored}
 
 module _ (job : Job) (lent : Lent) {r : Answer} {after : Lent} (e : _≡_ {A = Outcome Lent} (record { answered = r; lent = after }) (analysed job lent))

@@ -1,3 +1,2 @@
-pub mod Besides
 pub mod Ways
 pub mod Handed

@@ -17,8 +17,8 @@ use Rattle.list_laws.proofs.Tests.{below-or}
 use Rattle.job_laws.proofs.Firsts.{first-append-passed, first-append-refused, first-of, first-last, over-refuses, over-passes-iff}
 use Rattle.job_laws.proofs.Outcomes.{outcome-early, outcome-late, outcome-done, early-refused, early-passes-iff, early-passed}
 use Rattle.plan_laws.proofs.Analysed.{same-answers, same-numbers}
-use Rattle.plan_bytes.specs.Beside.{storedBeside}
-use Rattle.plan_bytes.proofs.Besides.{beside-short, beside-whole}
+use Rattle.plan_store.specs.Beside.{storedBeside}
+use Rattle.plan_store.proofs.Besides.{beside-short, beside-whole}
 
 module _ (job : Job) (lent : Lent) where
   same-early : first analysisEarly (record { job = job; lent = lent }) ≡ first earlyRefusals (earlyOf job lent)

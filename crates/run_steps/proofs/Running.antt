@@ -16,9 +16,9 @@ use Rattle.run_held.specs.declared.Held.{Held}
 use Rattle.run_updates.specs.Kept.{stateOf, runOf, Kept}
 use Rattle.run_updates.proofs.Stack.{held-none, held-length}
 use Rattle.run_updates.proofs.Entries.{total-none}
-use Rattle.run_steps.proofs.Faults.{fault-zero}
-use Rattle.run_steps.specs.Ready.{StepsGiven, Ready, StepTaken}
-use Rattle.run_steps.specs.Steps.{stepsAnswer}
+use Rattle.run_faults.proofs.Faults.{fault-zero}
+use Rattle.run_step.specs.Ready.{Ready, StepTaken}
+use Rattle.run_steps.specs.Steps.{StepsGiven, stepsAnswer}
 use Rattle.run_steps.proofs.Answers.{answer-fault, answer-left, answer-done}
 
 -- the state after so many steps, and the fault of the next

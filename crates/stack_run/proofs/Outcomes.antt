@@ -21,8 +21,7 @@ use Rattle.job_laws.proofs.Numbered.{starts-numbered, rows-numbered, numbered-z
 use Rattle.job_laws.proofs.Lengths.{short-here, short-later, short-last, long-iff, lengths-pass-iff, lengths-refuse}
 use Rattle.job_laws.proofs.Outcomes.{outcome-early, outcome-behind}
 use Rattle.column_laws.specs.Tested.{Tested}
-use Rattle.run_steps.specs.Ready.{StepsGiven}
-use Rattle.run_steps.specs.Steps.{stepsAnswer}
+use Rattle.run_steps.specs.Steps.{StepsGiven, stepsAnswer}
 use Rattle.run_steps.proofs.Answers.{from-steps}
 
 -- ---- 7: one of the columns, the pops and the stack slice has fewer than n places

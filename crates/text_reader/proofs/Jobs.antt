@@ -19,10 +19,11 @@ use Rattle.text_words.specs.Words.{LineTo}
 use Rattle.text_head.specs.declared.FirstLine.{FirstLine}
 use Rattle.text_head.specs.declared.FirstLine.the-variants.{Numbers, Bad}
 use Rattle.text_head.specs.Heads.{HeadTold, head-line, no-head-line}
-use Rattle.text_reader.specs.declared.Lines.{Lines}
-use Rattle.text_reader.specs.declared.Lines.the-variants as lines
+use Rattle.text_rows.specs.declared.Lines.{Lines}
+use Rattle.text_rows.specs.declared.Lines.the-variants as lines
+use Rattle.text_rows.specs.RowsRead.{whole, LinesTold, all-lines, bad-lines}
 use Rattle.text_reader.specs.declared.JobRead.the-variants.{Job, Refused}
-use Rattle.text_reader.specs.Reading.{whole, LinesTold, all-lines, bad-lines, JobTold, job-read, text-refused}
+use Rattle.text_reader.specs.Reading.{JobTold, job-read, text-refused}
 
 -- ---- line 1, from its answer
 

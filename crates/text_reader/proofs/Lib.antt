@@ -1,6 +1,3 @@
-pub mod Tests
-pub mod RowLines
-pub mod LinesRead
 pub mod Jobs
 pub mod Narrow
 pub mod KeptJobs
