@@ -11,7 +11,7 @@ use Rattle.papers.specs.declared.Answer.{Answer}
 use Rattle.papers.specs.Bounds.{maxGroups}
 use Rattle.papers.specs.Lists.{least}
 use Rattle.papers.specs.Refusals.{answer, Verdict, passed, refused, refusedIf, refusedAt, Refusal, first}
-use Rattle.papers.specs.Job.{RowLists, jobLists, StartsFault, miscounted, not-zero, falling, last, badStarts, FaultyColumn, five, six, jobRefusals}
+use Rattle.papers.specs.Job.{RowLists, jobLists, badStarts, FaultyColumn, five, six, jobRefusals}
 use Rattle.papers.specs.Numbers.{Read, got, bad}
 use Rattle.papers.specs.Key.{keyOf}
 use Rattle.papers.specs.Plan.{Plan, planRead, PlanFault, twelve, thirteen, fourteen, fifteen}
@@ -22,7 +22,6 @@ use Rattle.job_laws.proofs.Firsts.{first-passes, first-refuses, first-append-pa
 use Rattle.job_laws.proofs.Outcomes.{outcome-early, outcome-late, outcome-done}
 use Rattle.job_laws.proofs.Starts.{starts-iff}
 use Rattle.refusal_laws.proofs.Agreements.{Agree, _▸_}
-use Rattle.refusal_laws.proofs.Job.{starts-agree}
 use Rattle.refusal_laws.proofs.Rows.{rows-agree}
 use Rattle.check_laws.proofs.PlanBytes.{read-agree}
 use Rattle.check_laws.proofs.Check.{done-zero}
@@ -92,12 +91,6 @@ module _ (P : Answer → Type 0) where
 
 -- ---- places
 
-starts-place : {c : RowLists} {p : ℕ} → StartsFault c p → p ≤ c .n
-starts-place (miscounted d) = omega arith
-starts-place (not-zero e d) = omega arith
-starts-place (falling e z l) = l .0 .1
-starts-place (last e z none d) = omega arith
-
 column-within : {c : RowLists} {j m : ℕ} → FaultyColumn c j m → m ≤ 6
 column-within (five r fine o) = omega arith
 column-within (six r fine o f) = omega arith
@@ -129,8 +122,12 @@ module _ (call : CheckCall) where
       of-if Small _ _ (within 1 0 0 refl (omega arith) (omega arith))
       ▸ λ p. of-if Small _ _ (within 2 0 0 refl (omega arith) (omega arith))
       ▸ λ p. of-if Small _ _ (within 3 0 0 refl (omega arith) (omega arith))
-      ▸ λ p. of-agree Small _ (starts-agree (jobLists (call .job)))
-      (λ a (p, h, e). let l = starts-place h in within 4 p 0 e (omega arith) (omega arith))
+      ▸ λ p. each-gives Small _ (jobLists (call .job))
+      (of-if Small _ _ (within 4 0 0 refl (omega arith) (omega arith))
+      ▸ λ q. of-if Small _ _ (within 4 0 0 refl (omega arith) (omega arith))
+      ▸ λ q. of-least Small 4 _ _ (λ p l. within 4 p 0 refl (omega arith) (omega arith))
+      ▸ λ q. of-if Small _ _ (within 4 (call .job .n) 0 refl (omega arith) (omega arith))
+      ▸ λ q. tt)
       ▸ λ fine. of-agree Small _ (rows-agree (jobLists (call .job)))
       (λ a (j, m, (l, u), f, none, e). let s = column-within f in within m j 0 e (omega arith) (omega arith))
       ▸ λ p. of-if Small _ _ (within 7 0 0 refl (omega arith) (omega arith))

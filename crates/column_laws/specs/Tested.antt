@@ -5,8 +5,7 @@ use mathlib.Core.Path.{_≡_}
 use mathlib.Core.List.{List}
 use Rattle.papers.specs.Bounds.{maxColumns}
 use Rattle.papers.specs.Refusals.{passed}
-use Rattle.papers.specs.Job.{startsTest}
-use Rattle.job_laws.specs.Passed.{rowsTest}
+use Rattle.job_laws.specs.Passed.{startsTest, rowsTest}
 
 -- n columns whose starts and rows pass 1, 4, 5 and 6
 pub record Tested (n : ℕ) (starts rows : List ℕ) : Type 0 where

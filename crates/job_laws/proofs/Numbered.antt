@@ -10,8 +10,8 @@ use lib.Dec.{ltb}
 use Rattle.papers.specs.declared.Answer.{Answer}
 use Rattle.papers.specs.Bounds.{maxColumns, maxMark, maxLimit}
 use Rattle.papers.specs.Refusals.{answer, Verdict, passed, refused, answerOf, first, refusedIf}
-use Rattle.papers.specs.Job.{Job, columnOf, startsTest, columnFault, jobRefusals}
-use Rattle.job_laws.specs.Passed.{rowsTest}
+use Rattle.papers.specs.Job.{Job, columnOf, columnFault, jobRefusals}
+use Rattle.job_laws.specs.Passed.{startsTest, rowsTest}
 use Rattle.job_laws.proofs.Firsts.{_&_, first-each}
 use Rattle.job_laws.proofs.Faults.{faults-each}
 use Rattle.job_laws.proofs.Starts.{StartsVerdict, four, fine, starts-verdict}

@@ -11,9 +11,9 @@ use lib.Seq.{slice-empty, drop-nil}
 use Rattle.papers.specs.Bounds.{maxColumns, maxMark, maxLimit}
 use Rattle.papers.specs.Lists.{_∈_, Asc}
 use Rattle.papers.specs.Refusals.{answer, passed, first}
-use Rattle.papers.specs.Job.{Job, start, columnOf, pattern, Below, startsTest, jobRefusals}
+use Rattle.papers.specs.Job.{Job, start, columnOf, pattern, Below, jobRefusals}
 use Rattle.list_laws.proofs.Tests.{below-or}
-use Rattle.job_laws.specs.Passed.{PassedLists, Passed, rowsTest}
+use Rattle.job_laws.specs.Passed.{PassedLists, Passed, startsTest, rowsTest}
 use Rattle.job_laws.proofs.Firsts.{_&_, first-passed-iff, over-passes-iff}
 use Rattle.job_laws.proofs.Starts.{starts-iff, start-at}
 use Rattle.job_laws.proofs.Rows.{rows-iff}

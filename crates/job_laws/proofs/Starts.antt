@@ -5,21 +5,21 @@ use Prim.Native.Nat.{ℕ, zero, suc, _+_, _-_, _≤_}
 use mathlib.Core.Path.{_≡_, refl, sym, ap, _∙_}
 use mathlib.Core.Logic.{_↔_, _≢_}
 use mathlib.Core.Bool.{false}
-use mathlib.Core.List.{List}
+use mathlib.Core.List.{List, [], _∷_}
 use native.Mathlib.Omega.{arith}
 use lib.Dec.{ltb, eqb}
 use lib.ListN.{length, getD}
 use lib.Seq.{slice}
 use borrow.Author.Tests.{ltb-false, le-ltb, eqb-true, eqb-false, eq-eqb, ne-eqb}
 use Rattle.papers.specs.Lists.{least}
-use Rattle.papers.specs.Refusals.{answer, passed, refused, refusedIf}
-use Rattle.papers.specs.Job.{start, columnOf, fallsAt, startsTest}
-use Rattle.job_laws.specs.Passed.{Starts}
+use Rattle.papers.specs.Refusals.{answer, passed, refused, refusedAt, first}
+use Rattle.papers.specs.Job.{start, columnOf, RowLists, fallsAt, startsMiscounted, startsNotFromZero, startsFall, startsEndWrong}
+use Rattle.job_laws.specs.Passed.{Starts, startsTest}
 use Rattle.list_laws.specs.Parts.{part}
 use Rattle.list_laws.proofs.Tests.{Test, passes, fails, test}
 use Rattle.list_laws.proofs.Leasts.{least-zero-iff}
 use Rattle.list_laws.proofs.Parts.{part-slice}
-use Rattle.job_laws.proofs.Firsts.{refused-passed}
+use Rattle.job_laws.proofs.Firsts.{refused-passed, first-passes, first-refuses, first-last, refused-if, passed-if}
 
 -- start j + 1 is the number at place j, counted from 0
 pub start-at : (starts : List ℕ) (j : ℕ) → start starts (suc j) ≡ getD starts j 0
@@ -51,33 +51,40 @@ falls-false-iff starts j = (ltb-false (start starts (suc j)) (start starts j), l
 -- ---- the ways out of the test
 
 module _ (n : ℕ) (starts rows : List ℕ) where
+  abbrev lists : RowLists
+  lists = record { n = n; starts = starts; rows = rows }
+
   -- way out: there are not n + 1 starts
   pub starts-few : length starts ≢ n + 1 → startsTest n starts rows ≡ refused (answer 4 0 0)
-  unfolding startsTest
-  starts-few h = rw (ne-eqb (length starts) (n + 1) h, startsTest)
+  starts-few h = first-refuses startsMiscounted _ lists (refused-if _ _ (rw (ne-eqb (length starts) (n + 1) h)))
 
   module _ (long : length starts ≡ n + 1) where
+    to-first : startsTest n starts rows ≡ first (startsNotFromZero ∷ startsFall ∷ startsEndWrong ∷ []) lists
+    to-first = first-passes startsMiscounted _ lists (passed-if _ _ (rw (eq-eqb (length starts) (n + 1) long)))
+
     -- way out: the first start is not 0
     pub starts-from : start starts 1 ≢ 0 → startsTest n starts rows ≡ refused (answer 4 0 0)
-    unfolding startsTest
-    starts-from h = rw (eq-eqb (length starts) (n + 1) long, ne-eqb (start starts 1) 0 h, startsTest)
+    starts-from h = to-first ∙ first-refuses startsNotFromZero _ lists (refused-if _ _ (rw (ne-eqb (start starts 1) 0 h)))
 
     module _ (from-zero : start starts 1 ≡ 0) where
+      to-falls : startsTest n starts rows ≡ first (startsFall ∷ startsEndWrong ∷ []) lists
+      to-falls = to-first ∙ first-passes startsNotFromZero _ lists (passed-if _ _ (rw (eq-eqb (start starts 1) 0 from-zero)))
+
       -- way out: a start falls, and the place is its column
       pub starts-fall : (j : ℕ) → least (fallsAt starts) n ≡ suc j → startsTest n starts rows ≡ refused (answer 4 (suc j) 0)
-      unfolding startsTest
-      starts-fall j h = rw (eq-eqb (length starts) (n + 1) long, eq-eqb (start starts 1) 0 from-zero, h, startsTest)
+      unfolding refusedAt
+      starts-fall j h = to-falls ∙ first-refuses startsFall _ lists (rw h)
+
+      to-last : least (fallsAt starts) n ≡ 0 → startsTest n starts rows ≡ startsEndWrong .test lists
+      unfolding refusedAt
+      to-last z = to-falls ∙ first-passes startsFall _ lists (rw z) ∙ first-last startsEndWrong lists
 
       -- way out: the last start is not the row count
       pub starts-end : least (fallsAt starts) n ≡ 0 → start starts (suc n) ≢ length rows → startsTest n starts rows ≡ refused (answer 4 n 0)
-      unfolding startsTest refusedIf
-      starts-end z h =
-          rw (eq-eqb (length starts) (n + 1) long, eq-eqb (start starts 1) 0 from-zero, z, ne-eqb (start starts (suc n)) (length rows) h, startsTest)
+      starts-end z h = to-last z ∙ refused-if _ _ (rw (ne-eqb (start starts (suc n)) (length rows) h))
 
       pub starts-pass : least (fallsAt starts) n ≡ 0 → start starts (suc n) ≡ length rows → startsTest n starts rows ≡ passed
-      unfolding startsTest refusedIf
-      starts-pass z h =
-          rw (eq-eqb (length starts) (n + 1) long, eq-eqb (start starts 1) 0 from-zero, z, eq-eqb (start starts (suc n)) (length rows) h, startsTest)
+      starts-pass z h = to-last z ∙ passed-if _ _ (rw (eq-eqb (start starts (suc n)) (length rows) h))
 
   -- the verdict on the starts: 4 at some place, or they are right
   pub data StartsVerdict : Type 0 where

@@ -11,8 +11,8 @@ use lib.ListN.{length, getD}
 use lib.Seq.{slice, slice-cons}
 use Rattle.papers.specs.Lists.{least}
 use Rattle.papers.specs.Refusals.{answer, passed, answerOf}
-use Rattle.papers.specs.Job.{startsTest, rowFault, rowsFault, columnFault}
-use Rattle.job_laws.specs.Passed.{Starts, rowsTest}
+use Rattle.papers.specs.Job.{rowFault, rowsFault, columnFault}
+use Rattle.job_laws.specs.Passed.{Starts, startsTest, rowsTest}
 use Rattle.list_laws.proofs.Slices.{slice-none}
 use Rattle.job_laws.proofs.Firsts.{answer-refused, answer-passed}
 use Rattle.job_laws.proofs.Faults.{faulty, faults-next, faults-pass, faults-refuse}

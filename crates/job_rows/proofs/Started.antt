@@ -6,7 +6,7 @@ use mathlib.Core.List.{List}
 use Rattle.papers.specs.declared.Answer.{Answer}
 use Rattle.papers.specs.Bounds.{maxColumns}
 use Rattle.papers.specs.Refusals.{answerOf}
-use Rattle.papers.specs.Job.{startsTest}
+use Rattle.job_laws.specs.Passed.{startsTest}
 use Rattle.job_laws.proofs.Numbered.{starts-numbered, numbered-zero}
 use Rattle.job_rows.specs.Started.{Started}
 

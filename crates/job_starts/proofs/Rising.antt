@@ -12,7 +12,8 @@ use lib.ListN.{length, getD}
 use borrow.Author.Tests.{lt-ltb, le-ltb}
 use Rattle.papers.specs.Lists.{least}
 use Rattle.papers.specs.Refusals.{answer, passed, refused}
-use Rattle.papers.specs.Job.{start, fallsAt, startsTest}
+use Rattle.papers.specs.Job.{start, fallsAt}
+use Rattle.job_laws.specs.Passed.{startsTest}
 use Rattle.list_laws.proofs.Leasts.{least-none, least-here}
 use Rattle.job_laws.proofs.Starts.{start-at, falls-at, starts-fall, starts-end, starts-pass}
 

@@ -4,7 +4,7 @@ ghost use mathlib.Core.Path.{_≡_};
 ghost use Prim.Native.Nat.{_≤_};
 ghost use Rattle.papers.specs.Bounds.{maxColumns};
 ghost use Rattle.papers.specs.Refusals.{answerOf};
-ghost use Rattle.papers.specs.Job.{startsTest};
+ghost use Rattle.job_laws.specs.Passed.{startsTest};
 
 // Test 4, in this order: not n + 1 starts, or the first is not 0; the first column that would end before it begins; the last start is not
 // the number of rows. One pass over the columns: in the loop no start of the first `done` columns falls.

@@ -1,30 +1,26 @@
 -- Proves that the answers which a listing may print of a job have small numbers: places are columns, and counts are rows needed or a peak,
 -- which are small for a job that passes its tests.
 -- Assumes nothing.
-use Prim.Native.Nat.{ℕ, zero, suc, _+_, _*_, _^_, _<_, _≤_}
+use Prim.Native.Nat.{ℕ, zero, suc, _*_, _^_, _<_, _≤_}
 use mathlib.Core.Path.{_≡_, refl}
 use mathlib.Core.Bool.{Bool, true, false}
 use mathlib.Core.List.{List, [], _∷_, append-nil}
 use native.Mathlib.Omega.{arith}
 use native.Mathlib.Nat.{mul-le-mul}
-use lib.Dec.{eqb}
 use lib.ListN.{length, length-append}
-use borrow.Author.Tests.{eqb-true, eqb-false}
 use Rattle.papers.specs.declared.Answer.{Answer}
 use Rattle.papers.specs.Bounds.{maxColumns}
 use Rattle.papers.specs.Lists.{least, flat}
-use Rattle.papers.specs.Refusals.{answer, Verdict, passed, refused, refusedIf, first}
-use Rattle.papers.specs.Job.{Job, Pattern, pattern, start, columnOf, fallsAt, startsTest, columnFault, jobRefusals}
+use Rattle.papers.specs.Refusals.{answer, Verdict, passed, refused, refusedIf, refusedAt, first}
+use Rattle.papers.specs.Job.{Job, Pattern, pattern, columnOf, fallsAt, columnFault, jobRefusals}
 use Rattle.papers.specs.Fill.{R}
 use Rattle.papers.specs.Key.{listsOf}
 use Rattle.papers.specs.Plan.{planOf, planFor}
 use Rattle.papers.specs.Analysis.{Lent, earlyRefusals, AnalysisCall, analysisEarly, analysisLate}
-use Rattle.job_laws.specs.Passed.{Passed, rowsTest}
-use Rattle.list_laws.proofs.Tests.{Test, passes, fails, test}
+use Rattle.job_laws.specs.Passed.{Passed, startsTest, rowsTest}
 use Rattle.list_laws.proofs.Leasts.{least-found-iff}
 use Rattle.list_laws.proofs.Stores.{flat-append}
 use Rattle.job_laws.proofs.Firsts.{_&_, first-each}
-use Rattle.job_laws.proofs.Starts.{starts-few, starts-from, starts-fall, starts-end, starts-pass}
 use Rattle.job_laws.proofs.Faults.{faults-each}
 use Rattle.job_laws.proofs.Rows.{rows-at-most}
 use Rattle.job_laws.proofs.Passed.{passed-below}
@@ -53,29 +49,18 @@ small-at number place a b c = (a, omega arith, c, omega arith)
 -- ---- 4 to 6
 
 starts-small : (n : ℕ) (starts rows : List ℕ) → n < 2 ^ 64 → SmallIn (startsTest n starts rows)
+unfolding refusedAt
 starts-small n starts rows h =
-    go (test (eqb (length starts) (n + 1))) (test (eqb (start starts 1) 0)) (least (fallsAt starts) n) refl
-    (test (eqb (start starts (suc n)) (length rows)))
+    first-each SmallIn _ _ tt
+    (small-if _ _ (small-at 4 0 (omega arith) (omega arith) (omega arith))
+    & small-if _ _ (small-at 4 0 (omega arith) (omega arith) (omega arith))
+    & falls (least (fallsAt starts) n) refl
+    & small-if _ _ (small-at 4 n (omega arith) (omega arith) h)
+    & tt)
   where
-    go : Test (eqb (length starts) (n + 1)) → Test (eqb (start starts 1) 0) → (p : ℕ) → least (fallsAt starts) n ≡ p
-        → Test (eqb (start starts (suc n)) (length rows))
-        → SmallIn (startsTest n starts rows)
-    go (fails a) b p z d =
-        rw (starts-few n starts rows (eqb-false (length starts) (n + 1) a)) (small-at 4 0 (omega arith) (omega arith) (omega arith))
-    go (passes a) (fails b) p z d =
-        rw (starts-from n starts rows (eqb-true (length starts) (n + 1) a) (eqb-false (start starts 1) 0 b)) (small-at 4 0 (omega arith) (omega arith)
-        (omega arith))
-    go (passes a) (passes b) (suc j) z d =
-        let f = least-found-iff (fallsAt starts) n j .0 z .0 in
-        rw (starts-fall n starts rows (eqb-true (length starts) (n + 1) a) (eqb-true (start starts 1) 0 b) j z)
-        (small-at 4 (suc j) (omega arith) (omega arith) (omega arith))
-    go (passes a) (passes b) zero z (fails d) =
-        rw (starts-end n starts rows (eqb-true (length starts) (n + 1) a) (eqb-true (start starts 1) 0 b) z
-        (eqb-false (start starts (suc n)) (length rows) d))
-        (small-at 4 n (omega arith) (omega arith) h)
-    go (passes a) (passes b) zero z (passes d) =
-        rw (starts-pass n starts rows (eqb-true (length starts) (n + 1) a) (eqb-true (start starts 1) 0 b) z
-        (eqb-true (start starts (suc n)) (length rows) d)) tt
+    falls : (p : ℕ) → least (fallsAt starts) n ≡ p → SmallIn (refusedAt 4 p 0)
+    falls zero e = tt
+    falls (suc j) e = let l = least-found-iff (fallsAt starts) n j .0 e .0 in small-at 4 (suc j) (omega arith) (omega arith) (omega arith)
 
 rows-small : (n : ℕ) (starts rows : List ℕ) → n < 2 ^ 64 → SmallIn (rowsTest n starts rows)
 unfolding columnFault

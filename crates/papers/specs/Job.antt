@@ -9,8 +9,8 @@ use lib.Dec.{ltb, leb, eqb}
 use lib.ListN.{length, getD}
 use lib.Seq.{slice}
 use Rattle.papers.specs.Bounds.{maxColumns, maxMark, maxLimit}
-use Rattle.papers.specs.Lists.{_∈_, Asc, nth, least, Least}
-use Rattle.papers.specs.Refusals.{answer, Verdict, refused, refusedIf, Refusal, when, firstFault, on}
+use Rattle.papers.specs.Lists.{_∈_, Asc, nth}
+use Rattle.papers.specs.Refusals.{answer, Refusal, when, atLeast, firstFault, on, oneOf}
 use Rattle.papers.specs.declared.JobHead.{JobHead}
 
 -- a job: n, the start numbers, the rows strictly below the diagonal, the sibling mark, the room limit
@@ -82,39 +82,31 @@ jobLists job = record { n = job .n; starts = job .starts; rows = job .rows }
 unfoldable pub fallsAt : List ℕ → ℕ → Bool
 fallsAt starts j = ltb (start starts (suc j)) (start starts j)
 
--- finds 4, in this order: the number of starts and the first of them (place 0); the lowest column whose starts fall (its place); the last
--- start against the number of rows (place n)
-unfoldable pub startsTest : ℕ → List ℕ → List ℕ → Verdict
-startsTest n starts rows =
-    elim (eqb (length starts) (n + 1)) [
-      | false ↦ refused (answer 4 0 0)
-      | true ↦ elim (eqb (start starts 1) 0) [
-        | false ↦ refused (answer 4 0 0)
-        | true ↦ elim (least (fallsAt starts) n) [
-          | suc j ↦ refused (answer 4 (suc j) 0)
-          | zero ↦ refusedIf (not (eqb (start starts (suc n)) (length rows))) (answer 4 n 0)
-        ]
-      ]
-    ]
-
 -- start j + 1 is below start j
 abbrev pub Falls : List ℕ → ℕ → Type 0
 Falls starts j = start starts (suc j) < start starts j
 
--- the ways in which starts are bad, in the order tested, with the place of each
-pub data StartsFault (c : RowLists) : ℕ → Type 0 where
-  miscounted : length (c .starts) ≢ c .n + 1 → StartsFault c 0
-  not-zero : length (c .starts) ≡ c .n + 1 → start (c .starts) 1 ≢ 0 → StartsFault c 0
-  falling : {j : ℕ} → length (c .starts) ≡ c .n + 1 → start (c .starts) 1 ≡ 0 → Least (Falls (c .starts)) (c .n) j → StartsFault c j
-  last : length (c .starts) ≡ c .n + 1 → start (c .starts) 1 ≡ 0
-      → ((k : ℕ) → 1 ≤ k → k ≤ c .n → ¬ Falls (c .starts) k) → start (c .starts) (suc (c .n)) ≢ length (c .rows) → StartsFault c (c .n)
+-- 4 at place 0: there are not n + 1 starts
+abbrev pub startsMiscounted : Refusal RowLists
+startsMiscounted = when (λ c. not (eqb (length (c .starts)) (c .n + 1))) (λ c. length (c .starts) ≢ c .n + 1) (λ c. answer 4 0 0)
+
+-- 4 at place 0: the first start is not 0
+abbrev pub startsNotFromZero : Refusal RowLists
+startsNotFromZero = when (λ c. not (eqb (start (c .starts) 1) 0)) (λ c. start (c .starts) 1 ≢ 0) (λ c. answer 4 0 0)
+
+-- 4 at a column: its starts fall; the lowest such column counts
+abbrev pub startsFall : Refusal RowLists
+startsFall = atLeast 4 (λ c. c .n) (λ c. fallsAt (c .starts)) (λ c. Falls (c .starts))
+
+-- 4 at place n: the last start is not the number of rows
+abbrev pub startsEndWrong : Refusal RowLists
+startsEndWrong =
+    when (λ c. not (eqb (start (c .starts) (suc (c .n))) (length (c .rows)))) (λ c. start (c .starts) (suc (c .n)) ≢ length (c .rows))
+    (λ c. answer 4 (c .n) 0)
 
 -- 4: the starts are bad
 abbrev pub badStarts : Refusal RowLists
-badStarts = record {
-  test = λ c. startsTest (c .n) (c .starts) (c .rows);
-  gives = λ c a. (p : ℕ) × StartsFault c p × (a ≡ answer 4 p 0);
-}
+badStarts = oneOf (startsMiscounted ∷ startsNotFromZero ∷ startsFall ∷ startsEndWrong ∷ [])
 
 -- the fault of row r of column j: 5 if it is at most j or more than n; else 6 if it is not above the row before it; else 0
 unfoldable pub rowFault : ℕ → ℕ → ℕ → ℕ → ℕ

@@ -94,6 +94,10 @@ abbrev pub Unrefused : {C : Type 0} → List (Refusal C) → C → Type 0
 Unrefused [] call = Unit {0}
 Unrefused (r ∷ rs) call = ((b : Answer) → ¬ r .gives call b) × Unrefused rs call
 
+-- one refusal made of several, in the order tested
+abbrev pub oneOf : {C : Type 0} → List (Refusal C) → Refusal C
+oneOf rs = record { test = first rs; gives = Answered rs }
+
 -- ---- the whole outcome of a call: its answer, and what its lent slices hold afterwards
 pub record Outcome (S : Type 0) : Type 0 where
   pub answered : Answer

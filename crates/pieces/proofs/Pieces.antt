@@ -10,7 +10,7 @@ use lib.ListN.{length, replicate, take, drop}
 use Rattle.papers.specs.Bounds.{workLength}
 use Rattle.papers.specs.Lists.{upTo, head0, member, same, every, keep, sum, largest, merge, insert, sort, least, flat, startsFrom, thenZeros}
 use Rattle.papers.specs.Refusals.{answer, first, refusedIf, refusedAt, faultTest, outcome}
-use Rattle.papers.specs.Job.{Job, start, columnOf, pattern, fallsAt, startsTest, rowFault, rowsFault, columnFault, jobRefusals}
+use Rattle.papers.specs.Job.{Job, start, columnOf, pattern, fallsAt, rowFault, rowsFault, columnFault, jobRefusals}
 use Rattle.papers.specs.Fill.{gather, lists, R}
 use Rattle.papers.specs.Tree.{parent, t, children, isUnder, subtreeOf}
 use Rattle.papers.specs.Room.{topUpdate, roomAt, entriesAfter, rooms, peakOf, frontRoom}
@@ -64,7 +64,7 @@ unfolding lentFor sameAnswer flatMap upTo head0 member same every keep sum large
     bytesOf encode over lastGroup readFrom readNumber start columnOf gather lists R parent t children isUnder subtreeOf topUpdate frontRoom roomAt
     entriesAfter rooms peakOf columnAt siblingKey alone arranged stepsOf orderOf orderPeak gapsOf listNumbers listsNumbers listsOf keyNumbers
     keyOf planFor planOf stepNumbers planNumbers planBytes then onto inField field readStep readSteps readRows readList readLists atEnd readPlan
-    first refusedIf refusedAt faultTest outcome fallsAt startsTest rowFault rowsFault columnFault jobRefusals allZero someShort
+    first refusedIf refusedAt faultTest outcome fallsAt rowFault rowsFault columnFault jobRefusals allZero someShort
     earlyRefusals holdingPlan analysisEarly analysisLate analysisDone analysed planEarly planLate planDone planZero planWritten differsAt planRead
     readTest repeatedAt scattered truePeak judgeRefusals planTest planRefusals checkEarly checkLate checkDone checked roomsOf isDigit startingWith
     cut afterLines onWord wordsOf isDecimal allDecimal valueOf numbersOf numbersAt headOf rowsOfLine isRowLine textHead textLists textJob

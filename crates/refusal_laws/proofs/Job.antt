@@ -1,25 +1,17 @@
--- Proves that the tests of a job (1 to 6) agree with their conditions. Each way out of the test of the starts is one way in which starts
--- are bad; starts that are bad in no way pass.
+-- Proves that the tests of a job (1 to 6) agree with their conditions.
 -- Assumes nothing.
-use Prim.Native.Nat.{ℕ, zero, suc, _+_, _<_, _≤_}
-use mathlib.Core.Path.{_≡_, refl}
-use mathlib.Core.Logic.{_↔_, _⊎_, inl, inr, _≢_}
+use Prim.Native.Nat.{ℕ, suc, _+_, _<_}
+use mathlib.Core.Path.{_≡_}
+use mathlib.Core.Logic.{_↔_, _≢_}
 use mathlib.Core.Bool.{true}
-use native.Mathlib.Decide.{ℕ-discrete}
 use native.Mathlib.Omega.{arith}
 use lib.ListN.{length}
 use borrow.Author.Tests.{ltb-true, lt-ltb}
-use Rattle.papers.specs.declared.Answer.{Answer}
 use Rattle.papers.specs.Bounds.{maxColumns, maxMark, maxLimit}
-use Rattle.papers.specs.Lists.{least, Least}
-use Rattle.papers.specs.Refusals.{answer, Verdict, passed, refused, first}
-use Rattle.papers.specs.Job.{Job, start, falling, fallsAt, startsTest, jobRefusals, RowLists, jobLists, Falls, StartsFault, miscounted, not-zero}
-use Rattle.papers.specs.Job.{badStarts, columnsOver, limitOver, markUnknown}
-use Rattle.papers.specs.Job.{fallsAt as falls-at, last}
-use Rattle.list_laws.proofs.Leasts.{least-zero-iff}
-use Rattle.job_laws.proofs.Starts.{falls-false-iff, starts-few, starts-from, starts-fall, starts-end, starts-pass}
-use Rattle.refusal_laws.proofs.Agreements.{Agree, agree-by, AgreeEach, _▸_}
-use Rattle.refusal_laws.proofs.Tests.{below-iff, agree-if, found-iff}
+use Rattle.papers.specs.Job.{Job, start, fallsAt, Falls, RowLists, jobLists, jobRefusals, columnsOver, limitOver, markUnknown}
+use Rattle.papers.specs.Job.{badStarts}
+use Rattle.refusal_laws.proofs.Agreements.{Agree, answered-iff, AgreeEach, _▸_}
+use Rattle.refusal_laws.proofs.Tests.{below-iff, differ-iff, agree-if, agree-at}
 use Rattle.refusal_laws.proofs.Rows.{rows-agree}
 
 -- the tests of 1, 2 and 3 agree with their conditions
@@ -42,44 +34,14 @@ module _ (c : RowLists) where
   unfolding fallsAt
   falls-iff j = below-iff (start (c .starts) (suc j)) (start (c .starts) j)
 
-  least-fall : (j : ℕ) → (least (fallsAt (c .starts)) (c .n) ≡ suc j) ↔ Least (Falls (c .starts)) (c .n) (suc j)
-  least-fall = found-iff (fallsAt (c .starts)) (c .n) (λ k l h. falls-iff k)
-
-  no-fall : ((k : ℕ) → 1 ≤ k → k ≤ c .n → ¬ Falls (c .starts) k) ↔ (least (fallsAt (c .starts)) (c .n) ≡ 0)
-  no-fall =
-      let i = least-zero-iff (fallsAt (c .starts)) (c .n) in (
-        λ h. i .1 (λ k l u. falls-false-iff (c .starts) k .1 (omega (arith, h k l u))),
-        λ z k l u q. absurd (omega (arith, falls-false-iff (c .starts) k .0 (i .0 z k l u))),
-      )
-
-  fall : length (c .starts) ≡ c .n + 1 → start (c .starts) 1 ≡ 0 → (j : ℕ) → Least (Falls (c .starts)) (c .n) j
-      → startsTest (c .n) (c .starts) (c .rows) ≡ refused (answer 4 j 0)
-  fall long from-zero zero h = absurd (omega (arith, h .0 .0))
-  fall long from-zero (suc j) h = starts-fall (c .n) (c .starts) (c .rows) long from-zero j (least-fall j .1 h)
-
   pub starts-agree : Agree (badStarts .test c) (badStarts .gives c)
   starts-agree =
-      agree-by _ _ (λ a h. (rw (h .2) (gives (h .0) (h .1)), rw (h .2) (omega arith)))
-      (go (ℕ-discrete (length (c .starts)) (c .n + 1)) (ℕ-discrete (start (c .starts) 1) 0) (least (fallsAt (c .starts)) (c .n)) refl
-      (ℕ-discrete (start (c .starts) (suc (c .n))) (length (c .rows))))
-    where
-      gives : (p : ℕ) → StartsFault c p → startsTest (c .n) (c .starts) (c .rows) ≡ refused (answer 4 p 0)
-      gives p (miscounted h) = starts-few (c .n) (c .starts) (c .rows) h
-      gives p (not-zero long h) = starts-from (c .n) (c .starts) (c .rows) long h
-      gives p (falling long from-zero l) = fall long from-zero p l
-      gives p (last long from-zero none h) = starts-end (c .n) (c .starts) (c .rows) long from-zero (no-fall .0 none) h
-
-      four : (p : ℕ) → StartsFault c p → (startsTest (c .n) (c .starts) (c .rows) ≡ passed) ⊎ ((a : Answer) × badStarts .gives c a)
-      four p b = inr (answer 4 p 0, (p, b, refl))
-
-      go : Dec (length (c .starts) ≡ c .n + 1) → Dec (start (c .starts) 1 ≡ 0) → (p : ℕ) → least (fallsAt (c .starts)) (c .n) ≡ p
-          → Dec (start (c .starts) (suc (c .n)) ≡ length (c .rows))
-          → (startsTest (c .n) (c .starts) (c .rows) ≡ passed) ⊎ ((a : Answer) × badStarts .gives c a)
-      go (no a) b p z d = four 0 (miscounted a)
-      go (yes a) (no b) p z d = four 0 (not-zero a b)
-      go (yes a) (yes b) (suc j) z d = four (suc j) (falling a b (least-fall j .0 z))
-      go (yes a) (yes b) zero z (no d) = four (c .n) (last a b (no-fall .1 z) d)
-      go (yes a) (yes b) zero z (yes d) = inl (starts-pass (c .n) (c .starts) (c .rows) a b z d)
+      answered-iff _ c
+      (agree-if _ _ (omega arith) (differ-iff (length (c .starts)) (c .n + 1))
+      ▸ λ p. agree-if _ _ (omega arith) (differ-iff (start (c .starts) 1) 0)
+      ▸ λ p. agree-at (fallsAt (c .starts)) (c .n) (λ k l h. falls-iff k) (λ p. 4) (λ p. 0) (λ p l u h. omega arith)
+      ▸ λ p. agree-if _ _ (omega arith) (differ-iff (start (c .starts) (suc (c .n))) (length (c .rows)))
+      ▸ λ p. tt)
 
 -- ---- 1 to 6
 

@@ -12,10 +12,10 @@ use Rattle.papers.specs.declared.Answer.{Answer}
 use Rattle.papers.specs.Bounds.{maxColumns}
 use Rattle.papers.specs.Lists.{zeros}
 use Rattle.papers.specs.Refusals.{answer, passed, refused, answerOf, on, first, Outcome, EndsAs}
-use Rattle.papers.specs.Job.{startsTest, columnsOver}
+use Rattle.papers.specs.Job.{columnsOver}
 use Rattle.papers.specs.Analysis.{someShort, sliceShort}
 use Rattle.papers.specs.Run.{RunCall, runFixed, runLengths, runEarly, runLate, runDone, ran}
-use Rattle.job_laws.specs.Passed.{rowsTest}
+use Rattle.job_laws.specs.Passed.{startsTest, rowsTest}
 use Rattle.job_laws.proofs.Firsts.{refused-by, first-passes, first-refuses, first-last, over-refuses, over-passes-iff}
 use Rattle.job_laws.proofs.Numbered.{starts-numbered, rows-numbered, numbered-zero}
 use Rattle.job_laws.proofs.Lengths.{short-here, short-later, short-last, long-iff, lengths-pass-iff, lengths-refuse}

@@ -1,19 +1,17 @@
 -- Proves that a job with narrowed rows is refused as the job itself is: a row that narrowing changes is over n, and so is the row kept for it, so
 -- both are 5 at the same column.
 -- Assumes nothing.
-use Prim.Native.Nat.{ℕ, zero, suc, _+_, _<_, _≤_}
+use Prim.Native.Nat.{ℕ, zero, suc, _<_, _≤_}
 use mathlib.Core.Path.{_≡_, refl, sym, ap, _∙_}
 use mathlib.Core.Logic.{_⊎_, inl, inr}
 use mathlib.Core.List.{List, [], _∷_, map}
 use native.Mathlib.Omega.{arith}
-use lib.Dec.{eqb}
-use lib.ListN.{length, take, drop, length-map}
+use lib.ListN.{take, drop, length-map}
 use Rattle.papers.specs.Bounds.{maxColumns}
-use Rattle.papers.specs.Lists.{least}
 use Rattle.papers.specs.Refusals.{answer, Verdict, passed, refused, Refusal, first}
-use Rattle.papers.specs.Job.{Job, start, columnOf, fallsAt, rowFault, rowsFault, columnFault, startsTest, jobRefusals}
-use Rattle.job_laws.specs.Passed.{rowsTest}
-use Rattle.list_laws.proofs.Tests.{below-or, Test, passes, fails, test}
+use Rattle.papers.specs.Job.{Job, start, columnOf, rowFault, rowsFault, columnFault, jobRefusals}
+use Rattle.job_laws.specs.Passed.{startsTest, rowsTest}
+use Rattle.list_laws.proofs.Tests.{below-or, test}
 use Rattle.job_laws.proofs.Firsts.{first-passes, first-refuses, over-refuses}
 use Rattle.job_laws.proofs.Faults.{faults-same}
 use Rattle.job_laws.proofs.Rows.{row-over, rows-fault, rows-next}
@@ -64,18 +62,6 @@ module _ (n : ℕ) (starts rows : List ℕ) (few : n ≤ maxColumns) where
   rows-same : rowsTest n starts (map narrowed rows) ≡ rowsTest n starts rows
   rows-same = faults-same (columnFault n starts (map narrowed rows)) (columnFault n starts rows) n (λ number j. answer number j 0) (λ j l h. fault-same j h)
 
--- only the number of rows matters to the test of the starts
-starts-same : (n : ℕ) (starts rows : List ℕ) → startsTest n starts (map narrowed rows) ≡ startsTest n starts rows
-unfolding startsTest
-starts-same n starts rows = go (test (eqb (length starts) (n + 1))) (test (eqb (start starts 1) 0)) (least (fallsAt starts) n) refl
-  where
-    go : Test (eqb (length starts) (n + 1)) → Test (eqb (start starts 1) 0) → (j : ℕ) → least (fallsAt starts) n ≡ j
-        → startsTest n starts (map narrowed rows) ≡ startsTest n starts rows
-    go (fails e) f j z = rw (e, startsTest)
-    go (passes e) (fails f) j z = rw (e, f, startsTest)
-    go (passes e) (passes f) (suc j) z = rw (e, f, z, startsTest)
-    go (passes e) (passes f) zero z = rw (e, f, z, startsTest, length-map rows narrowed)
-
 -- two calls get the same refusal if each test finds the same in both
 abbrev SameEach : {C : Type 0} → List (Refusal C) → C → C → Type 0
 SameEach [] c d = Unit {0}
@@ -89,6 +75,10 @@ first-same (r ∷ rs) c d h = go (r .test d) refl (first-same rs c d (h .1))
     go : (v : Verdict) → r .test d ≡ v → first rs c ≡ first rs d → first (r ∷ rs) c ≡ first (r ∷ rs) d
     go passed e ih = first-passes r rs c (h .0 ∙ e) ∙ ih ∙ sym (first-passes r rs d e)
     go (refused a) e ih = first-refuses r rs c (h .0 ∙ e) ∙ sym (first-refuses r rs d e)
+
+-- only the number of rows matters to the test of the starts
+starts-same : (n : ℕ) (starts rows : List ℕ) → startsTest n starts (map narrowed rows) ≡ startsTest n starts rows
+starts-same n starts rows = first-same _ _ _ (refl, (refl, (refl, (rw (length-map rows narrowed), tt))))
 
 -- a job and the kept job get the same refusal
 pub kept-tests : (job : Job) → first jobRefusals (keptJob job) ≡ first jobRefusals job

@@ -5,8 +5,7 @@ use mathlib.Core.Path.{_≡_}
 use mathlib.Core.List.{List}
 use Rattle.papers.specs.Bounds.{maxColumns}
 use Rattle.papers.specs.Refusals.{passed}
-use Rattle.papers.specs.Job.{startsTest}
-use Rattle.job_laws.specs.Passed.{rowsTest}
+use Rattle.job_laws.specs.Passed.{startsTest, rowsTest}
 
 -- r ends a run of rows from i on, in a list that ends at `to`
 pub record RunEnd (i to r : ℕ) : Type 0 where

@@ -6,9 +6,9 @@ use mathlib.Core.List.{List, [], _∷_}
 use lib.ListN.{length}
 use Rattle.papers.specs.Bounds.{maxColumns, maxPeak}
 use Rattle.papers.specs.Refusals.{passed}
-use Rattle.papers.specs.Job.{Job, columnOf, startsTest}
+use Rattle.papers.specs.Job.{Job, columnOf}
 use Rattle.papers.specs.Key.{listsOf}
-use Rattle.job_laws.specs.Passed.{Passed, rowsTest}
+use Rattle.job_laws.specs.Passed.{Passed, startsTest, rowsTest}
 use Rattle.papers.specs.Plan.{Plan}
 
 -- pairs the columns and the pops of two lists to steps

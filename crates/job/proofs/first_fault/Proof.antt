@@ -9,8 +9,8 @@ use borrow.Author.Needs.{needs}
 use Rattle.papers.specs.declared.Answer.{Answer}
 use Rattle.papers.specs.Bounds.{maxColumns, maxMark, maxLimit}
 use Rattle.papers.specs.Refusals.{answer, passed, refused, answerOf, Refusal, on, first}
-use Rattle.papers.specs.Job.{Job, startsTest, jobRefusals, markUnknown, limitOver, jobLists, badStarts, badRow}
-use Rattle.job_laws.specs.Passed.{rowsTest}
+use Rattle.papers.specs.Job.{Job, jobRefusals, markUnknown, limitOver, jobLists, badStarts, badRow}
+use Rattle.job_laws.specs.Passed.{startsTest, rowsTest}
 use Rattle.job_laws.proofs.Firsts.{first-passes, first-refuses, first-answers, first-last, over-refuses, over-passes-iff, answer-refused}
 use Rattle.job_rows.proofs.Started.{started}
 use Rattle.job.proofs.first_fault.Statement.{statement}
