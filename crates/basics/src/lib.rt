@@ -1,5 +1,7 @@
 // Functions of machine numbers that many crates use: they widen and narrow a number, take the lesser or the greater of two, and make an
 // answer of three numbers.
+#![tactic(auto)]
+
 ghost use Rattle.std.specs.Prelude.{◌≡◌, ◌<◌, ◌^◌, min, max};
 ghost use Rattle.papers.specs.Refusals.{answer};
 ghost use Rattle.basics.specs.Widened.{Widened};

@@ -1,5 +1,7 @@
 // The entry points for C. A slice is a pointer and a length; a function returns the answer's number and stores its place and count. Each
 // calls its entry point and promises the same outcome.
+#![tactic(auto)]
+
 ghost use Rattle.std.specs.Prelude.{◌≡◌, List, ℕ};
 ghost use Rattle.papers.specs.Refusals.{answer, Outcome};
 ghost use Rattle.papers.specs.Job.{job_of};

@@ -1,1 +1,2 @@
 // Laws of the solver's call: what it answers for each key, and how large an answer can be. No code.
+#![tactic(auto)]

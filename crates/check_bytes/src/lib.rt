@@ -1,4 +1,6 @@
 // The judgement on a plan's bytes: compares them with the key, reads them into the slices, and judges the plan there.
+#![tactic(auto)]
+
 ghost use Rattle.papers.specs.Job.{job_of};
 ghost use Rattle.lent.specs.Six.{six_slices};
 ghost use Rattle.check_bytes.specs.Ruled.{check_of, Checkable, Ruled, Judgeable, Followed};

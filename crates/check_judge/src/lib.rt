@@ -1,4 +1,6 @@
 // The judgement on a plan that was read: tests 16 to 20 and 9.
+#![tactic(auto)]
+
 ghost use Rattle.papers.specs.Job.{job_of};
 ghost use Rattle.lent.specs.Six.{six_slices};
 ghost use Rattle.check_judge.specs.Judged.{PlanGiven, TreeGiven, TreeJudged, Judgement};

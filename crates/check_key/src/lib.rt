@@ -1,4 +1,6 @@
 // Compares a plan's beginning with the job's key.
+#![tactic(auto)]
+
 ghost use Rattle.std.specs.Prelude.{◌≡◌};
 ghost use Rattle.papers.specs.Job.{job_of};
 ghost use Rattle.papers.specs.Key.{key_of};

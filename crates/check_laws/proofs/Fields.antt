@@ -30,7 +30,7 @@ module _ (n : ℕ) (s : List ℕ) where
     stay : Leads y to y to
     on : {x : Field} {at v mid : ℕ} → x ≢ nothing → number_at x at ≡ got v mid → Leads y to (following n x v) mid → Leads y to x at
 
-  pub leads-on : {x y z : Field} {at to end : ℕ} → Leads y to x at → Leads z end y to → Leads z end x at
+  pub leads-on : {y : Field} {to : ℕ} {z : Field} {end : ℕ} {x : Field} {at : ℕ} → Leads y to x at → Leads z end y to → Leads z end x at
   leads-on stay k = k
   leads-on (on h e l) k = on h e (leads-on l k)
 
@@ -43,7 +43,7 @@ module _ (n : ℕ) (s : List ℕ) where
   abbrev Stuck : Field → ℕ → Type 0
   Stuck y to = (v mid : ℕ) → y ≢ nothing → number_at y to ≡ got v mid → ⊥
 
-  leads-once : {x y z : Field} {at to end : ℕ} → Leads y to x at → Stuck y to → Leads z end x at → Stuck z end → (y ≡ z) × (to ≡ end)
+  leads-once : {y : Field} {to : ℕ} {z : Field} {end : ℕ} {x : Field} {at : ℕ} → Leads y to x at → Stuck y to → Leads z end x at → Stuck z end → (y ≡ z) × (to ≡ end)
   leads-once stay p stay q = (refl, refl)
   leads-once stay p (on h e l) q = absurd (p _ _ h e)
   leads-once (on h e l) p stay q = absurd (q _ _ h e)
@@ -71,7 +71,7 @@ module _ (n : ℕ) (s : List ℕ) where
   pub fails-no-end : {x : Field} {at a p end : ℕ} → Fails x at a p → Leads nothing end x at → length s ≤ end → ⊥
   fails-no-end (y, to, l, h) m u = let (c, d) = leads-once l (halts-stuck h) m (λ v mid k f. k refl) in go u (rw (c, d) at h)
     where
-      go : {a p end : ℕ} → length s ≤ end → Halts nothing end a p → ⊥
+      go : {a end p : ℕ} → length s ≤ end → Halts nothing end a p → ⊥
       go u (at-number h e) = h refl
       go u (behind e l) = omega arith
 
@@ -82,7 +82,7 @@ module _ (n : ℕ) (s : List ℕ) where
   standing at x e = (number-stands-iff s at x).0 e
 
   module _ (from : ℕ) where
-    reaches : {x y : Field} {at to : ℕ} → Reaches n s from x at → Leads y to x at → Reaches n s from y to
+    reaches : {y : Field} {to : ℕ} {x : Field} {at : ℕ} → Reaches n s from x at → Leads y to x at → Reaches n s from y to
     reaches r stay = r
     reaches r (on h e l) = let f = field-got _ _ s _ _ _ e in reaches (next r h (standing _ _ f.number) f.low f.high) l
 

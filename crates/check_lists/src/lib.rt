@@ -1,5 +1,7 @@
 // Test 17: finds the first column whose list in a plan is not R(j). It takes the columns in ascending order, so each list is compared with
 // lists that were found right before.
+#![tactic(auto)]
+
 ghost use Rattle.papers.specs.Job.{column_of};
 ghost use Rattle.check_marks.specs.Marked.{ListComparable, Compared};
 ghost use Rattle.check_lists.specs.Lists.{ListsComparable, ListsCompared};

@@ -1,6 +1,8 @@
 // Marks and counts the rows of R(j): its pattern rows and the rows that its children hand on, each once. So a list is compared with R(j)
 // without a second set of lists. In work, place j holds the first child of column j, place n + c the sibling behind column c, and place n +
 // n + i the mark of row i.
+#![tactic(auto)]
+
 ghost use Rattle.papers.specs.Job.{column_of};
 ghost use Rattle.column_list.specs.Stored.{Next};
 ghost use Rattle.check_marks.specs.Marked.{MarkableOnce, MarkedNew, Counted, ListComparable, Compared};

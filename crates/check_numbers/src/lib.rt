@@ -1,4 +1,6 @@
 // Compares numbers and lists with a plan's bytes: makes the bytes of each number and compares them with the plan's.
+#![tactic(auto)]
+
 ghost use Rattle.std.specs.Prelude.{◌≡◌, [], ◌∷◌};
 ghost use Rattle.std.proofs.Math.Seq.{slice};
 ghost use Rattle.papers.specs.Job.{column_of};
@@ -9,7 +11,7 @@ ghost use Rattle.check_numbers.specs.Matches.{match_from};
 
 // What the comparison finds: the plan begins with the key, which ends before `next`; or the first byte, counted from 1, that differs from
 // the key's or that the plan lacks.
-#[derive(Drop)]
+#[derive(Clone, Copy, Drop)]
 pub enum KeyMatch {
     Begins { next: usize },
     Differs { place: u64 },

@@ -1,5 +1,7 @@
 // Tests of a list of rows: whether it equals another, whether it begins with another, and whether the rest of it is the pattern rows. In
 // work, place n + n + i holds the mark of row i.
+#![tactic(auto)]
+
 ghost use Rattle.std.specs.Prelude.{◌≡◌, true, length};
 ghost use Rattle.papers.specs.Lists.{keep, same};
 ghost use Rattle.child_lists.specs.Marks.{is_marked, Markable};

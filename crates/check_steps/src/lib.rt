@@ -1,4 +1,6 @@
 // Tests of a plan's steps one by one: 16, no column is done twice; 19, each step pops as many updates as its column has children.
+#![tactic(auto)]
+
 ghost use Rattle.std.specs.Prelude.{◌≡◌, length};
 ghost use Rattle.papers.specs.Lists.{least};
 ghost use Rattle.papers.specs.Check.{repeated_at};

@@ -2,6 +2,8 @@
 // done at step s must take the w steps that end at s. It does exactly when every column under its top is done in that window, and comparing
 // child with parent shows this: a column strays if it is done after its parent, or if its own window begins before its parent's. The answer
 // is the least step of a parent from which a child strays: before that step all is well.
+#![tactic(auto)]
+
 ghost use Rattle.std.specs.Prelude.{◌≡◌, ◌+◌, length};
 ghost use Rattle.papers.specs.Lists.{least};
 ghost use Rattle.papers.specs.Order.{scattered};

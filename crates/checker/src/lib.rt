@@ -1,4 +1,6 @@
 // The entry point of the check of a plan's bytes for a job.
+#![tactic(auto)]
+
 ghost use Rattle.papers.specs.Refusals.{EndsAs};
 ghost use Rattle.papers.specs.Job.{job_of};
 ghost use Rattle.papers.specs.Check.{checked};

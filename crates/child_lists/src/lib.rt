@@ -1,5 +1,7 @@
 // Joins the rows of a column's children to its own. Children are linked in work, and a child that brings no new row is skipped. In work,
 // place j holds the first child of column j, place n + c the sibling behind column c, and place n + n + i the mark of row i.
+#![tactic(auto)]
+
 ghost use Rattle.std.specs.Prelude.{◌≡◌, ◌-◌};
 ghost use Rattle.papers.specs.Lists.{merge, every};
 ghost use Rattle.child_lists.specs.Marks.{marked, is_marked, Markable};
@@ -7,7 +9,7 @@ ghost use Rattle.child_lists.specs.Buffers.{list_in_turn, Holds, Roomy};
 ghost use Rattle.child_lists.specs.Joining.{Joining, ChildrenJoined};
 
 // Where a gathered list is: the first len rows of the first buffer if turn is 0, else of the second.
-#[derive(Drop)]
+#[derive(Clone, Copy, Drop)]
 pub struct Gathered {
     pub turn: usize,
     pub len: usize,

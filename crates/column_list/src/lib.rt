@@ -1,5 +1,7 @@
 // Makes the list R(j) of one column: joins its pattern rows with the rows that its children hand on. In work, place j holds the first child
 // of column j, place n + c the sibling behind column c, and place n + n + i the mark of row i.
+#![tactic(auto)]
+
 ghost use Rattle.std.specs.Prelude.{◌≡◌, ◌+◌};
 ghost use Rattle.papers.specs.Job.{column_of};
 ghost use Rattle.child_lists.specs.Buffers.{list_in_turn};

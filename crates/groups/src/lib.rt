@@ -1,11 +1,13 @@
 // Cuts numbers into groups of seven bits: how many groups a number has, and their bytes.
+#![tactic(auto)]
+
 ghost use Rattle.std.specs.Prelude.{◌≡◌, length};
 ghost use Rattle.papers.specs.Numbers.{bytes_of};
 ghost use Rattle.groups.specs.Fits.{FitsGroups};
 ghost use Rattle.groups.specs.InArray.{InArray};
 
 // The bytes of a number in a little array: the first `count` of it, then zeros.
-#[derive(Drop)]
+#[derive(Clone, Copy, Drop)]
 pub struct Groups {
     pub bytes: [u8; papers::MAX_GROUPS],
     pub count: usize,

@@ -1,4 +1,6 @@
 // The tests of a job, 1 to 6, in the order of the rules' table.
+#![tactic(auto)]
+
 ghost use Rattle.std.specs.Prelude.{◌≡◌};
 ghost use Rattle.papers.specs.Refusals.{answer_of, first};
 ghost use Rattle.papers.specs.Job.{job_of, job_refusals};

@@ -1,4 +1,6 @@
 // Tests 5 and 6: the rows of a job.
+#![tactic(auto)]
+
 ghost use Rattle.std.specs.Prelude.{◌≡◌};
 ghost use Rattle.papers.specs.Refusals.{answer_of};
 ghost use Rattle.papers.specs.Job.{fault_of_row};

@@ -1,4 +1,6 @@
 // Test 4: the starts of a job.
+#![tactic(auto)]
+
 ghost use Rattle.std.specs.Prelude.{◌≡◌, ◌≤◌};
 ghost use Rattle.papers.specs.Bounds.{max_columns};
 ghost use Rattle.papers.specs.Refusals.{answer_of};

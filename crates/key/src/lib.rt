@@ -1,4 +1,6 @@
 // Writes the key of a job into a lent slice.
+#![tactic(auto)]
+
 ghost use Rattle.std.specs.Prelude.{◌≡◌};
 ghost use Rattle.papers.specs.Refusals.{passed, first, EndsAs};
 ghost use Rattle.papers.specs.Job.{job_of, job_refusals};

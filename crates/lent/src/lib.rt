@@ -1,4 +1,6 @@
 // The six slices lent to an analysis or a check, and the clearing of all six.
+#![tactic(auto)]
+
 ghost use Rattle.std.specs.Prelude.{◌≡◌};
 ghost use Rattle.papers.specs.Analysis.{Lent, all_zero};
 ghost use Rattle.lent.specs.Six.{six_slices};

@@ -1,4 +1,6 @@
 // Makes the lists of the columns in the lent slices.
+#![tactic(auto)]
+
 ghost use Rattle.papers.specs.Job.{column_of};
 ghost use Rattle.lent.specs.Six.{six_slices};
 ghost use Rattle.lent_lists.specs.Listing.{ListableIn, Listing};

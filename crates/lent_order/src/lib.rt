@@ -1,4 +1,6 @@
 // Makes the order of the columns, and the pops of its steps, in the lent slices.
+#![tactic(auto)]
+
 ghost use Rattle.lent_order.specs.Ordering.{Orderable, Ordering};
 
 // Writes the order of the columns by the mark, and the pops of its steps, to the start of their slices, from the parents and factor starts

@@ -1,4 +1,6 @@
 // Makes the plan of a job in the six lent slices, its lists and its order, or answers 8 or 9.
+#![tactic(auto)]
+
 ghost use Rattle.papers.specs.Job.{job_of};
 ghost use Rattle.lent.specs.Six.{six_slices};
 ghost use Rattle.lent_plan.specs.Made.{Plannable, Made};

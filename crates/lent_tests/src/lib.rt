@@ -1,4 +1,6 @@
 // Tests whether the slices lent to an analysis or a check are long enough, and their job: 1 to 7.
+#![tactic(auto)]
+
 ghost use Rattle.std.specs.Prelude.{◌≡◌, ◌≤◌};
 ghost use Rattle.papers.specs.Bounds.{max_columns, work_length_for};
 ghost use Rattle.papers.specs.Refusals.{answer_of, first};

@@ -1,5 +1,7 @@
 // A column's children, linked in work: the rows that each hands on, and the child with the most rows. In work, place j holds the first
 // child of column j, and place n + c the sibling behind column c.
+#![tactic(auto)]
+
 ghost use Rattle.std.specs.Prelude.{◌≡◌};
 ghost use Rattle.linked_children.specs.Children.{StoredChild, handed_rows, Linked, Longest};
 

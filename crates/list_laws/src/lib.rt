@@ -1,1 +1,2 @@
 // Laws of the words about lists that papers defines, and of the two sides of a test. No code.
+#![tactic(auto)]

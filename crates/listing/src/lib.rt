@@ -1,5 +1,7 @@
 // The entry point of the listing: prints a job text's listing into a lent slice, in fixed zeroed buffers of the program's sizes. It prints
 // the line of the text's refusal, or what is printed of its job.
+#![tactic(auto)]
+
 ghost use Rattle.std.specs.Prelude.{◌≤◌, length};
 ghost use Rattle.papers.specs.Refusals.{EndsAs};
 ghost use Rattle.papers.specs.Job.{job_of};

@@ -1,5 +1,7 @@
 // Writes numbers in decimal, and the two lines of a word and three numbers that the listing program prints: the header, and the line of a
 // refusal. Each function answers the place behind what it writes.
+#![tactic(auto)]
+
 ghost use Rattle.std.specs.Prelude.{◌+◌, ◌≤◌, ◌∷◌, [], length};
 ghost use Rattle.papers.specs.Text.{decimal_of, space, printed, word_plan, refusal_line};
 ghost use Rattle.list_laws.specs.Wrote.{Wrote};

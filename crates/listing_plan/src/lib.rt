@@ -1,4 +1,6 @@
 // Prints what is printed of a job: analyses it in lent slices, then writes its listing from them, or the line of its refusal.
+#![tactic(auto)]
+
 ghost use Rattle.papers.specs.Job.{job_of};
 ghost use Rattle.list_laws.specs.Wrote.{Wrote};
 ghost use Rattle.lent.specs.Six.{six_slices};

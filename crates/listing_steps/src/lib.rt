@@ -1,4 +1,6 @@
 // Writes the lines of a listing behind its header, one for each step of an order, from the slices that hold an analysis.
+#![tactic(auto)]
+
 ghost use Rattle.std.specs.Prelude.{◌∷◌, ◌+◌, ◌≤◌, length};
 ghost use Rattle.papers.specs.Job.{column_of};
 ghost use Rattle.papers.specs.Text.{decimal_of, printed};

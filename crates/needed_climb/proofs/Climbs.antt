@@ -32,7 +32,7 @@ pub record Climb (i k : ℕ) (p₀ w₀ : List ℕ) (t₀ : ℕ) (p w : List ℕ
 pub begin : {i k t : ℕ} {p w : List ℕ} → Climbing i k p w t → Climb i k p w t p w t k
 begin {i} {k} {t} {p} {w} s =
     record {
-      state = λ n A u. (settle k u.row u.row.own_val, inr u.leaf);
+      state = λ n A u. (settle k u.row u.row.own, inr u.leaf);
       low = s.start.first;
       high = omega (arith, R-range s.start.good k i s.start.leaf);
       met = inr refl;

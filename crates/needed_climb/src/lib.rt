@@ -1,5 +1,7 @@
 // Climbs over parents within a row: if a column has the row, its parents have it too, up to the row's own column. In work, place c holds
 // the mark of column c; in parents, place c - 1 holds its parent.
+#![tactic(auto)]
+
 ghost use Rattle.needed_climb.specs.Row.{Climbing, Climbed};
 
 // Climbs from column k, which has row i, from parent to parent up to a column that is marked for row i. Marks and counts each column on the

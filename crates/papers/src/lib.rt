@@ -1,7 +1,8 @@
 // The types and bounds that code and definitions share. The rules themselves are defined in specs/.
+#![tactic(auto)]
 
 // What an entry point answers: the number of a refusal, or 0 for done; a place; a count.
-#[derive(Drop)]
+#[derive(Clone, Copy, Drop)]
 pub struct Answer {
     pub number: u64,
     pub place: u64,
@@ -9,7 +10,7 @@ pub struct Answer {
 }
 
 // The three numbers of a job beside its lists: its size, sibling mark and room limit.
-#[derive(Drop)]
+#[derive(Clone, Copy, Drop)]
 pub struct JobHead {
     pub n: u64,
     pub mark: u64,
@@ -18,7 +19,7 @@ pub struct JobHead {
 
 // What reading a number finds: its value and the place behind it; or the bytes end inside it, or it has too many groups, or a shorter form
 // of it exists.
-#[derive(Drop)]
+#[derive(Clone, Copy, Drop)]
 pub enum Number {
     Value { value: u64, next: usize },
     Ended,

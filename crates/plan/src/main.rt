@@ -1,4 +1,6 @@
 // The program `plan`: prints the listing of the job text on standard input, or the line of its refusal.
+#![tactic(auto)]
+
 use libc::{STDIN_FILENO, STDOUT_FILENO};
 
 // Reads as much as the input buffer holds, and looks whether a byte follows.

@@ -1,1 +1,2 @@
 // Laws of plans: what passes the check is sound, and what is written passes. No code.
+#![tactic(auto)]

@@ -1,4 +1,6 @@
 // Stores the bytes of a plan beside the lent slices that hold it.
+#![tactic(auto)]
+
 ghost use Rattle.papers.specs.Refusals.{EndsAs};
 ghost use Rattle.papers.specs.Job.{job_of};
 ghost use Rattle.papers.specs.Plan.{plan_of, bytes_of_plan};

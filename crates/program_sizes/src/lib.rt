@@ -1,4 +1,5 @@
 // The sizes of the listing program; the solver's call uses those of its buffers. The module Bounds of papers defines the same sizes.
+#![tactic(auto)]
 
 // The most bytes of a job text, the most digits of a decimal, and the sibling mark of a text that gives none.
 pub const INPUT_BYTES: usize = 8192;

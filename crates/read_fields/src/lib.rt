@@ -1,5 +1,7 @@
 // Reads a field from any bytes: a number of its range, or the refusal's number and place. Believes nothing of the bytes before testing its
 // range.
+#![tactic(auto)]
+
 ghost use Rattle.std.specs.Prelude.{◌≡◌, ◌≢◌, ◌+◌, ◌^◌, ◌≤◌, ◌<◌, length};
 ghost use Rattle.papers.specs.Numbers.{number_read_from, within_field, field};
 ghost use Rattle.papers.specs.declared.Number.TheVariants.{Value};
@@ -8,7 +10,7 @@ ghost use Rattle.read_fields.specs.Reading.{reading};
 use papers::Number;
 
 // What reading a part of a plan answers: a value and the place behind it; or a refusal's number and place.
-#[derive(Drop)]
+#[derive(Clone, Copy, Drop)]
 pub enum Reading {
     Found { value: u64, next: usize },
     Refused { number: u64, place: u64 },

@@ -1,5 +1,7 @@
 // Reads a key from any bytes: the numbers of its job, how many pattern rows it lists and where its lists begin; or that it is not readable.
 // Keeps nothing of the lists, so it judges a key of any size. A caller with room for the lists reads them again from where they begin.
+#![tactic(auto)]
+
 ghost use Rattle.std.specs.Prelude.{◌≡◌, ◌≤◌, length};
 ghost use Rattle.papers.specs.Lists.{flat};
 ghost use Rattle.papers.specs.Key.{lists_read_from};
@@ -10,14 +12,14 @@ use papers::JobHead;
 use read_fields::Reading;
 
 // What the numbers before the lists say, and the place behind them; or that they are at fault.
-#[derive(Drop)]
+#[derive(Clone, Copy, Drop)]
 pub enum HeadReading {
     Head { head: JobHead, next: usize },
     Faulty,
 }
 
 // What reading a whole key answers: the numbers of its job, how many rows its lists have, and where they begin; or that it is not readable.
-#[derive(Drop)]
+#[derive(Clone, Copy, Drop)]
 pub enum KeyReading {
     Whole {
         head: JobHead,

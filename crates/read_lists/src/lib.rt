@@ -1,4 +1,6 @@
 // Reads the list of a column from any bytes. Counts a row even if there is no room for it.
+#![tactic(auto)]
+
 ghost use Rattle.std.specs.Prelude.{◌≡◌, ◌+◌, ◌^◌, ◌<◌, length, set};
 ghost use Rattle.papers.specs.Key.{rows_read_from, list_read_from};
 ghost use Rattle.read_fields.specs.Reading.{Told};

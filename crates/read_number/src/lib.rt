@@ -1,4 +1,6 @@
 // Reads a number from any bytes, group by group, or finds what is wrong with it.
+#![tactic(auto)]
+
 ghost use Rattle.std.specs.Prelude.{◌≡◌};
 ghost use Rattle.papers.specs.Numbers.{number_read_from};
 

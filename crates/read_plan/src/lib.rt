@@ -1,4 +1,6 @@
 // Reads a plan from any bytes: its steps, its lists and its peak, or the first number at fault.
+#![tactic(auto)]
+
 ghost use Rattle.std.specs.Prelude.{◌≡◌, ◌≤◌, length};
 ghost use Rattle.papers.specs.Lists.{flat};
 ghost use Rattle.papers.specs.Key.{lists_read_from};
@@ -10,14 +12,14 @@ ghost use Rattle.read_plan.specs.Plans.{StepKept, StepsKept, ListsKept, peak_rea
 use read_fields::Reading;
 
 // What is found in a plan that was read to its end: the declared peak, and how many rows its lists have.
-#[derive(Drop)]
+#[derive(Clone, Copy, Drop)]
 pub struct PlanFound {
     pub peak: u64,
     pub rows: u64,
 }
 
 // What reading a whole plan answers: what was found in it, or a refusal's number and place.
-#[derive(Drop)]
+#[derive(Clone, Copy, Drop)]
 pub enum PlanReading {
     Whole { found: PlanFound },
     Faulty { number: u64, place: u64 },

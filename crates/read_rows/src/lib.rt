@@ -1,8 +1,10 @@
 // Reads the rows of a column in one go, if each gap has one group or two, as nearly all have. Leaves any other list to the reader of lists.
+#![tactic(auto)]
+
 ghost use Rattle.read_rows.specs.Rows.{ShortAsked, RowsAsked, MostShort, ShortRead, QuickRead};
 
 // Rows read in one go: how many, and the last of them.
-#[derive(Drop)]
+#[derive(Clone, Copy, Drop)]
 pub struct ShortRows {
     pub count: usize,
     pub last: u64,

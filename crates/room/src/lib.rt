@@ -1,4 +1,6 @@
 // Computes pops, room in use and the peak of an order.
+#![tactic(auto)]
+
 ghost use Rattle.std.specs.Prelude.{◌≡◌, map, ◌+◌, ◌-◌, min, length, get_or};
 ghost use Rattle.papers.specs.Lists.{up_to};
 ghost use Rattle.papers.specs.Tree.{t};
@@ -62,7 +64,7 @@ pub fn hold(below: &mut [u64], depth: usize, pops: usize, rows: u64) -> usize
 }
 
 // What the steps of an order need: the peak, which is the greatest room in use.
-#[derive(Drop)]
+#[derive(Clone, Copy, Drop)]
 pub struct Needs {
     pub peak: u64,
 }

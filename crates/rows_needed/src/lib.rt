@@ -1,5 +1,7 @@
 // Counts the factor rows exactly, without storing a list. In work, place c holds the mark of column c, place n + r the first column filed
 // under row r, place n + n + c the next column under the same row as c, and place n + n + n + c the place of c's next pattern row.
+#![tactic(auto)]
+
 ghost use Rattle.std.specs.Prelude.{◌≡◌, ◌+◌, length, get_or};
 ghost use Rattle.papers.specs.Lists.{flat};
 ghost use Rattle.papers.specs.Job.{column_of};

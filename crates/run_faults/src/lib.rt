@@ -1,4 +1,6 @@
 // Tests one step of a run for its four refusals: 14, 21, 22 and 23.
+#![tactic(auto)]
+
 ghost use Rattle.std.specs.Prelude.{◌≡◌, [], suc};
 ghost use Rattle.papers.specs.Run.{fault_of_step};
 ghost use Rattle.run_updates.specs.Kept.{run_of, state_of};

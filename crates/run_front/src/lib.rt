@@ -1,4 +1,6 @@
 // Finds a column's rows in a factor, and tests whether an update's rows are in a column's front.
+#![tactic(auto)]
+
 ghost use Rattle.std.specs.Prelude.{◌≡◌, ◌∷◌, length};
 ghost use Rattle.papers.specs.Lists.{member, every};
 ghost use Rattle.papers.specs.Job.{column_of};

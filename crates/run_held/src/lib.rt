@@ -1,9 +1,11 @@
 // The record that each step of a run updates: a step by value, and one thin step that is lent the record.
+#![tactic(auto)]
+
 ghost use Rattle.std.specs.Prelude.{◌≡◌, min};
 ghost use Rattle.run_held.specs.Record.{stepped_of, Takes};
 
 // The state of a run beside the lent stack list: how many updates are held, the sum of their entries, and the greatest room in use so far.
-#[derive(Drop)]
+#[derive(Clone, Copy, Drop)]
 pub struct Held {
     pub count: u64,
     pub entries: u64,

@@ -1,1 +1,2 @@
 // Laws of the run: a plan that passes the check runs in its declared peak. No code.
+#![tactic(auto)]

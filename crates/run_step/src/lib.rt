@@ -1,4 +1,6 @@
 // Takes one step of a run.
+#![tactic(auto)]
+
 ghost use Rattle.run_step.specs.Ready.{Ready, StepTaken};
 
 use run_held::Held;

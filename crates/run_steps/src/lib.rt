@@ -1,4 +1,6 @@
 // Runs the steps one after the other: tests each step, takes it, and finds what the run answers.
+#![tactic(auto)]
+
 ghost use Rattle.std.specs.Prelude.{◌≡◌};
 ghost use Rattle.run_updates.specs.Kept.{run_of};
 ghost use Rattle.run_steps.specs.Steps.{StepsGiven, answer_of_steps};

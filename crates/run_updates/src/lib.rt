@@ -1,5 +1,7 @@
 // The updates held in the lent stack list: tests whether the popped ones fit a front, sums their entries, and computes the room in use of a
 // front over them.
+#![tactic(auto)]
+
 ghost use Rattle.std.specs.Prelude.{◌≡◌, length, take};
 ghost use Rattle.papers.specs.Lists.{sum};
 ghost use Rattle.papers.specs.Job.{column_of};

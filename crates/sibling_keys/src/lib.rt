@@ -1,4 +1,6 @@
 // A column and its children: computes the keys by which siblings are sorted, and the W of the column from its children's W.
+#![tactic(auto)]
+
 ghost use Rattle.std.specs.Prelude.{◌≡◌, ◌≤◌};
 ghost use Rattle.papers.specs.Bounds.{max_columns};
 ghost use Rattle.papers.specs.Order.{sibling_key_of};

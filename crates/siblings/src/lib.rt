@@ -1,4 +1,6 @@
 // Arranges siblings by the mark: sorts each list by its keys, in its place, and stores the W of each column.
+#![tactic(auto)]
+
 ghost use Rattle.std.specs.Prelude.{length};
 ghost use Rattle.siblings.specs.Arranged.{Sortable, SiblingsSorted, SiblingsPlaced, SiblingsArranged, Arrangeable, AllArranged};
 

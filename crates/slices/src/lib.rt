@@ -1,4 +1,6 @@
 // Clears lent slices, whole or from a place on, and hands on a part of one.
+#![tactic(auto)]
+
 ghost use Rattle.std.specs.Prelude.{◌≡◌, ◌≤◌, length, take};
 ghost use Rattle.papers.specs.Lists.{zeros};
 ghost use Rattle.slices.specs.From.{zeros_from};

@@ -1,4 +1,6 @@
 // The solver's call: takes the bytes of a key and of a plan, and answers one number.
+#![tactic(auto)]
+
 ghost use Rattle.std.specs.Prelude.{◌≡◌};
 ghost use Rattle.papers.specs.Job.{job_of};
 ghost use Rattle.papers.specs.Check.{checked};

@@ -1,4 +1,6 @@
 // The entry point of the run of a plan's steps on a stack of updates.
+#![tactic(auto)]
+
 ghost use Rattle.std.specs.Prelude.{◌≡◌};
 ghost use Rattle.papers.specs.Refusals.{EndsAs};
 ghost use Rattle.papers.specs.Analysis.{some_short};

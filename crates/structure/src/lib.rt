@@ -1,5 +1,7 @@
 // Makes the lists R(j) of all columns, one behind the other, and the parents. In work, place j holds the first child of column j, and place
 // n + c the sibling behind column c.
+#![tactic(auto)]
+
 ghost use Rattle.std.specs.Prelude.{◌≡◌};
 ghost use Rattle.papers.specs.Lists.{head0};
 ghost use Rattle.papers.specs.Job.{column_of};

@@ -1,4 +1,6 @@
 // Reads line 1 of a job text: n, the limit, and perhaps a mark.
+#![tactic(auto)]
+
 ghost use Rattle.std.specs.Prelude.{[], ◌∷◌, ◌≤◌, length};
 ghost use Rattle.text_head.specs.Heads.{HeadTold};
 
@@ -6,7 +8,7 @@ use papers::JobHead;
 use text_words::Word;
 
 // What line 1 gives: the numbers of a job, and the place behind the line; or bad text.
-#[derive(Drop)]
+#[derive(Clone, Copy, Drop)]
 pub enum FirstLine {
     Numbers { head: JobHead, next: usize },
     Bad,

@@ -1,5 +1,7 @@
 // Reads a line of rows of a job text, and keeps the rows in a lent slice. It reads the line to its end or to its first bad word, so that
 // bad text is found before anything else is said of the line.
+#![tactic(auto)]
+
 ghost use Rattle.std.specs.Prelude.{◌≡◌, set};
 ghost use Rattle.text_lines.specs.Narrowed.{narrowed};
 ghost use Rattle.text_lines.specs.Lines.{LineAsked, RowsTold, LineTold};
@@ -29,7 +31,7 @@ fn keep_row(rows: &mut [u32], i: usize, row: u64)
 }
 
 // What a line of rows gives: how many rows, and the place behind the line; or bad text.
-#[derive(Drop)]
+#[derive(Clone, Copy, Drop)]
 pub enum Line {
     Rows { count: usize, next: usize },
     Bad,

@@ -1,4 +1,6 @@
 // Reads a job text into lent slices: its length, line 1 and the lines of rows; the first line at fault gives 25 or 26.
+#![tactic(auto)]
+
 ghost use Rattle.std.specs.Prelude.{◌<◌, length};
 ghost use Rattle.papers.specs.Bounds.{program_columns};
 ghost use Rattle.text_reader.specs.Reading.{JobTold};
@@ -8,7 +10,7 @@ use text_head::FirstLine;
 use text_rows::Lines;
 
 // What a text gives: the numbers of a job, and how many rows it has; or a refusal's number and place.
-#[derive(Drop)]
+#[derive(Clone, Copy, Drop)]
 pub enum JobRead {
     Job { head: JobHead, count: usize },
     Refused { number: u64, place: u64 },

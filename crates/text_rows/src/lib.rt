@@ -1,10 +1,12 @@
 // Reads the lines of rows of a job text into lent slices, and the end of the text; the first line at fault gives 25 or 26.
+#![tactic(auto)]
+
 ghost use Rattle.text_rows.specs.RowsRead.{LinesAsked, LinesTold};
 
 use text_lines::Line;
 
 // What the lines of rows give: how many rows in all; or a refusal's number and place.
-#[derive(Drop)]
+#[derive(Clone, Copy, Drop)]
 pub enum Lines {
     Rows { count: usize },
     Refused { number: u64, place: u64 },

@@ -32,11 +32,11 @@ pub digit_low : (b : ℕ) → b < 48 → leb 48 b ≡ is_decimal_digit b
 unfolding is_decimal_digit
 digit_low b h = rw (lt-leb 48 b h)
 
-pub digit-yes : (b : ℕ) {r : Bool} → r ≡ is_decimal_digit b → not r ≡ false → DigitByte b
-digit-yes b {r} e t = (digit-iff b).0 (sym e ∙ not-false r t)
+pub digit-yes : (b : ℕ) {r : Bool} → r ≡ is_decimal_digit b → r ≡ true → DigitByte b
+digit-yes b {r} e t = (digit-iff b).0 (sym e ∙ t)
 
-pub digit-no : (b : ℕ) {r : Bool} → r ≡ is_decimal_digit b → not r ≡ true → ¬ DigitByte b
-digit-no b {r} e f d = true-false ((digit-iff b).1 d) (sym e ∙ not-true r f)
+pub digit-no : (b : ℕ) {r : Bool} → r ≡ is_decimal_digit b → r ≡ false → ¬ DigitByte b
+digit-no b {r} e f d = true-false ((digit-iff b).1 d) (sym e ∙ f)
 
 -- ---- digits
 

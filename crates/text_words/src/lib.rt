@@ -1,10 +1,12 @@
 // Reads the numbers of a job text, word by word: a decimal, and the byte that ends it.
+#![tactic(auto)]
+
 ghost use Rattle.std.specs.Prelude.{◌≡◌, ◌≤◌, length, take, drop};
 ghost use Rattle.papers.specs.Text.{is_decimal_digit, is_decimal_number};
 ghost use Rattle.text_words.specs.Words.{DigitsAt, DigitsFound, WordRead};
 
 // What is at a place of a text: a number before a space, or before a newline, and the place behind that byte; or neither.
-#[derive(Drop)]
+#[derive(Clone, Copy, Drop)]
 pub enum Word {
     More { value: u64, next: usize },
     Last { value: u64, next: usize },
@@ -12,7 +14,7 @@ pub enum Word {
 }
 
 // A run of digits: how many, and their value.
-#[derive(Drop)]
+#[derive(Clone, Copy, Drop)]
 struct Digits {
     count: usize,
     value: u64,

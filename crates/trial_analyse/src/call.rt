@@ -11,7 +11,7 @@ use trial_elimination::sheet::Sheet;
 pub type Lengths = [usize; 6];
 
 // What a call must answer, and what the six slices must hold after it.
-#[derive(Drop)]
+#[derive(Clone, Copy, Drop)]
 pub struct Right {
     pub answer: Answer,
     pub held: Held,

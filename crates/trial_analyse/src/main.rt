@@ -2,6 +2,8 @@
 // the peak, factor slices about the rows needed, slices lent too short, the rules' bench pieces, and bad jobs. Compares number, place,
 // count and every place of the six slices. Prints a tally by right answers; it names a case with anything wrong by its seed and its choice
 // of limit and lengths.
+#![tactic(auto)]
+
 mod call; // call.rt: one call, compared
 mod cases; // cases.rt: a pattern under a mark
 mod bench; // bench.rt: bench pieces

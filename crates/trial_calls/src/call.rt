@@ -17,7 +17,7 @@ const FACTOR_ROWS: usize = 1;
 const ENTRY: usize = 5;
 
 // What a call answered, and in how many places the answer and the slices are wrong.
-#[derive(Drop)]
+#[derive(Clone, Copy, Drop)]
 struct Found {
     answer: Answer,
     wrong: u64,

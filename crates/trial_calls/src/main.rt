@@ -3,6 +3,8 @@
 // keys and plans that are sound, damaged or too large. The answer and every byte of the lent slice are compared; a plan that was
 // written is checked, as the part of the slice that holds it. Prints how often each number was answered; a case with anything wrong is
 // named by its line, with what was answered.
+#![tactic(auto)]
+
 mod call; // call.rt: one call, compared
 
 use trial_lines::line;

@@ -6,7 +6,7 @@ use trial_lines::{line, sheet};
 use trial_tallies::{Tally, plus};
 
 // What a call answered, and in how many places the answer and the slices are wrong.
-#[derive(Drop)]
+#[derive(Clone, Copy, Drop)]
 struct Found {
     answer: Answer,
     wrong: u64,

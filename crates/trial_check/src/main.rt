@@ -2,6 +2,8 @@
 // made the input and says what a line is): sound plans and plans damaged in many ways, short slices, limits about the peak, keys of other
 // jobs, bad jobs. Compares number, place, count and what each of the six lent slices holds afterwards. Prints how often each number was
 // answered; it names a case with anything wrong by its line, with what was answered.
+#![tactic(auto)]
+
 mod call; // call.rt: one call, compared
 
 use trial_lines::line;

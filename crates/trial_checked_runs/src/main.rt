@@ -2,6 +2,8 @@
 // each mark, and each of these plans under the key of every mark, so that the check also passes orders that the mark of its key would not
 // give. In the peak a run answers what the check did; in one less it is refused with 23, at the place and with the count that a simulation
 // gives. Prints a tally; it names a plan with anything wrong by the seed of its pattern and the key of its check.
+#![tactic(auto)]
+
 mod plans; // plans.rt: plans written and checked
 
 use papers::Answer;

@@ -1,5 +1,7 @@
 // For the test programs: lists as a call takes them, what lent slices hold before a call and must hold after it, and how much of that is
 // wrong. Only this is proved: every function is safe and ends, and one keeps a length.
+#![tactic(auto)]
+
 ghost use Rattle.std.specs.Prelude.{length, ◌≡◌};
 
 use papers::{Answer, JobHead};
@@ -34,7 +36,7 @@ pub fn longs(sheet: &Sheet, part: usize) -> [u64; 300] {
 }
 
 // What the lent slices must hold after a call: the result, then zeros; what they held before; or zeros alone.
-#[derive(Drop)]
+#[derive(Clone, Copy, Drop)]
 pub enum Held {
     Result,
     Before,

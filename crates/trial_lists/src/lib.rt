@@ -1,4 +1,6 @@
 // Draws patterns to try from a seed. A function that draws answers the next seed. Only this is proved: every function is safe and ends.
+#![tactic(auto)]
+
 pub mod shapes; // shapes.rt: named shapes, and random rows
 
 use shapes::{choice, next};

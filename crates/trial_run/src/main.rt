@@ -1,6 +1,8 @@
 // Tries the run against a simulation written apart from it, over drawn cases that meet every refusal of a run. Compares number, place,
 // count and every place of the stack list. Prints a tally by right answers; it names a case with anything wrong by its seed, and its right
 // place.
+#![tactic(auto)]
+
 mod cases; // cases.rt: drawn cases
 mod lot; // lot.rt: steps by lot
 mod damage; // damage.rt: an argument changed

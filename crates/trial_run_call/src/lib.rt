@@ -1,4 +1,6 @@
 // For the test programs: runs one case and compares. Only this is proved: every function is safe and ends.
+#![tactic(auto)]
+
 use papers::Answer;
 use trial_comparison::{differences, no_result, words, wrong32};
 use trial_elimination::grid::add;

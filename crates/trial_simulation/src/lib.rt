@@ -1,6 +1,8 @@
 // A run straight from its rules, on a plain stack of column numbers: the test programs compare the proved run with it. It shares no code
 // with that run. It takes runs of up to 31 columns, with their arguments in a sheet. Only this is proved: every function is safe and ends:
 // places wrap and numbers stay small, so no function asks anything of its caller.
+#![tactic(auto)]
+
 mod lists; // lists.rt: 4, 5 and 6
 mod fronts; // fronts.rt: the front of a column
 mod steps; // steps.rt: 14 and 21 to 24

@@ -1,5 +1,6 @@
 // Counts what a test program finds over its cases, and prints it at the end. Only this is proved: every function is safe and ends: places
 // wrap, so no function asks anything of its caller.
+#![tactic(auto)]
 
 // The place of a number counts the cases that have this number and nothing wrong. The places behind the numbers count what else a program
 // prints. Place 30 counts all cases, place 31 those with anything wrong.

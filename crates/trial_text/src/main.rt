@@ -2,6 +2,8 @@
 // which also made the input and says what a case is): every refusal that a text can meet, every size met exactly and exceeded by one, trees
 // of many forms, real patterns, texts drawn and damaged. Compares the answer and every byte of the lent slice, the zeros behind what is
 // printed too. Prints how often each number was printed; it names a case with anything wrong.
+#![tactic(auto)]
+
 ghost use Rattle.std.specs.Prelude.{◌≤◌, ◌<◌};
 
 use papers::Answer;

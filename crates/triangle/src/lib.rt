@@ -1,4 +1,6 @@
 // Computes t(r), the entries of r rows.
+#![tactic(auto)]
+
 ghost use Rattle.std.specs.Prelude.{◌≡◌, ◌+◌, ◌≤◌};
 ghost use Rattle.papers.specs.Bounds.{max_columns};
 ghost use Rattle.papers.specs.Tree.{t};

@@ -1,12 +1,14 @@
 // Walks over the tree: one task does a column, one does a list of siblings, and each calls the other; the count of columns left falls.
 // The siblings' task hands the largest child back for the column's task to do, so the calls nest no deeper than columns can be halved.
+#![tactic(auto)]
+
 ghost use Rattle.std.specs.Prelude.{◌≡◌, length};
 ghost use Rattle.std.proofs.lemmas.List.Edits.{sets};
 ghost use Rattle.walk.specs.Tasks.{Asked, Task, own_steps, kids_steps};
 ghost use Rattle.walk.specs.Children.{ChildListed, ChildBlock, BlockHanded};
 
 // A column, the count of its subtree's columns, and the first step of that block.
-#[derive(Drop)]
+#[derive(Clone, Copy, Drop)]
 pub struct Block {
     pub column: usize,
     pub size: usize,

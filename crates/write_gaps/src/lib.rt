@@ -1,5 +1,7 @@
 // Writes the gaps of a run of rows into a lent slice, as far as the slice goes: all low bytes at once if each gap has one byte, else one by
 // one.
+#![tactic(auto)]
+
 ghost use Rattle.std.specs.Prelude.{◌^◌};
 ghost use Rattle.std.proofs.Math.Seq.{slice};
 ghost use Rattle.papers.specs.Numbers.{encode};

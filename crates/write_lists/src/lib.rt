@@ -1,5 +1,7 @@
 // Writes the lists of columns into a lent slice, for keys and plans: of each its count and the gaps between its rows, as far as the slice
 // goes.
+#![tactic(auto)]
+
 ghost use Rattle.std.specs.Prelude.{◌^◌, ◌<◌};
 ghost use Rattle.std.proofs.Math.Seq.{slice};
 ghost use Rattle.papers.specs.Job.{column_of};

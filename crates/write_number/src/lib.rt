@@ -1,5 +1,7 @@
 // Writes a number into a lent slice, as far as the slice goes. So whoever writes numbers one behind the other learns at the end how many
 // bytes they all take, and need not count before.
+#![tactic(auto)]
+
 ghost use Rattle.std.specs.Prelude.{◌≡◌, set};
 ghost use Rattle.papers.specs.Numbers.{bytes_of};
 ghost use Rattle.list_laws.specs.Wrote.{Wrote};

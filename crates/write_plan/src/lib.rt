@@ -1,4 +1,6 @@
 // Writes the bytes of a plan into a lent slice: its key, its steps, its lists and its peak.
+#![tactic(auto)]
+
 ghost use Rattle.papers.specs.Refusals.{EndsAs};
 ghost use Rattle.papers.specs.Job.{job_of};
 ghost use Rattle.papers.specs.Numbers.{encode};

@@ -1,5 +1,7 @@
 // Ends a writing: decides between 10 and done for bytes that were written from the start of a slice as far as it goes, and clears the rest
 // or all of the slice.
+#![tactic(auto)]
+
 ghost use Rattle.std.specs.Prelude.{List, ℕ};
 ghost use Rattle.papers.specs.Refusals.{EndsAs};
 ghost use Rattle.list_laws.specs.Wrote.{Wrote};

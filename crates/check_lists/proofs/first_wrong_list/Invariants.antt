@@ -1,0 +1,15 @@
+-- Proves that `first_wrong_list` finds the first wrong list: those of the columns up to m are right, so the next can be compared with R(m + 1), and
+-- if it differs it is the first. Each turn leaves one column less.
+-- Assumes nothing.
+use Prim.Native.Nat.{◌-◌}
+use native.Mathlib.Omega.{arith}
+use borrow.Author.Tests.{not-false}
+use borrow.Author.Tests.{not-true}
+use Rattle.check_lists.proofs.Passing.{Passing, pass-begin, long-p, pass_all, pass-part, pass-next, pass-wrong, pass-hangable, pass_on}
+use Rattle.check_lists.proofs.first_wrong_list.Given as goal
+
+abbrev pub invariant-loop-m : goal.invariant-loop-m
+invariant-loop-m l = Passing l.n l.starts l.rows l.fstarts l.frows l.initial.parents l.initial.work l.parents l.work l.m
+
+abbrev pub decreases-loop-m : goal.decreases-loop-m
+decreases-loop-m l = l.n - l.m

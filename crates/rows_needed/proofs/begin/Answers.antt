@@ -1,0 +1,25 @@
+-- Proves that `begin` files every column: in cleared work none is filed, and each turn files one more under its first pattern row. Each turn leaves
+-- one column less.
+-- Assumes nothing.
+use Prim.Native.Nat.{◌-◌}
+use native.Mathlib.Omega.{arith}
+use Rattle.column_laws.proofs.Columns.{starts-long}
+use Rattle.rows_needed.proofs.RowLoop.{FiledTo, file-none, filing-first, file-next, file-all}
+use Rattle.rows_needed.proofs.begin.Goals as goal
+
+pub loop-m-init : goal.loop-m-init
+loop-m-init c = file-none c.requires c.clear64.ensures
+
+pub bounds-starts-m : goal.bounds-starts-m
+bounds-starts-m c = omega (arith, starts-long c.loop-m.invariant.tested, c.loop-m-test.true)
+
+pub file-requires : goal.file-requires
+file-requires c = filing-first c.loop-m.invariant c.loop-m-test.true
+
+pub loop-m-preserved : goal.loop-m-preserved
+loop-m-preserved c =
+    file-next c.loop-m.invariant c.loop-m-test.true c.file.ensures
+    (omega arith)
+
+pub returns : goal.returns
+returns c = file-all c.loop-m.invariant c.loop-m-test.false

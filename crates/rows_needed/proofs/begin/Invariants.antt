@@ -1,0 +1,14 @@
+-- Proves that `begin` files every column: in cleared work none is filed, and each turn files one more under its first pattern row. Each turn leaves
+-- one column less.
+-- Assumes nothing.
+use Prim.Native.Nat.{◌-◌}
+use native.Mathlib.Omega.{arith}
+use Rattle.column_laws.proofs.Columns.{starts-long}
+use Rattle.rows_needed.proofs.RowLoop.{FiledTo, file-none, filing-first, file-next, file-all}
+use Rattle.rows_needed.proofs.begin.Given as goal
+
+abbrev pub invariant-loop-m : goal.invariant-loop-m
+invariant-loop-m l = FiledTo l.n l.m l.starts l.rows l.initial.work l.work
+
+abbrev pub decreases-loop-m : goal.decreases-loop-m
+decreases-loop-m l = l.n - l.m

@@ -1,0 +1,83 @@
+-- Proves that `walk` does every column at row i: those from c on are left, and a turn climbs from the first of them and files it under its next row.
+-- Each turn leaves fewer rows ahead.
+-- Assumes nothing.
+use Prim.Native.Nat.{◌+◌, ◌<◌}
+use mathlib.Core.Path.{refl}
+use native.Mathlib.Omega.{arith}
+use lib.ListN.{length}
+use Rattle.rows_needed.proofs.Walks.{Walking, ahead, column, climbing, step_fits, filing, walked, falls}
+use Rattle.rows_needed.proofs.walk.Goals as goal
+use Rattle.rows_needed.proofs.walk.Goals.{In-loop-c}
+
+-- column c has its places in work: this is the last of them
+place : (c : In-loop-c) → c.args.n + c.args.n + c.args.n + c.loop-c.c
+    < length c.args.work.now
+place c =
+    omega (arith, column c.loop-c.invariant.walk c.loop-c-test.true, c.loop-c.invariant.walk.buckets.long, c.loop-c.invariant.long-w)
+
+pub loop-c-init : goal.loop-c-init
+loop-c-init c = record { walk = c.requires; long-p = refl; long-w = refl }
+
+pub overflow_add-next : goal.overflow_add-next
+overflow_add-next c = omega (arith, place (goal.at.overflow_add-next c).In-loop-c, c.well_formed)
+
+pub overflow_add-next-in-loop-c : goal.overflow_add-next-in-loop-c
+overflow_add-next-in-loop-c c = omega (arith, place (goal.at.overflow_add-next-in-loop-c c).In-loop-c, c.well_formed)
+
+pub offset_bounds-work-n-in-loop-c : goal.offset_bounds-work-n-in-loop-c
+offset_bounds-work-n-in-loop-c c = omega (arith, place (goal.at.offset_bounds-work-n-in-loop-c c).In-loop-c, c.well_formed)
+
+pub bounds-work-n-in-loop-c : goal.bounds-work-n-in-loop-c
+bounds-work-n-in-loop-c c = omega (arith, place (goal.at.bounds-work-n-in-loop-c c).In-loop-c, c.loop-c.invariant.long-w)
+
+pub climb-t-requires : goal.climb-t-requires
+climb-t-requires c = climbing c.loop-c.invariant.walk c.loop-c-test.true
+
+pub overflow_add-q : goal.overflow_add-q
+overflow_add-q c = omega (arith, place (goal.at.overflow_add-q c).In-loop-c, c.well_formed)
+
+pub overflow_add-q-in-loop-c : goal.overflow_add-q-in-loop-c
+overflow_add-q-in-loop-c c = omega (arith, place (goal.at.overflow_add-q-in-loop-c c).In-loop-c, c.well_formed)
+
+pub overflow_add-q-in-loop-c-2 : goal.overflow_add-q-in-loop-c-2
+overflow_add-q-in-loop-c-2 c = omega (arith, place (goal.at.overflow_add-q-in-loop-c-2 c).In-loop-c, c.well_formed)
+
+pub offset_bounds-work-n-in-loop-c-2 : goal.offset_bounds-work-n-in-loop-c-2
+offset_bounds-work-n-in-loop-c-2 c = omega (arith, place (goal.at.offset_bounds-work-n-in-loop-c-2 c).In-loop-c, c.well_formed)
+
+pub bounds-work-n-in-loop-c-2 : goal.bounds-work-n-in-loop-c-2
+bounds-work-n-in-loop-c-2 c = omega (arith, place (goal.at.bounds-work-n-in-loop-c-2 c).In-loop-c, c.loop-c.invariant.long-w)
+
+pub overflow_add-q-in-loop-c-3 : goal.overflow_add-q-in-loop-c-3
+overflow_add-q-in-loop-c-3 c =
+    let fits = step_fits c.loop-c.invariant.walk c.loop-c-test.true c.climb-t.ensures
+    (omega arith) (omega arith) in
+    omega (arith, fits, c.well_formed)
+
+pub file-requires : goal.file-requires
+file-requires c =
+    filing c.loop-c.invariant.walk c.loop-c-test.true c.climb-t.ensures
+    (omega arith) (omega arith)
+
+pub loop-c-smaller : goal.loop-c-smaller
+loop-c-smaller c =
+    falls c.loop-c.invariant.walk c.loop-c-test.true c.climb-t.ensures
+    (omega arith) (omega arith) c.file.ensures
+
+pub loop-c-preserved : goal.loop-c-preserved
+loop-c-preserved c =
+    record {
+      walk = walked c.loop-c.invariant.walk c.loop-c-test.true c.climb-t.ensures
+          (omega arith) (omega arith) c.file.ensures;
+      long-p = omega (arith, c.loop-c.invariant.long-p);
+      long-w = omega (arith, c.loop-c.invariant.long-w);
+    }
+
+pub shape_of-parents : goal.shape_of-parents
+shape_of-parents c = c.loop-c.invariant.long-p
+
+pub shape_of-work : goal.shape_of-work
+shape_of-work c = c.loop-c.invariant.long-w
+
+pub returns : goal.returns
+returns c = let e = c.loop-c-test.false in rw e at c.loop-c.invariant.walk

@@ -1,0 +1,12 @@
+-- Proves that `alike` counts the first rows that two lists share: the first i are equal. Each turn leaves one row less of the shorter list.
+-- Assumes nothing.
+use Prim.Native.Nat.{◌-◌}
+use native.Mathlib.Omega.{arith}
+use borrow.Author.Rules.{rules}
+use Rattle.run_front.specs.Search.{SameFirst}
+use Rattle.run_front.proofs.SameRows.{same_next}
+use Rattle.run_front.proofs.alike.Goals as goal
+
+pub loop-i-preserved : goal.loop-i-preserved
+loop-i-preserved c =
+    same_next c.loop-i.invariant (omega (arith, c.loop-i-test.true, c.lesser-end.ensures)) c.if-a-i.false

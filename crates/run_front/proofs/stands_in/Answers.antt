@@ -1,0 +1,39 @@
+-- Proves that `stands_in` tests every row of an update: the first i are in the front, and the front's rows before the last one found are below the
+-- next. Each turn leaves fewer rows.
+-- Assumes nothing.
+use Prim.Native.Nat.{◌-◌}
+use native.Mathlib.Omega.{arith}
+use lib.ListN.{length}
+use borrow.Author.Rules.{rules}
+use Rattle.run_front.proofs.Sweeps.{Swept, swept-start, swept-end, to-seek, swept-column, swept-alike, swept-missing}
+use Rattle.run_front.proofs.stands_in.Goals as goal
+
+pub loop-i-init : goal.loop-i-init
+loop-i-init c = swept-start _ _ _
+
+pub overflow_cast-row : goal.overflow_cast-row
+overflow_cast-row c = omega (arith, c.shared_slice_known-in-loop-i-1.given c.loop-i.i)
+
+pub loop-i-preserved-then-row-column : goal.loop-i-preserved-then-row-column
+loop-i-preserved-then-row-column c = swept-column c.loop-i.invariant c.loop-i-test.true c.requires.update-ascends c.if-row-column.true
+
+pub seek-place-requires : goal.seek-place-requires
+seek-place-requires c = record {
+  ascending = c.requires.front-ascends;
+  between = to-seek c.loop-i.invariant c.loop-i-test.true;
+}
+
+pub returns-then-same-eq0 : goal.returns-then-same-eq0
+returns-then-same-eq0 c =
+    swept-missing c.loop-i.invariant c.loop-i-test.true c.requires.front-ascends
+    c.if-row-column.false
+    c.seek-place.ensures (rw c.if-same-eq0.true at c.alike-same.ensures)
+
+pub loop-i-preserved : goal.loop-i-preserved
+loop-i-preserved c =
+    swept-alike c.requires.update-ascends c.loop-i.invariant c.loop-i-test.true
+    c.seek-place.ensures
+    c.alike-same.ensures
+
+pub returns : goal.returns
+returns c = swept-end c.loop-i.invariant c.loop-i-test.false

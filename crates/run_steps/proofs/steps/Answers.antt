@@ -1,0 +1,55 @@
+-- Proves that `steps` runs the steps: after `done` steps without a fault the stack list and the record hold the state. Each turn leaves one step
+-- less.
+-- Assumes nothing.
+use Prim.Native.Nat.{◌-◌}
+use mathlib.Core.Path.{◌∙◌}
+use native.Mathlib.Omega.{arith}
+use borrow.Author.Rules.{rules}
+use Rattle.run_steps.proofs.Running.{Running, running-start, ready, running-next, answers-fault, answers-left, answers-done}
+use Rattle.run_steps.proofs.steps.Goals as goal
+
+pub loop-done-init : goal.loop-done-init
+loop-done-init c = running-start _ _ _ _ _ _ _ c.requires.stack-long
+
+pub step_fault-fault-requires : goal.step_fault-fault-requires
+step_fault-fault-requires c =
+    let asked = c.requires in
+    let next = c.loop-done-test.true in
+    record {
+      tested = asked.tested;
+      kept = c.loop-done.invariant.kept;
+      column-listed = omega (arith, asked.columns-long);
+      pops-listed = omega (arith, asked.pops-long);
+    }
+
+pub shape_of-stack-then-fault-ne0 : goal.shape_of-stack-then-fault-ne0
+shape_of-stack-then-fault-ne0 c = c.loop-done.invariant.long
+
+pub returns-then-fault-ne0 : goal.returns-then-fault-ne0
+returns-then-fault-ne0 c =
+    c.answered.ensures ∙ answers-fault _ _ _ _ _ _ _ c.loop-done.invariant c.loop-done-test.true
+    c.step_fault-fault.ensures c.if-fault-ne0.true
+
+pub take_step-held-requires : goal.take_step-held-requires
+take_step-held-requires c =
+    ready _ _ _ _ _ _ _ c.loop-done.invariant c.loop-done-test.true c.step_fault-fault.ensures
+    c.requires c.if-fault-ne0.false
+
+pub loop-done-preserved : goal.loop-done-preserved
+loop-done-preserved c =
+    running-next _ _ _ _ _ _ _ c.loop-done.invariant c.loop-done-test.true c.step_fault-fault.ensures
+    c.if-fault-ne0.false (omega arith) c.take_step-held.ensures
+
+pub shape_of-stack-then-held-ne0 : goal.shape_of-stack-then-held-ne0
+shape_of-stack-then-held-ne0 c = c.loop-done.invariant.long
+
+pub returns-then-held-ne0 : goal.returns-then-held-ne0
+returns-then-held-ne0 c =
+    c.answered-then-held-ne0.ensures ∙ answers-left _ _ _ _ _ _ _ c.loop-done.invariant c.loop-done-test.false c.if-held-ne0.true
+
+pub shape_of-stack : goal.shape_of-stack
+shape_of-stack c = c.loop-done.invariant.long
+
+pub returns : goal.returns
+returns c =
+    c.answered-2.ensures ∙ answers-done _ _ _ _ _ _ _ c.loop-done.invariant c.loop-done-test.false c.if-held-ne0.false

@@ -1,0 +1,15 @@
+-- Proves that `steps` runs the steps: after `done` steps without a fault the stack list and the record hold the state. Each turn leaves one step
+-- less.
+-- Assumes nothing.
+use Prim.Native.Nat.{◌-◌}
+use mathlib.Core.Path.{◌∙◌}
+use native.Mathlib.Omega.{arith}
+use borrow.Author.Rules.{rules}
+use Rattle.run_steps.proofs.Running.{Running, running-start, ready, running-next, answers-fault, answers-left, answers-done}
+use Rattle.run_steps.proofs.steps.Given as goal
+
+abbrev pub invariant-loop-done : goal.invariant-loop-done
+invariant-loop-done l = Running l.n l.starts l.rows l.columns l.pops l.room l.initial.stack l.stack l.held l.done
+
+abbrev pub decreases-loop-done : goal.decreases-loop-done
+decreases-loop-done l = l.n - l.done

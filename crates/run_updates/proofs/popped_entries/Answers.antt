@@ -1,0 +1,42 @@
+-- Proves that `popped_entries` sums the popped updates: the total is the sum of those above `top`, and even all entries together fit. Each turn
+-- leaves one update less.
+-- Assumes nothing.
+use Prim.Native.Nat.{◌-◌}
+use native.Mathlib.Omega.{arith}
+use lib.ListN.{take}
+use borrow.Author.Rules.{rules}
+use Rattle.run_updates.specs.Kept.{held_in_order}
+use Rattle.run_updates.proofs.Entries.{popped-small}
+use Rattle.run_updates.proofs.Popped.{Added, added-start, added-end, added_next, added-within}
+use Rattle.run_updates.proofs.popped_entries.Goals as goal
+
+pub loop-top-init : goal.loop-top-init
+loop-top-init c = added-start _ _ _ _ _ _ c.requires.enough
+
+pub held_column-requires : goal.held_column-requires
+held_column-requires c = record {
+  columns = λ i l. c.requires.kept.columns i (omega arith);
+  low = omega arith;
+  listed = omega arith;
+}
+
+pub entries_of-total-requires : goal.entries_of-total-requires
+entries_of-total-requires c = record { tested = c.requires.tested; column = c.held_column.ensures.column }
+
+pub overflow_add-total : goal.overflow_add-total
+overflow_add-total c =
+    let asked = c.requires in
+    omega (
+      arith,
+      added-within _ _ _ _ c.loop-top.invariant c.loop-top-test.true c.held_column.ensures.is
+          c.entries_of-total.ensures,
+      popped-small _ _ _ asked.tested asked.kept c.args.pops,
+    )
+
+pub loop-top-preserved : goal.loop-top-preserved
+loop-top-preserved c =
+    added_next _ _ _ _ c.loop-top.invariant c.loop-top-test.true c.held_column.ensures.is
+    c.entries_of-total.ensures
+
+pub returns : goal.returns
+returns c = added-end _ _ _ _ c.loop-top.invariant c.loop-top-test.false

@@ -1,0 +1,46 @@
+-- Proves that `popped_fit` tests all popped updates: those above `top` are in the front, so the others decide. Each turn leaves one update less.
+-- Assumes nothing.
+use Prim.Native.Nat.{◌-◌}
+use native.Mathlib.Omega.{arith}
+use lib.ListN.{take}
+use borrow.Author.Rules.{rules}
+use Rattle.run_front.proofs.Columns.{column-ascends}
+use Rattle.run_updates.specs.Kept.{held_in_order}
+use Rattle.run_updates.proofs.Popped.{Looked, looked-start, looked-end, looked-next, looked-outside}
+use Rattle.run_updates.proofs.popped_fit.Goals as goal
+
+pub loop-top-init : goal.loop-top-init
+loop-top-init c = looked-start _ _ _ _ _ _ _ c.requires.enough
+
+pub held_column-requires : goal.held_column-requires
+held_column-requires c = record {
+  columns = λ i l. c.requires.kept.columns i (omega arith);
+  low = omega arith;
+  listed = omega arith;
+}
+
+pub rows_of-update-requires : goal.rows_of-update-requires
+rows_of-update-requires c = record { tested = c.requires.tested; column = c.held_column.ensures.column }
+
+pub stands_in-requires : goal.stands_in-requires
+stands_in-requires c =
+    let asked = c.requires in
+    record {
+      front-ascends = rw c.rows_of-front.ensures (column-ascends asked.tested asked.column);
+      update-ascends = rw c.rows_of-update.ensures (column-ascends asked.tested c.held_column.ensures.column);
+    }
+
+pub loop-top-preserved : goal.loop-top-preserved
+loop-top-preserved c =
+    looked-next _ _ _ _ _ c.loop-top.invariant c.loop-top-test.true c.rows_of-front.ensures
+    c.held_column.ensures.is c.rows_of-update.ensures c.stands_in.ensures
+    c.if-stands_in.true
+
+pub returns-else-stands_in : goal.returns-else-stands_in
+returns-else-stands_in c =
+    looked-outside _ _ _ _ _ c.loop-top.invariant c.loop-top-test.true c.rows_of-front.ensures
+    c.held_column.ensures.is c.rows_of-update.ensures c.stands_in.ensures
+    c.if-stands_in.false
+
+pub returns : goal.returns
+returns c = looked-end _ _ _ _ _ c.loop-top.invariant c.loop-top-test.false

@@ -1,0 +1,13 @@
+-- Proves that `clear64` clears the slice, since every place before i is zero. Each turn leaves one place less.
+-- Assumes nothing.
+use Prim.Native.Nat.{◌-◌}
+use lib.ListN.{length}
+use borrow.Author.Rules.{rules}
+use Rattle.slices.proofs.Zeroed.{Zeroed, zeroed_start, turn, stop}
+use Rattle.slices.proofs.clear64.Given as goal
+
+abbrev pub invariant-loop-i : goal.invariant-loop-i
+invariant-loop-i l = Zeroed l.initial.numbers l.numbers l.i
+
+abbrev pub decreases-loop-i : goal.decreases-loop-i
+decreases-loop-i l = length l.initial.numbers - l.i

@@ -1,0 +1,13 @@
+-- Proves that `falling`, which finds the first start that falls, is safe: places wrap and numbers stay small, so a turn needs nothing of what it
+-- reads. Each turn leaves fewer to come.
+-- Assumes nothing.
+use Prim.Native.Nat.{◌-◌}
+use native.Mathlib.Omega.{arith}
+use borrow.Author.Rules.{rules}
+use Rattle.trial_simulation.proofs.lists.falling.Given as goal
+
+abbrev pub invariant-loop-j : goal.invariant-loop-j
+invariant-loop-j l = Unit {0}
+
+abbrev pub decreases-loop-j : goal.decreases-loop-j
+decreases-loop-j l = l.n - l.j

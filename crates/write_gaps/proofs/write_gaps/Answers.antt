@@ -1,0 +1,33 @@
+-- Proves that `write_gaps` stores all gaps, since storing the gaps from i on at next leaves what storing all of them leaves. Each turn leaves one row
+-- less.
+-- Assumes nothing.
+use Prim.Native.Nat.{◌-◌}
+use mathlib.Core.Path.{refl}
+use native.Mathlib.Omega.{arith}
+use borrow.Author.Rules.{rules}
+use Rattle.write_gaps.proofs.Rows.{WritesRows, row-above, row_within, gaps-start, place-near, write-turn, gaps-stop}
+use Rattle.write_gaps.proofs.write_gaps.Goals as goal
+
+pub loop-i-init : goal.loop-i-init
+loop-i-init c = gaps-start c.requires.list
+
+pub overflow_sub-row : goal.overflow_sub-row
+overflow_sub-row c = omega (arith, row-above c.loop-i.invariant.rows_left c.loop-i-test.true refl)
+
+pub overflow_cast-row : goal.overflow_cast-row
+overflow_cast-row c = omega (arith, row_within c.loop-i.invariant.rows_left c.loop-i-test.true refl)
+
+pub put-next-requires : goal.put-next-requires
+put-next-requires c =
+    let loop = c.loop-i in
+    record {
+      fits = omega (arith, row_within loop.invariant.rows_left c.loop-i-test.true refl);
+      near = omega (arith, place-near loop.invariant c.requires.list, c.requires.near);
+    }
+
+pub loop-i-preserved : goal.loop-i-preserved
+loop-i-preserved c =
+    write-turn c.loop-i.invariant c.loop-i-test.true refl c.put-next.ensures
+
+pub returns : goal.returns
+returns c = gaps-stop c.loop-i.invariant c.loop-i-test.false

@@ -1,0 +1,15 @@
+-- Proves that `write_gaps` stores all gaps, since storing the gaps from i on at next leaves what storing all of them leaves. Each turn leaves one row
+-- less.
+-- Assumes nothing.
+use Prim.Native.Nat.{◌-◌}
+use mathlib.Core.Path.{refl}
+use native.Mathlib.Omega.{arith}
+use borrow.Author.Rules.{rules}
+use Rattle.write_gaps.proofs.Rows.{WritesRows, row-above, row_within, gaps-start, place-near, write-turn, gaps-stop}
+use Rattle.write_gaps.proofs.write_gaps.Given as goal
+
+abbrev pub invariant-loop-i : goal.invariant-loop-i
+invariant-loop-i l = WritesRows l.b l.rows l.from l.to l.initial.bytes l.at l.bytes l.next l.before l.i
+
+abbrev pub decreases-loop-i : goal.decreases-loop-i
+decreases-loop-i l = l.to - l.i

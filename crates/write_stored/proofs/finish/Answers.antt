@@ -1,0 +1,13 @@
+-- Proves that `finish` refuses and clears a slice that is too short, and else clears the places behind the bytes: a law covers each way out.
+-- Assumes nothing.
+use borrow.Author.Rules.{rules}
+use Rattle.write_stored.proofs.Stores.{finished-short, finished-whole}
+use Rattle.write_stored.proofs.finish.Goals as goal
+
+pub returns-then-bytes-needed : goal.returns-then-bytes-needed
+returns-then-bytes-needed c written before w =
+    finished-short written before w c.if-bytes-needed.true c.answered.ensures c.clear8.ensures
+
+pub returns : goal.returns
+returns c written before w =
+    finished-whole written before w c.if-bytes-needed.false c.answered-2.ensures c.clear8-2.ensures
