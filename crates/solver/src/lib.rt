@@ -39,7 +39,7 @@ fn check_in_buffers(head: JobHead, starts: &[u64], rows: &[u32], plan: &[u8]) ->
 // `at` and have `count` rows, into buffers of their own.
 fn check_for_key(key: &[u8], head: JobHead, count: u64, at: usize, plan: &[u8]) -> Answer
     requires { WithinSizes key.now head count at }
-    ensures { result ≡ solver_answer (record { key = key.entry.now; plan = plan.now }) }
+    ensures { result ≡ solver_answer (record { key = key.now; plan = plan.now }) }
 {
     let n = head.n as usize;
     let mut starts = [0u64; program_sizes::STARTS];
@@ -53,8 +53,7 @@ const PLACES: u64 = 4294967296;
 
 // Answers 27 if the key is not readable, 26 if its job is over the program's sizes, else the check of the plan for its job: the answer's
 // number times 2^32, plus its place.
-#[unsafe(no_mangle)]
-pub extern "C" fn check(key: &[u8], plan: &[u8]) -> u64
+pub fn check(key: &[u8], plan: &[u8]) -> u64
     ensures { result ≡ called key.now plan.now }
 {
     match read_key::read_key(key) {

@@ -13,8 +13,7 @@ use Rattle.papers.specs.Job.{Job, job_refusals, mark_unknown, limit_over, job_li
 use Rattle.job_laws.specs.Passed.{starts_test, rows_test}
 use Rattle.job_laws.proofs.Firsts.{first_passes, first-refuses, first-answers, first-last, over-refuses, over-passes-iff, answer-refused}
 use Rattle.job_rows.proofs.Started.{started}
-use Rattle.job.proofs.first_fault.Statement.{statement}
-use Rattle.job.proofs.first_fault.Tie as tie
+use Rattle.job.proofs.first_fault.Goals as goal
 
 -- the refusals of a job's lists, which follow those of its numbers
 abbrev of_lists : List (Refusal Job)
@@ -53,54 +52,26 @@ module _ (job : Job) where
             → r ≡ answer_of (first job_refusals job)
         rows-decide p r e = e ∙ ap answer_of (sym (limit-passes ∙ first_passes _ _ job p ∙ first-last _ job))
 
--- The places that the answers look back to: `sized (search)` is the one behind the answer at hand.
-abbrev sized : tie.Else1 → tie.Else1
-sized c = c
+pub returns-then-head-gt-MAX_COLUMNS : goal.returns-then-head-gt-MAX_COLUMNS
+returns-then-head-gt-MAX_COLUMNS c = answer-refused (columns-refuses _ c.if-head-gt-MAX_COLUMNS.true) c.answered.ensures
 
-abbrev mark-fine : tie.Else2 → tie.Else2
-mark-fine c = c
+pub returns-then-head-gt-MAX_MARK : goal.returns-then-head-gt-MAX_MARK
+returns-then-head-gt-MAX_MARK c = answer-refused (mark-refuses _ c.if-head-gt-MAX_COLUMNS.false c.if-head-gt-MAX_MARK.true) c.answered-then-head-gt-MAX_MARK.ensures
 
-abbrev limit-fine : tie.Else3 → tie.Else3
-limit-fine c = c
+pub returns-then-head-gt-MAX_LIMIT : goal.returns-then-head-gt-MAX_LIMIT
+returns-then-head-gt-MAX_LIMIT c =
+    answer-refused (limit-refuses _ c.if-head-gt-MAX_COLUMNS.false c.if-head-gt-MAX_MARK.false c.if-head-gt-MAX_LIMIT.true) c.answered-then-head-gt-MAX_LIMIT.ensures
 
-abbrev tested-starts : tie.After-starts-fault → tie.After-starts-fault
-tested-starts c = c
+pub returns-then-fault-ne0 : goal.returns-then-fault-ne0
+returns-then-fault-ne0 c =
+    starts-refuse _ c.if-head-gt-MAX_COLUMNS.false c.if-head-gt-MAX_MARK.false c.if-head-gt-MAX_LIMIT.false _
+    c.starts_fault-fault.ensures c.if-fault-ne0.true
 
-returns : tie.Need-returns
-returns c = answer-refused (columns-refuses _ c.before.if1.true) c.answered.ensures
+pub rows_fault-requires : goal.rows_fault-requires
+rows_fault-requires c = started _ _ _ c.if-head-gt-MAX_COLUMNS.false c.starts_fault-fault.ensures c.if-fault-ne0.false
 
-returns-2 : tie.Need-returns-2
-returns-2 c = answer-refused (mark-refuses _ (sized (search)).if1.false c.before.if2.true) c.answered2.ensures
-
-returns-3 : tie.Need-returns-3
-returns-3 c =
-    answer-refused (limit-refuses _ (sized (search)).if1.false (mark-fine (search)).if2.false c.before.if3.true) c.answered3.ensures
-
-returns-4 : tie.Need-returns-4
-returns-4 c =
-    starts-refuse _ (sized (search)).if1.false (mark-fine (search)).if2.false (limit-fine (search)).if3.false _
-    (tested-starts (search)).starts-fault.ensures c.if4.true
-
-rows-fault-requires : tie.Need-rows-fault-requires
-rows-fault-requires c κs = started _ _ _ (sized (search)).if1.false (tested-starts (search)).starts-fault.ensures c.if4.false
-
-returns-5 : tie.Need-returns-5
-returns-5 c =
-    rows-decide _ (sized (search)).if1.false (mark-fine (search)).if2.false (limit-fine (search)).if3.false
-    (started _ _ _ (sized (search)).if1.false (tested-starts (search)).starts-fault.ensures c.before.if4.false).starts-pass _
-    c.rows-fault.ensures
-
-pub first-fault-spec : {M : Type 1} → statement M
-first-fault-spec =
-    tie.close
-    (tie.spec
-    (λ c κs. search rules)
-    returns
-    (λ c κs. search rules)
-    returns-2
-    (λ c κs. search rules)
-    returns-3
-    (λ c κs. search rules)
-    returns-4
-    rows-fault-requires
-    returns-5)
+pub returns : goal.returns
+returns c =
+    rows-decide _ c.if-head-gt-MAX_COLUMNS.false c.if-head-gt-MAX_MARK.false c.if-head-gt-MAX_LIMIT.false
+    (started _ _ _ c.if-head-gt-MAX_COLUMNS.false c.starts_fault-fault.ensures c.if-fault-ne0.false).starts-pass _
+    c.rows_fault.ensures

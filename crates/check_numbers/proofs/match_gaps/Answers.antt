@@ -1,0 +1,46 @@
+-- Proves that `match_gaps` compares all gaps: those of the rows before i agree, so the others are compared from k on. Each turn leaves one row less.
+-- Assumes nothing.
+use Prim.Native.Nat.{ℕ, ◌-◌}
+use mathlib.Core.List.{List}
+use native.Mathlib.Omega.{arith}
+use lib.Seq.{slice}
+use borrow.Author.Rules.{rules}
+use Rattle.papers.specs.Key.{gaps_of}
+use Rattle.write_gaps.proofs.Rows.{RowsLeft, rows_all, gaps-next, row-above, rows_next, gaps-none}
+use Rattle.check_numbers.proofs.Numbers.{Left, left-all, left-number, differs-number, left-none}
+use Rattle.check_numbers.proofs.match_gaps.Invariants.{Gaps}
+use Rattle.check_numbers.proofs.match_gaps.Goals as goal
+
+pub loop-i-init : goal.loop-i-init
+loop-i-init c = record { left = rows_all c.requires.list; found = left-all c.requires.inside }
+
+pub bounds-rows-i : goal.bounds-rows-i
+bounds-rows-i c = let h = c.loop-i.invariant.left.inside in search rules
+
+pub overflow_sub-row : goal.overflow_sub-row
+overflow_sub-row c =
+    let h = row-above c.loop-i.invariant.left c.loop-i-test.true c.wide32-row.ensures.same in omega arith
+
+pub match_number-requires : goal.match_number-requires
+match_number-requires c = let h = c.wide32-row.ensures.below in record { fits = omega arith; inside = c.loop-i.invariant.found.inside }
+
+pub returns-in-Differs : goal.returns-in-Differs
+returns-in-Differs c =
+    let gaps = c.loop-i.invariant in
+    differs-number gaps.found (gaps-next gaps.left c.loop-i-test.true c.wide32-row.ensures.same)
+    c.match_number.ensures c.in-Differs.is
+
+pub loop-i-preserved : goal.loop-i-preserved
+loop-i-preserved c =
+    let gaps = c.loop-i.invariant in
+    let next = c.loop-i-test.true in
+    let row = c.wide32-row.ensures.same in
+    record {
+      left = rows_next gaps.left next row;
+      found = left-number gaps.found (gaps-next gaps.left next row) c.match_number.ensures c.in-Begins.is;
+    }
+
+pub returns : goal.returns
+returns c =
+    let gaps = c.loop-i.invariant in
+    left-none gaps.found (gaps-none gaps.left c.loop-i-test.false)

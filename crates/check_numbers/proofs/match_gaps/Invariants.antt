@@ -1,0 +1,22 @@
+-- Proves that `match_gaps` compares all gaps: those of the rows before i agree, so the others are compared from k on. Each turn leaves one row less.
+-- Assumes nothing.
+use Prim.Native.Nat.{ℕ, ◌-◌}
+use mathlib.Core.List.{List}
+use native.Mathlib.Omega.{arith}
+use lib.Seq.{slice}
+use borrow.Author.Rules.{rules}
+use Rattle.papers.specs.Key.{gaps_of}
+use Rattle.write_gaps.proofs.Rows.{RowsLeft, rows_all, gaps-next, row-above, rows_next, gaps-none}
+use Rattle.check_numbers.proofs.Numbers.{Left, left-all, left-number, differs-number, left-none}
+use Rattle.check_numbers.proofs.match_gaps.Given as goal
+
+-- the gaps of the rows before i agree, up to k
+pub record Gaps (plan : List ℕ) (at : ℕ) (rows : List ℕ) (from to j k before i : ℕ) : Type 0 where
+  pub left : RowsLeft rows to before i
+  pub found : Left (gaps_of j (slice from to rows)) plan at (gaps_of before (slice i to rows)) k
+
+abbrev pub invariant-loop-i : goal.invariant-loop-i
+invariant-loop-i l = Gaps l.plan l.at l.rows l.from l.to l.j l.k l.before l.i
+
+abbrev pub decreases-loop-i : goal.decreases-loop-i
+decreases-loop-i l = l.to - l.i

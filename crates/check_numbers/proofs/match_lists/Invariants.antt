@@ -1,0 +1,26 @@
+-- Proves that `match_lists` compares all lists: those of the first `done` columns agree, so the others are compared from k on. Each turn leaves one
+-- column less.
+-- Assumes nothing.
+use Prim.Native.Nat.{ℕ, ◌-◌, ◌≤◌}
+use mathlib.Core.List.{List}
+use borrow.Author.Rules.{rules}
+use Rattle.papers.specs.Bounds.{max_columns}
+use Rattle.papers.specs.Job.{column_of}
+use Rattle.papers.specs.Key.{lists_numbers, lists_of}
+use Rattle.job_laws.specs.Passed.{PassedLists}
+use Rattle.job_laws.proofs.Passed.{lists-iff}
+use Rattle.write_lists.proofs.Columns.{numbers_from, column-list, numbers-next, numbers-none}
+use Rattle.check_numbers.proofs.Numbers.{Left, left-all, left-numbers, differs-numbers, left-none}
+use Rattle.check_numbers.proofs.match_lists.Given as goal
+
+-- the lists of the first `done` columns agree, up to k
+pub record Columns (n : ℕ) (starts rows plan : List ℕ) (at k done : ℕ) : Type 0 where
+  pub few : n ≤ max_columns
+  pub lists : PassedLists n starts rows
+  pub matched : Left (lists_numbers 1 (lists_of n (column_of starts rows))) plan at (numbers_from n starts rows done) k
+
+abbrev pub invariant-loop-done : goal.invariant-loop-done
+invariant-loop-done l = Columns l.n l.starts l.rows l.plan l.at l.k l.done
+
+abbrev pub decreases-loop-done : goal.decreases-loop-done
+decreases-loop-done l = l.n - l.done

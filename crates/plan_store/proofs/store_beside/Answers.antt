@@ -1,0 +1,52 @@
+-- Proves that `store_beside` stores the plan or refuses it: the first places lent hold the plan, and a law covers each way out.
+-- Assumes nothing.
+use mathlib.Core.Path.{refl, sym}
+use native.Mathlib.Omega.{arith}
+use lib.Seq.{length-take-le}
+use Rattle.write_plan.proofs.Planned.{few}
+use Rattle.plan_store.proofs.Besides.{refused-beside, done-beside}
+use Rattle.plan_store.proofs.store_beside.Goals as goal
+
+pub offset_bounds-fstarts-n : goal.offset_bounds-fstarts-n
+offset_bounds-fstarts-n c = omega (arith, few c.requires.writable)
+
+pub bounds-fstarts-n : goal.bounds-fstarts-n
+bounds-fstarts-n c = let h = c.requires.starts-long in omega arith
+
+pub slice_bounds-store_plan-end : goal.slice_bounds-store_plan-end
+slice_bounds-store_plan-end c = c.requires.order-long
+
+pub slice_bounds-store_plan-end-2 : goal.slice_bounds-store_plan-end-2
+slice_bounds-store_plan-end-2 c = sym (length-take-le _ _ c.requires.order-long)
+
+pub slice_bounds-store_plan-end-3 : goal.slice_bounds-store_plan-end-3
+slice_bounds-store_plan-end-3 c = c.requires.pops-long
+
+pub slice_bounds-store_plan-end-4 : goal.slice_bounds-store_plan-end-4
+slice_bounds-store_plan-end-4 c = sym (length-take-le _ _ c.requires.pops-long)
+
+pub overflow_add-n : goal.overflow_add-n
+overflow_add-n c = omega (arith, few c.requires.writable)
+
+pub slice_bounds-store_plan-end-5 : goal.slice_bounds-store_plan-end-5
+slice_bounds-store_plan-end-5 c = c.requires.starts-long
+
+pub slice_bounds-store_plan-end-6 : goal.slice_bounds-store_plan-end-6
+slice_bounds-store_plan-end-6 c = sym (length-take-le _ _ c.requires.starts-long)
+
+pub slice_bounds-store_plan-end-7 : goal.slice_bounds-store_plan-end-7
+slice_bounds-store_plan-end-7 c = c.requires.rows_long
+
+pub slice_bounds-store_plan-end-8 : goal.slice_bounds-store_plan-end-8
+slice_bounds-store_plan-end-8 c = sym (length-take-le _ _ c.requires.rows_long)
+
+pub store_plan-stored-requires : goal.store_plan-stored-requires
+store_plan-stored-requires c = c.requires.writable
+
+pub returns-then-stored-ne0 : goal.returns-then-stored-ne0
+returns-then-stored-ne0 c =
+    refused-beside _ _ (rw c.requires.planned at c.store_plan-stored.ensures) c.if-stored-ne0.true
+    c.clear_all.ensures
+
+pub returns : goal.returns
+returns c = done-beside _ _ (rw c.requires.planned at c.store_plan-stored.ensures) c.if-stored-ne0.false
