@@ -3,7 +3,6 @@
 use mathlib.Core.Path.{refl}
 use mathlib.Core.Logic.{◌≢◌}
 use native.Mathlib.Omega.{arith}
-use borrow.Author.Tests.{eqb-false, ltb-false}
 use borrow.Author.Rules.{rules}
 use Rattle.read_fields.proofs.Answers.{two-groups}
 use Rattle.read_fields.proofs.two_groups.Goals as goal
@@ -16,8 +15,8 @@ returns-then-low-lt128 c = λ z. absurd (z refl)
 
 pub returns : goal.returns
 returns c =
-    let some : c.wide8-next.result ≢ 0 = eqb-false c.wide8-next.result 0 c.if-next-eq0.false in
-    let last = ltb-false 127 c.wide8-next.result c.if-next-gt127.false in
+    let some : c.wide8-next.result ≢ 0 = c.if-next-eq0.false in
+    let last = c.if-next-gt127.false in
     let more = c.if-low-lt128.false in
     let there = c.if-plan-at-lt2.false in
     let inside = c.requires in

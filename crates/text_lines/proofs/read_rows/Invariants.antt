@@ -1,0 +1,16 @@
+-- Proves that `read_rows` reads the rows: the numbers before k are read and kept, and the rest of the line completes them. Each turn leaves less
+-- text.
+-- Assumes nothing.
+use Prim.Native.Nat.{◌-◌}
+use native.Mathlib.Omega.{arith}
+use lib.ListN.{length}
+use borrow.Author.Rules.{rules}
+use Rattle.text_words.proofs.Told.{word_more, word-last, word-bad}
+use Rattle.text_lines.proofs.Rows.{RowsRead, rows_start, rows_long, rows-turn, rows_last, rows-bad, rows_out}
+use Rattle.text_lines.proofs.read_rows.Given as goal
+
+abbrev pub invariant-loop-k : goal.invariant-loop-k
+invariant-loop-k l = RowsRead l.text l.at l.t l.initial.rows l.rows l.k l.count
+
+abbrev pub decreases-loop-k : goal.decreases-loop-k
+decreases-loop-k l = length l.text - l.k
