@@ -12,7 +12,7 @@ use Rattle.papers.specs.Lists.{flat}
 use Rattle.papers.specs.Job.{Pattern, Below, column_of}
 use Rattle.papers.specs.Fill.{R}
 use Rattle.papers.specs.Tree.{row_count}
-use Rattle.papers.specs.Room.{rooms, room_at}
+use Rattle.papers.specs.Room.{rooms, room_at, entries_after}
 use Rattle.papers.specs.Order.{pops_of, order_of, rooms_of}
 use Rattle.papers.specs.Key.{lists_of}
 use Rattle.papers.specs.Text.{decimal_of, printed, step_lines}
@@ -47,7 +47,7 @@ module _ (n : ℕ) (A : Pattern) where
   length-rooms : (entries js : List ℕ) → length (rooms (row_count A) (pops_of n A) entries js) ≡ length js
   unfolding rooms
   length-rooms entries [] = refl
-  length-rooms entries (j ∷ js) = ap (λ (k : ℕ). suc k) (length-rooms _ js)
+  length-rooms entries (j ∷ js) = ap (λ (k : ℕ). suc k) (length-rooms (entries_after (pops_of n A j) (row_count A j) entries) js)
 
   module _ (order starts rows : List ℕ) (sized : row_count_in starts ≡ row_count A) (listed : (k : ℕ) → k < length order
       → column_of starts rows (get_or order k 0) ≡ R A (get_or order k 0)) where

@@ -1,15 +1,13 @@
 -- Proves how rows are read quickly: short rows, and between them rows whose gaps have two groups, up to the list's end or to what the reader of lists
 -- must read.
 -- Assumes nothing.
-use Prim.Native.Nat.{ℕ, ◌+◌, ◌-◌, ◌<◌}
+use Prim.Native.Nat.{ℕ, ◌+◌, ◌-◌, ◌<◌, ◌≤◌}
 use mathlib.Core.List.{List, ◌++◌}
 use mathlib.Core.Path.{◌≡◌, refl, ap}
 use mathlib.Core.Logic.{◌≢◌}
 use mathlib.Core.Bool.{false}
 use native.Mathlib.Omega.{arith}
-use lib.Dec.{ltb, leb}
 use lib.ListN.{length, set, length-append}
-use borrow.Author.Tests.{ltb-false, leb-false}
 use Rattle.papers.specs.Numbers.{number_read_from, got, field}
 use Rattle.papers.specs.declared.Number.TheVariants.{Value}
 use Rattle.list_laws.proofs.Stores.{sets-append}
@@ -21,13 +19,13 @@ use Rattle.read_rows.proofs.Rows.{rows_none, rows-one, rows_both, rows_long}
 
 module _ {n : ℕ} {s : List ℕ} {j count at t : ℕ} {rows₀ rows : List ℕ} {k last left total : ℕ} (x : RowsRead n s j count at t rows₀ rows k last left
     total) where
-  pub quick-room : leb (length rows) total ≡ false → total < length rows₀
-  quick-room e = let l = rows_long x in omega (arith, leb-false (length rows) total e)
+  pub quick-room : total < length rows → total < length rows₀
+  quick-room e = let l = rows_long x in omega arith
 
   -- reads one more row, whose gap has two groups
-  module _ {gap : ℕ} (some : gap ≢ 0) (two : gap ≢ 0 → Value gap (k + 2) ≡ number_read_from s k) (most : ltb (n - last) gap ≡ false) where
+  module _ {gap : ℕ} (some : gap ≢ 0) (two : gap ≢ 0 → Value gap (k + 2) ≡ number_read_from s k) (most : gap ≤ n - last) where
     read : field 1 (n - last) s k ≡ got gap (k + 2)
-    read = field_is 1 (n - last) s k (two some) (omega arith) (ltb-false (n - last) gap most)
+    read = field_is 1 (n - last) s k (two some) (omega arith) most
 
     pub quick-found : fields.Found 1 (n - last) s k gap (k + 2)
     quick-found = fields.field-got 1 (n - last) s k gap (k + 2) read

@@ -5,10 +5,8 @@ use mathlib.Core.Bool.{false}
 use mathlib.Core.List.{List, [], ◌∷◌, ◌++◌}
 use mathlib.Core.Path.{◌≡◌, refl, ap, ◌∙◌}
 use native.Mathlib.Omega.{arith}
-use lib.Dec.{ltb}
 use lib.ListN.{length, get_or, set}
 use lib.Seq.{length-sets}
-use borrow.Author.Tests.{ltb-false}
 use Rattle.papers.specs.Bounds.{max_columns}
 use Rattle.list_laws.proofs.Stores.{sets_more}
 use Rattle.read_fields.proofs.Answers.{one-group, field_is}
@@ -18,8 +16,8 @@ use Rattle.read_rows.specs.Rows.{RowsRead, ShortRead}
 use Rattle.read_rows.proofs.Rows.{rows_start, rows-one, rows_both}
 
 -- a byte whose high bit is not set
-pub short-gap : {gap : ℕ} → ltb 127 gap ≡ false → gap < 128
-short-gap {gap} e = let h = ltb-false 127 gap e in omega arith
+pub short-gap : {gap : ℕ} → gap ≤ 127 → gap < 128
+short-gap e = omega arith
 
 pub short-start : (s : List ℕ) (b left at t : ℕ) (rows : List ℕ) → at ≤ length s → ShortRead s b left at t rows rows 0 b
 short-start s b left at t rows h =

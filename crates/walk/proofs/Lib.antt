@@ -3,5 +3,4 @@ pub mod Runs
 pub mod Down
 pub mod Later
 pub mod OneKept
-pub mod Measure
 pub mod Nesting

@@ -1,0 +1,19 @@
+-- Proves that `listing` answers right: one law covers a slice too short for any listing, and one what is printed in the cleared slice.
+-- Assumes nothing.
+use borrow.Author.Rules.{rules}
+use Rattle.listing.proofs.Ways.{way-short, prints-fit, way-printed}
+use Rattle.listing.proofs.listing.Goals as goal
+
+pub returns-then-bytes-lt-LISTING_BYTES : goal.returns-then-bytes-lt-LISTING_BYTES
+returns-then-bytes-lt-LISTING_BYTES c =
+    way-short (record { text = c.args.text.now; more = c.args.more }) c.args.bytes.now
+    c.if-bytes-lt-LISTING_BYTES.true c.answered.ensures
+
+pub print_text-printed-requires : goal.print_text-printed-requires
+print_text-printed-requires c =
+    prints-fit _ c.args.bytes.now c.if-bytes-lt-LISTING_BYTES.false c.clear8.ensures
+
+pub returns : goal.returns
+returns c =
+    way-printed (record { text = c.args.text.now; more = c.args.more }) c.args.bytes.now
+    c.if-bytes-lt-LISTING_BYTES.false c.clear8.ensures c.print_text-printed.ensures c.answered-2.ensures

@@ -1,0 +1,74 @@
+-- Proves that `print_analysis` prints the line of a refusal, or the listing of the job's plan, which parts of the slices hold after an analysis that
+-- is done.
+-- Assumes nothing.
+use mathlib.Core.Path.{sym, ap}
+use native.Mathlib.Omega.{arith}
+use lib.ListN.{length}
+use lib.Seq.{length-take-le}
+use borrow.Author.Rules.{rules}
+use Rattle.papers.specs.Job.{job_of}
+use Rattle.list_laws.proofs.Writing.{wrote_as}
+use Rattle.lent.specs.Six.{six_slices}
+use Rattle.listing_plan.proofs.Analysed.{refused-printed, Done, done-lies, done-columns, done-steps, done-printable, done-printed}
+use Rattle.listing_plan.proofs.print_analysis.Goals as goal
+use Rattle.listing_plan.proofs.print_analysis.Goals.{Else-answer-ne0}
+
+-- the analysis is done
+abbrev done : (c : Else-answer-ne0)
+    → Done (job_of c.args.head c.args.starts.now c.args.rows.now)
+    (six_slices c.args.parents.now c.args.order.now c.args.pops.now c.args.fstarts.now
+    c.args.frows.now c.args.work.now)
+done c = record { answered = _; after = _; ends = c.analyse-answer.ensures; zero = c.if-answer-ne0.false }
+
+pub write_refusal-requires : goal.write_refusal-requires
+write_refusal-requires c =
+    omega (arith, ap length (refused-printed _ _ c.analyse-answer.ensures c.if-answer-ne0.true), c.requires.fits)
+
+pub returns-then-answer-ne0 : goal.returns-then-answer-ne0
+returns-then-answer-ne0 c =
+    wrote_as (refused-printed _ _ c.analyse-answer.ensures c.if-answer-ne0.true)
+    c.write_refusal.ensures
+
+pub offset_bounds-fstarts-n : goal.offset_bounds-fstarts-n
+offset_bounds-fstarts-n c = omega (arith, done-columns (done (goal.at.offset_bounds-fstarts-n c).Else-answer-ne0))
+
+pub bounds-fstarts-n : goal.bounds-fstarts-n
+bounds-fstarts-n c = omega (arith, (done-lies (done (goal.at.bounds-fstarts-n c).Else-answer-ne0)).starts-long)
+
+pub slice_bounds-print_plan-end : goal.slice_bounds-print_plan-end
+slice_bounds-print_plan-end c = (done-lies (done (goal.at.slice_bounds-print_plan-end c).Else-answer-ne0)).order-long
+
+pub slice_bounds-print_plan-end-2 : goal.slice_bounds-print_plan-end-2
+slice_bounds-print_plan-end-2 c = sym (length-take-le _ _ (done-lies (done (goal.at.slice_bounds-print_plan-end-2 c).Else-answer-ne0)).order-long)
+
+pub slice_bounds-print_plan-end-3 : goal.slice_bounds-print_plan-end-3
+slice_bounds-print_plan-end-3 c = (done-lies (done (goal.at.slice_bounds-print_plan-end-3 c).Else-answer-ne0)).pops-long
+
+pub slice_bounds-print_plan-end-4 : goal.slice_bounds-print_plan-end-4
+slice_bounds-print_plan-end-4 c = sym (length-take-le _ _ (done-lies (done (goal.at.slice_bounds-print_plan-end-4 c).Else-answer-ne0)).pops-long)
+
+pub overflow_add-n : goal.overflow_add-n
+overflow_add-n c = omega (arith, done-columns (done (goal.at.overflow_add-n c).Else-answer-ne0))
+
+pub slice_bounds-print_plan-end-5 : goal.slice_bounds-print_plan-end-5
+slice_bounds-print_plan-end-5 c = (done-lies (done (goal.at.slice_bounds-print_plan-end-5 c).Else-answer-ne0)).starts-long
+
+pub slice_bounds-print_plan-end-6 : goal.slice_bounds-print_plan-end-6
+slice_bounds-print_plan-end-6 c = sym (length-take-le _ _ (done-lies (done (goal.at.slice_bounds-print_plan-end-6 c).Else-answer-ne0)).starts-long)
+
+pub slice_bounds-print_plan-end-7 : goal.slice_bounds-print_plan-end-7
+slice_bounds-print_plan-end-7 c = (done-lies (done (goal.at.slice_bounds-print_plan-end-7 c).Else-answer-ne0)).rows_long
+
+pub slice_bounds-print_plan-end-8 : goal.slice_bounds-print_plan-end-8
+slice_bounds-print_plan-end-8 c = sym (length-take-le _ _ (done-lies (done (goal.at.slice_bounds-print_plan-end-8 c).Else-answer-ne0)).rows_long)
+
+pub print_plan-requires : goal.print_plan-requires
+print_plan-requires c =
+    record {
+      printable = done-printable (done (goal.at.print_plan-requires c).Else-answer-ne0);
+      wide = omega (arith, done-steps (done (goal.at.print_plan-requires c).Else-answer-ne0), c.requires.wide);
+      fits = omega (arith, ap length (done-printed (done (goal.at.print_plan-requires c).Else-answer-ne0)), c.requires.fits);
+    }
+
+pub returns : goal.returns
+returns c = wrote_as (done-printed (done (goal.at.returns c).Else-answer-ne0)) c.print_plan.ensures

@@ -1,0 +1,13 @@
+-- Proves that `digits`, which reads an order's columns as digits of one number, is safe: places wrap and numbers stay small, so a turn needs nothing
+-- of what it reads. Each turn leaves fewer to come.
+-- Assumes nothing.
+use Prim.Native.Nat.{◌-◌}
+use native.Mathlib.Omega.{arith}
+use borrow.Author.Rules.{rules}
+use Rattle.trial_analyse.proofs.bench.digits.Given as goal
+
+abbrev pub invariant-loop-k : goal.invariant-loop-k
+invariant-loop-k l = Unit {0}
+
+abbrev pub decreases-loop-k : goal.decreases-loop-k
+decreases-loop-k l = l.n - l.k
