@@ -1,19 +1,22 @@
 // The program `plan`: prints the listing of the job text on standard input, or the line of its refusal.
 #![tactic(auto)]
 
-use libc::{STDIN_FILENO, STDOUT_FILENO};
+// The numbers of standard input and standard output.
+const STDIN: i32 = 0;
+
+const STDOUT: i32 = 1;
 
 // Reads as much as the input buffer holds, and looks whether a byte follows.
 fn main() {
     let mut input = [0u8; program_sizes::INPUT_BYTES];
     let mut behind = [0u8; 1];
-    let read = io::read_full(STDIN_FILENO, &mut input);
-    let more = io::read_full(STDIN_FILENO, &mut behind);
+    let read = io::read_full(STDIN, &mut input);
+    let more = io::read_full(STDIN, &mut behind);
     let mut output = [0u8; program_sizes::LISTING_BYTES];
     let answer = listing::listing(&input[..read], more != 0, &mut output);
     // By its contract the count is within the output, but main cannot see the contract, so it asks.
     let printed = answer.count as usize;
     if printed <= output.len() {
-        io::write_all(STDOUT_FILENO, &output[..printed]);
+        io::write_all(STDOUT, &output[..printed]);
     }
 }
