@@ -12,8 +12,7 @@ use Rattle.papers.specs.Analysis.{Lent}
 use Rattle.papers.specs.Check.{checked}
 use Rattle.papers.specs.Text.{buffers}
 use Rattle.lent.specs.Six.{zeroes}
-use Rattle.solver.proofs.check_in_buffers.Statement.{statement}
-use Rattle.solver.proofs.check_in_buffers.Tie as tie
+use Rattle.solver.proofs.check_in_buffers.Goals as goal
 
 -- the check in zeroed slices of the program's sizes is that in its buffers
 in-buffers : (job : Job) (plan : List ℕ) {a : Answer} {lent : Lent} → record { answered = a; lent = lent }
@@ -21,22 +20,5 @@ in-buffers : (job : Job) (plan : List ℕ) {a : Answer} {lent : Lent} → record
 unfolding buffers
 in-buffers job plan e = ap (λ (o : Outcome Lent). o.answered) e
 
--- The places that the answers look back to: `checked-plan (search)` is the one behind the answer at hand.
-abbrev checked-plan : tie.After-check-plan → tie.After-check-plan
-checked-plan c = c
-
-returns : tie.Need-returns
-returns c = in-buffers _ _ (checked-plan (search)).check-plan.ensures
-
-pub check-in-buffers-spec : {M : Type 1} → statement M
-check-in-buffers-spec =
-    tie.close
-    (tie.spec
-    (λ c. search rules)
-    (λ c. search rules)
-    (λ c. search rules)
-    (λ c. search rules)
-    (λ c. search rules)
-    (λ c. search rules)
-    (λ c κs. search rules)
-    returns)
+pub returns : goal.returns
+returns c = in-buffers _ _ c.check_plan.ensures

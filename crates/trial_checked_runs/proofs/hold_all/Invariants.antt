@@ -1,0 +1,11 @@
+-- Proves that `hold_all`, which tries the patterns of all seeds, is safe: a turn needs nothing of what it reads, and each leaves fewer to come.
+-- Assumes nothing.
+use Prim.Native.Nat.{◌-◌}
+use native.Mathlib.Omega.{arith}
+use Rattle.trial_checked_runs.proofs.hold_all.Given as goal
+
+abbrev pub invariant-loop-seed : goal.invariant-loop-seed
+invariant-loop-seed l = Unit {0}
+
+abbrev pub decreases-loop-seed : goal.decreases-loop-seed
+decreases-loop-seed l = l.seeds - l.seed
