@@ -16,7 +16,7 @@ use Rattle.papers.specs.Lists.{least}
 use Rattle.papers.specs.Refusals.{passed, refused_at}
 use Rattle.papers.specs.Numbers.{encode, got, differs_at, Agrees, Bytes}
 use Rattle.papers.specs.Key.{key_of}
-use Rattle.papers.specs.Plan.{Plan, plan_numbers, bytes_of_plan, plan_read, Fit, AreOf}
+use Rattle.papers.specs.Plan.{Plan, plan_numbers, bytes_of_plan, plan_read, AreOf}
 use Rattle.papers.specs.Check.{CheckCall, other_key}
 use Rattle.list_laws.proofs.Tests.{Test, passes, fails, test, true-false}
 use Rattle.list_laws.proofs.Leasts.{least-zero-iff}

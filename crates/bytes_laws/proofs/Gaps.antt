@@ -6,9 +6,9 @@ use mathlib.Core.Path.{◌≡◌, refl, ap, ◌∙◌}
 use mathlib.Core.List.Memᴰ
 use mathlib.Core.List.{List, [], ◌∷◌}
 use native.Mathlib.Omega.{arith}
-use lib.ListN.{length, get_or}
+use lib.ListN.{length}
 use Rattle.papers.specs.Bounds.{max_groups}
-use Rattle.papers.specs.Lists.{◌∈◌, Asc}
+use Rattle.papers.specs.Lists.{◌∈◌}
 use Rattle.papers.specs.Numbers.{bytes_of, encode, got, field, Bytes}
 use Rattle.papers.specs.Key.{gaps_of, list_numbers, lists_numbers, rows_read_from, list_read_from, lists_read_from}
 use Rattle.papers.specs.Plan.{RowsFit, ListsFit}

@@ -7,12 +7,12 @@ use mathlib.Core.Bool.{Bool, true, false}
 use mathlib.Core.List.{List, [], ◌∷◌, ◌++◌, append_assoc, append-nil}
 use native.Mathlib.Omega.{arith}
 use lib.Dec.{ltb}
-use lib.ListN.{length, get_or}
+use lib.ListN.{length}
 use borrow.Author.Tests.{ltb-false, le-ltb}
 use Rattle.papers.specs.Bounds.{max_groups, max_peak}
 use Rattle.papers.specs.Numbers.{bytes_of, encode, Read, got, bad, field, at_end, Bytes}
 use Rattle.papers.specs.Key.{lists_numbers, lists_read_from}
-use Rattle.papers.specs.Plan.{Plan, StepsFit, Fit, step_numbers, plan_numbers, read_step, steps_read_from, plan_read_from}
+use Rattle.papers.specs.Plan.{Plan, StepsFit, Fit, step_numbers, plan_numbers, step_read_from, steps_read_from, plan_read_from}
 use Rattle.bytes_laws.proofs.Numbers.{encode-append}
 use Rattle.bytes_laws.proofs.Fields.{got-inj, got-bad, then-got, then-only, onto-got, onto-only, Spans, spans-none, spans-both}
 use Rattle.bytes_laws.proofs.Fields.{spans-cut, field-got, field-only, field_back}
@@ -38,7 +38,7 @@ end-only a b s at next e = go (ltb at (length s)) refl e
 module _ (n : ℕ) (fits : n < 2 ^ (7 * max_groups)) (s : List ℕ) where
   steps_back : (xs : List (ℕ × ℕ)) (at next : ℕ) → StepsFit n xs → Spans s at (encode (step_numbers xs)) next
       → steps_read_from n (length xs) s at ≡ got xs next
-  unfolding steps_read_from read_step step_numbers encode
+  unfolding steps_read_from step_read_from step_numbers encode
   steps_back [] at next f a = ap (got []) (let p = a.place in omega arith)
   steps_back (x ∷ xs) at next f a =
       let (p, b) = spans-cut (bytes_of x.0) (bytes_of x.1 ++ encode (step_numbers xs)) a in
@@ -65,9 +65,9 @@ module _ (n : ℕ) (fits : n < 2 ^ (7 * max_groups)) (s : List ℕ) where
 -- ---- a plan that is read is at that place
 
 module _ (n : ℕ) (s : List ℕ) (bytes : Bytes s) where
-  step-only : (at : ℕ) (x : ℕ × ℕ) (next : ℕ) → read_step n s at ≡ got x next
+  step-only : (at : ℕ) (x : ℕ × ℕ) (next : ℕ) → step_read_from n s at ≡ got x next
       → ((1 ≤ x.0) × (x.0 ≤ n) × (x.1 ≤ n - 1)) × Spans s at (bytes_of x.0 ++ bytes_of x.1) next
-  unfolding read_step
+  unfolding step_read_from
   step-only at x next e =
       let (column, mid, f, t) = then-only _ (field 1 n s at) e in
       let (pops, end, g, u) = then-only _ (field 0 (n - 1) s mid) t in
@@ -88,7 +88,7 @@ module _ (n : ℕ) (s : List ℕ) (bytes : Bytes s) where
   unfolding steps_read_from step_numbers encode
   steps-only zero at xs next e = let (p, q) = got-inj e in rw (← p, ← q) (refl, tt, spans-none s at)
   steps-only (suc k) at xs next e =
-      let (x, mid, f, g) = then-only _ (read_step n s at) e in
+      let (x, mid, f, g) = then-only _ (step_read_from n s at) e in
       let (ys, h, q) = onto-only (x ∷ []) (steps_read_from n k s mid) g in
       let (here, a) = step-only at x mid f in
       let (c, fit, b) = steps-only k mid ys next h in

@@ -9,7 +9,7 @@ use lib.ListN.{length, length-append}
 use Rattle.papers.specs.Lists.{flat}
 use Rattle.papers.specs.Numbers.{got, field}
 use Rattle.papers.specs.Key.{rows_read_from, list_read_from, lists_read_from}
-use Rattle.papers.specs.Plan.{read_step, steps_read_from}
+use Rattle.papers.specs.Plan.{step_read_from, steps_read_from}
 use Rattle.bytes_laws.proofs.Fields.{got-inj, then-only, onto-only, field-got}
 
 -- reading from `at` reaches next over at least this many numbers
@@ -31,8 +31,8 @@ module _ {s : List ℕ} where
       record { on = omega arith; inside = λ h. f.inside }
 
 module _ (n : ℕ) (s : List ℕ) where
-  pub step-reach : (at : ℕ) (x : ℕ × ℕ) (next : ℕ) → read_step n s at ≡ got x next → Reach s at 2 next
-  unfolding read_step
+  pub step-reach : (at : ℕ) (x : ℕ × ℕ) (next : ℕ) → step_read_from n s at ≡ got x next → Reach s at 2 next
+  unfolding step_read_from
   step-reach at x next e =
       let (column, mid, f, t) = then-only _ (field 1 n s at) e in
       let (pops, end, g, u) = then-only _ (field 0 (n - 1) s mid) t in
@@ -43,7 +43,7 @@ module _ (n : ℕ) (s : List ℕ) where
   unfolding steps_read_from
   steps-reach zero at xs next e = let (p, q) = got-inj e in (ap length (sym p), reach-none q)
   steps-reach (suc k) at xs next e =
-      let (x, mid, f, g) = then-only _ (read_step n s at) e in
+      let (x, mid, f, g) = then-only _ (step_read_from n s at) e in
       let (ys, h, q) = onto-only (x ∷ []) (steps_read_from n k s mid) g in
       let (c, r) = steps-reach k mid ys next h in
       (ap length (sym q) ∙ ap suc c, reach-both (suc k + suc k) (step-reach at x mid f) r (omega arith))

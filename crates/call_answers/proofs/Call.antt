@@ -3,7 +3,7 @@
 -- Assumes nothing.
 use Prim.Native.Nat.{◌<◌}
 use mathlib.Core.Path.{◌≡◌, refl, sym, ap, subst, ◌∙◌}
-use mathlib.Core.Logic.{◌↔◌, ◌⊎◌, inl, inr}
+use mathlib.Core.Logic.{◌↔◌, inl, inr}
 use mathlib.Core.List.{◌++◌}
 use native.Mathlib.Omega.{arith}
 use Rattle.papers.specs.declared.Answer.{Answer}
@@ -17,7 +17,6 @@ use Rattle.papers.specs.Text.{buffers}
 use Rattle.papers.specs.Call.{SolverCall, call_refusals, solver_answer, solver_check, SolverRefused, called}
 use Rattle.job_laws.proofs.Firsts.{refused-passed, one_answer, append-passed-iff}
 use Rattle.job_laws.proofs.Readable.{readable-one}
-use Rattle.refusal_laws.specs.Exactly.{Exactly}
 use Rattle.refusal_laws.proofs.Agreements.{no-answer-iff, answered-iff, passed-iff, append-agree}
 use Rattle.call_laws.proofs.Called.{call-refused}
 use Rattle.check_laws.proofs.Check.{check-early-agree, check-late-agree, early-passes, check-exactly, done-zero}

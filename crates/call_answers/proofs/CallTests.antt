@@ -3,14 +3,14 @@
 -- Assumes nothing.
 use Prim.Native.Nat.{ℕ, ◌<◌}
 use mathlib.Core.Path.{◌≡◌, refl, ◌∙◌}
-use mathlib.Core.Logic.{◌↔◌, ◌⊎◌, inl, inr}
+use mathlib.Core.Logic.{◌⊎◌, inl, inr}
 use mathlib.Core.Bool.{◌||◌}
 use native.Mathlib.Omega.{arith}
 use lib.Dec.{ltb}
-use lib.ListN.{length, get_or}
+use lib.ListN.{length}
 use Rattle.papers.specs.declared.Answer.{Answer}
 use Rattle.papers.specs.Bounds.{program_columns, program_rows}
-use Rattle.papers.specs.Refusals.{answer, passed, first, refused_if, Answered, Unrefused, refused}
+use Rattle.papers.specs.Refusals.{answer, passed, first, refused_if, refused}
 use Rattle.papers.specs.Job.{Job}
 use Rattle.papers.specs.Numbers.{Read, got, bad, Bytes}
 use Rattle.papers.specs.Key.{Readable, key_read_from}
@@ -18,7 +18,6 @@ use Rattle.papers.specs.Check.{checked}
 use Rattle.papers.specs.Text.{buffers}
 use Rattle.papers.specs.Call.{SolverCall, readable_test, sizes_test, call_refusals, key_checked, solver_answer, sizes_over, unreadable}
 use Rattle.bytes_laws.proofs.Fields.{got-bad}
-use Rattle.job_laws.proofs.Firsts.{refused-passed}
 use Rattle.job_laws.proofs.Readable.{readable-read, readable-one, readable-iff}
 use Rattle.refusal_laws.proofs.Agreements.{Agree, agree_same, agree-by, AgreeEach, ◌▸◌, passed-iff}
 use Rattle.refusal_laws.proofs.Tests.{below-iff, either-iff, agree-if}

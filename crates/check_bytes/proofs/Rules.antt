@@ -5,12 +5,12 @@ use Prim.Native.Nat.{ℕ, ◌<◌, ◌≤◌}
 use mathlib.Core.Path.{◌≡◌, refl, sym, ap, ◌∙◌}
 use mathlib.Core.List.{List, map}
 use native.Mathlib.Omega.{arith}
-use lib.ListN.{length, get_or, length-replicate}
+use lib.ListN.{length, length-replicate}
 use lib.Seq.{sets, length-sets}
 use Rattle.papers.specs.declared.Answer.{Answer}
 use Rattle.papers.specs.Lists.{up_to, flat, zeros}
 use Rattle.papers.specs.Refusals.{answer, passed, first}
-use Rattle.papers.specs.Job.{Job, pattern, job_refusals}
+use Rattle.papers.specs.Job.{Job, pattern}
 use Rattle.papers.specs.Tree.{parent}
 use Rattle.papers.specs.Numbers.{Read, got, bad, Bytes}
 use Rattle.papers.specs.Key.{key_of}

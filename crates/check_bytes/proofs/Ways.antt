@@ -25,7 +25,7 @@ use Rattle.check_numbers.specs.declared.KeyMatch.{KeyMatch}
 use Rattle.check_numbers.specs.declared.KeyMatch.TheVariants.{Begins, Differs}
 use Rattle.check_key.specs.Matches.{key_match}
 use Rattle.check_key.proofs.Answers.{begins-key, differs-key}
-use Rattle.check_judge.proofs.Rulings.{at-refuses, at-passes, number_of}
+use Rattle.check_judge.proofs.Rulings.{at-refuses, at-passes}
 use Rattle.check_judge.specs.Judged.{plan_from}
 use Rattle.check_bytes.specs.Ruled.{check_of, Ruled, refuses, passes}
 

@@ -5,7 +5,7 @@ use Rattle.std.proofs.lemmas.List.Edits.{sets}
 use Rattle.papers.specs.declared.Answer.{Answer}
 use Rattle.papers.specs.Lists.{up_to, zeros}
 use Rattle.papers.specs.Refusals.{answer, passed, refused, first, Outcome}
-use Rattle.papers.specs.Job.{Job, pattern, job_refusals}
+use Rattle.papers.specs.Job.{Job, pattern}
 use Rattle.papers.specs.Tree.{parent}
 use Rattle.papers.specs.Analysis.{Lent, LongEnough, fixed_lengths}
 use Rattle.papers.specs.Check.{CheckCall, check_done, check_early, check_late}

@@ -12,7 +12,7 @@ use Rattle.papers.specs.Check.{column_repeated, judge_refusals, list_wrong}
 use Rattle.papers.specs.Bounds.{work_length_for}
 use Rattle.papers.specs.Lists.{up_to}
 use Rattle.papers.specs.Refusals.{answer, passed, first}
-use Rattle.papers.specs.Job.{Job, pattern, job_refusals}
+use Rattle.papers.specs.Job.{Job, pattern}
 use Rattle.papers.specs.Tree.{parent}
 use Rattle.papers.specs.Plan.{Plan}
 use Rattle.job_laws.specs.Passed.{Passed}

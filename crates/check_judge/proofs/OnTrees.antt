@@ -10,7 +10,7 @@ use Rattle.papers.specs.Lists.{Distinct}
 use Rattle.papers.specs.Job.{Job, Below, pattern}
 use Rattle.papers.specs.Tree.{parent}
 use Rattle.papers.specs.Plan.{Plan, columns_in}
-use Rattle.job_laws.proofs.Passed.{passes-iff, passed-below}
+use Rattle.job_laws.proofs.Passed.{passed-below}
 use Rattle.plan_laws.proofs.PlanSound.{repeat-iff}
 use Rattle.tree.specs.Parents.{parent_in, TreeIn}
 use Rattle.order.proofs.Ties.{length-parents, parents-tie, rowed}

@@ -12,7 +12,7 @@ use Rattle.papers.specs.Refusals.{answer, Verdict, passed, refused, first, refus
 use Rattle.papers.specs.Job.{Job}
 use Rattle.papers.specs.Plan.{Plan}
 use Rattle.job_laws.proofs.Firsts.{◌&◌, Each, first-each, first-passed-iff, first-append-passed, first-refuses}
-use Rattle.check_judge.specs.Judged.{tree_refusals, ruling, plan_from}
+use Rattle.check_judge.specs.Judged.{ruling, plan_from}
 
 -- a verdict that refuses has a number
 abbrev Numbered : Verdict → Type 0

@@ -6,7 +6,7 @@ use Rattle.papers.specs.declared.Answer.{Answer}
 use Rattle.papers.specs.Bounds.{work_length_for}
 use Rattle.papers.specs.Lists.{up_to, flat, starts_counted_from}
 use Rattle.papers.specs.Refusals.{answer, Verdict, passed, refused, first, Refusal}
-use Rattle.papers.specs.Job.{Job, pattern, job_refusals}
+use Rattle.papers.specs.Job.{Job, pattern}
 use Rattle.papers.specs.Tree.{parent}
 use Rattle.papers.specs.Plan.{Plan, columns_in, pops_in, Fit}
 use Rattle.papers.specs.Analysis.{Lent, LongEnough, fixed_lengths, peak_over}

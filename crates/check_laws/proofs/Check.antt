@@ -6,16 +6,15 @@ use mathlib.Core.Path.{◌≡◌, refl, sym, ◌∙◌}
 use mathlib.Core.Logic.{◌↔◌}
 use mathlib.Core.List.{List, [], ◌∷◌, ◌++◌}
 use native.Mathlib.Omega.{arith}
-use lib.ListN.{length, get_or}
-use Rattle.papers.specs.declared.Answer.{Answer}
+use lib.ListN.{length}
 use Rattle.papers.specs.Bounds.{max_groups}
 use Rattle.papers.specs.Lists.{flat}
 use Rattle.papers.specs.Refusals.{Verdict, passed, refused, Refusal, first, answer, of}
-use Rattle.papers.specs.Job.{job_refusals, Below, pattern}
-use Rattle.papers.specs.Numbers.{Read, got, bad, Bytes}
+use Rattle.papers.specs.Job.{Below, pattern}
+use Rattle.papers.specs.Numbers.{got, Bytes}
 use Rattle.papers.specs.Plan.{Plan, AreOf, plan_read, Fit}
 use Rattle.papers.specs.Analysis.{all_zero, early_refusals, early_of}
-use Rattle.papers.specs.Check.{CheckCall, other_key, read_test, judge_refusals, plan_test, of_plan, of_plans, check_early, check_late, check_done, checked}
+use Rattle.papers.specs.Check.{CheckCall, other_key, judge_refusals, plan_test, of_plan, of_plans, check_early, check_late, check_done, checked}
 use Rattle.papers.specs.Check.{plan_refusals, bad_plan}
 use Rattle.job_laws.specs.Passed.{Passed}
 use Rattle.job_laws.proofs.Firsts.{append-passed-iff, first_of, first-last, over-passes-iff}
@@ -29,7 +28,7 @@ use Rattle.refusal_laws.proofs.Exactly.{outcome-exactly}
 use Rattle.refusal_laws.proofs.Tests.{agree-exceeds}
 use Rattle.refusal_laws.proofs.Analysis.{early-agree}
 use Rattle.check_laws.proofs.PlanTests.{judge-agree}
-use Rattle.check_laws.proofs.PlanBytes.{begins-agree, read-bad, read-iff, read-agree}
+use Rattle.check_laws.proofs.PlanBytes.{begins-agree, read-iff, read-agree}
 
 module _ (call : CheckCall) where
   -- ---- the plan that was read

@@ -3,18 +3,18 @@
 -- Assumes nothing.
 use Prim.Native.Nat.{ℕ, zero, suc, ◌-◌, ◌≤◌}
 use mathlib.Core.Path.{◌≡◌, sym, ◌∙◌}
-use mathlib.Core.Logic.{◌↔◌, ◌⊎◌, inl, inr, ◌≢◌}
+use mathlib.Core.Logic.{◌↔◌, ◌⊎◌, inl, inr}
 use mathlib.Core.Bool.{true}
 use mathlib.Core.List.Memᴰ
 use mathlib.Core.List.{List, [], ◌∷◌}
 use native.Mathlib.Omega.{arith}
-use lib.ListN.{length, get_or, take}
-use Rattle.papers.specs.Lists.{◌∈◌, Distinct, member, same, up_to, Least, nth}
-use Rattle.papers.specs.Refusals.{answer, passed}
-use Rattle.papers.specs.Job.{Job, pattern, Below}
+use lib.ListN.{length, take}
+use Rattle.papers.specs.Lists.{◌∈◌, Distinct, member, same, up_to, nth}
+use Rattle.papers.specs.Refusals.{passed}
+use Rattle.papers.specs.Job.{pattern, Below}
 use Rattle.papers.specs.Fill.{R}
-use Rattle.papers.specs.Order.{column_at_step, pops_of}
-use Rattle.papers.specs.Plan.{Plan, columns_in, pops_in, Fit}
+use Rattle.papers.specs.Order.{column_at_step}
+use Rattle.papers.specs.Plan.{pops_in, Fit}
 use Rattle.papers.specs.Check.{repeated_at, true_peak_of, Repeated, JobPlan, judge_refusals, list_wrong, peak_wrong, pops_wrong, column_repeated, columns}
 use Rattle.papers.specs.Check.{list_of_plan_at, children_at, subtree_scattered}
 use Rattle.list_laws.proofs.Tests.{Test, passes, fails, test, true-false}

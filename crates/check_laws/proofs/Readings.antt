@@ -12,7 +12,7 @@ use Rattle.papers.specs.Bounds.{max_peak}
 use Rattle.papers.specs.Refusals.{answer}
 use Rattle.papers.specs.Numbers.{Read, got, bad, then, onto, field, at_end}
 use Rattle.papers.specs.Key.{rows_read_from, list_read_from, lists_read_from}
-use Rattle.papers.specs.Plan.{Plan, read_step, steps_read_from, plan_read_from, Field, column, pops, count, gap, declared, nothing}
+use Rattle.papers.specs.Plan.{Plan, step_read_from, steps_read_from, plan_read_from, Field, column, pops, count, gap, declared, nothing}
 use Rattle.papers.specs.Plan.{range, next_list, next_row_of, next_step, following, PlanFault}
 use Rattle.list_laws.proofs.Tests.{below_or}
 use Rattle.bytes_laws.proofs.Fields.{got-inj, got-bad, then-only}
@@ -82,8 +82,8 @@ module _ (n : ℕ) (s : List ℕ) where
 
   -- ---- the parts of a plan
 
-  step_follows : (left at : ℕ) → Follows (column left) at (λ step. next_step n left) (read_step n s at)
-  unfolding read_step range following
+  step_follows : (left at : ℕ) → Follows (column left) at (λ step. next_step n left) (step_read_from n s at)
+  unfolding step_read_from range following
   step_follows left at = field-follows (column left) at _ tt (λ c to. field-follows (pops left) to _ tt (λ p end. through stay))
 
   steps-follow : (left at : ℕ) → Follows (next_step n left) at (λ steps. next_list n []) (steps_read_from n left s at)

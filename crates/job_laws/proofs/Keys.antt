@@ -11,8 +11,7 @@ use lib.Seq.{ext_get_or}
 use Rattle.papers.specs.Plan.{RowsFit, ListsFit}
 use Rattle.papers.specs.Bounds.{edition, max_columns, max_mark, max_limit}
 use Rattle.papers.specs.Lists.{flat, starts_counted_from}
-use Rattle.papers.specs.Refusals.{passed, first}
-use Rattle.papers.specs.Job.{Job, Pattern, pattern, job_refusals}
+use Rattle.papers.specs.Job.{Job, Pattern, pattern}
 use Rattle.papers.specs.Numbers.{bytes_of, encode, got}
 use Rattle.papers.specs.Key.{lists_numbers, lists_of, key_numbers, key_of, key_read_from}
 use Rattle.job_laws.specs.Passed.{Passed}
@@ -20,7 +19,7 @@ use Rattle.bytes_laws.proofs.Fields.{got-inj, then-got, Spans, spans-cut, spans-
 use Rattle.bytes_laws.proofs.Gaps.{lists_back}
 use Rattle.bytes_laws.proofs.Plans.{end-got}
 use Rattle.job_laws.specs.Same.{SameJob}
-use Rattle.job_laws.proofs.Passed.{passes-iff, passed-below}
+use Rattle.job_laws.proofs.Passed.{passed-below}
 use Rattle.job_laws.proofs.Laid.{lists-none, lists-more, length-lists, lists_at, rows-laid, starts-laid}
 
 -- ---- the lists of columns fit their fields

@@ -4,7 +4,7 @@
 use mathlib.Core.Path.{◌≡◌, refl, sym, ap, ◌∙◌}
 use mathlib.Core.Logic.{◌↔◌, ◌≢◌}
 use mathlib.Core.Bool.{true, false}
-use mathlib.Core.List.{List, [], ◌++◌}
+use mathlib.Core.List.{List, []}
 use native.Mathlib.Omega.{arith}
 use Rattle.papers.specs.declared.Answer.{Answer}
 use Rattle.papers.specs.Refusals.{answer, Verdict, passed, refused, answer_of, Refusal, of, first, Outcome, outcome}

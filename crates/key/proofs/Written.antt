@@ -9,7 +9,7 @@ use lib.ListN.{length}
 use Rattle.papers.specs.declared.Answer.{Answer}
 use Rattle.papers.specs.Bounds.{edition, max_columns, max_groups}
 use Rattle.papers.specs.Lists.{zeros}
-use Rattle.papers.specs.Refusals.{passed, answer_of, first, Outcome, EndsAs}
+use Rattle.papers.specs.Refusals.{passed, answer_of, first, EndsAs}
 use Rattle.papers.specs.Job.{Job, pattern, job_refusals}
 use Rattle.papers.specs.Numbers.{bytes_of, encode}
 use Rattle.papers.specs.Key.{lists_numbers, lists_of, key_numbers, key_of}

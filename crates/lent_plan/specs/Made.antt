@@ -3,8 +3,8 @@
 -- Assumes nothing.
 use Rattle.std.specs.Prelude.{◌≡◌, ◌≢◌}
 use Rattle.papers.specs.declared.Answer.{Answer}
-use Rattle.papers.specs.Refusals.{passed, first, Outcome}
-use Rattle.papers.specs.Job.{Job, job_refusals}
+use Rattle.papers.specs.Refusals.{Outcome}
+use Rattle.papers.specs.Job.{Job}
 use Rattle.papers.specs.Analysis.{Lent, all_zero, analysed, LongEnough, fixed_lengths}
 use Rattle.job_laws.specs.Passed.{Passed}
 

@@ -42,7 +42,7 @@ fn print_job(head: JobHead, starts: &[u64], rows: &[u32], bytes: &mut [u8]) -> u
 // lent.
 fn print_text(text: &[u8], more: bool, bytes: &mut [u8]) -> usize
     requires { length (program_prints (record { text = text.now; more = more })) ≤ length bytes.old }
-    ensures { Wrote (program_prints (record { text = text.entry.now; more = more })) bytes.old bytes.new 0 result }
+    ensures { Wrote (program_prints (record { text = text.now; more = more })) bytes.old bytes.new 0 result }
 {
     let mut starts = [0u64; program_sizes::STARTS];
     let mut rows = [0u32; program_sizes::PATTERN_ROWS];
@@ -62,7 +62,7 @@ fn print_text(text: &[u8], more: bool, bytes: &mut [u8]) -> usize
 // the text continues behind what is lent. The count is the bytes printed; the answer is 7 if the slice is shorter than any listing may
 // need.
 pub fn listing(text: &[u8], more: bool, bytes: &mut [u8]) -> Answer
-    ensures { EndsAs result bytes.new (listed (record { text = text.entry.now; more = more }) bytes.old) }
+    ensures { EndsAs result bytes.new (listed (record { text = text.now; more = more }) bytes.old) }
 {
     if bytes.len() < program_sizes::LISTING_BYTES {
         return basics::answered(7, 0, 0);

@@ -1,6 +1,6 @@
 -- Proves that the listing of an analysis that is done is printed from the parts of its slices that hold the steps and the lists of the job's plan.
 -- Assumes nothing.
-use Prim.Native.Nat.{ℕ, zero, ◌+◌, ◌≤◌}
+use Prim.Native.Nat.{ℕ, ◌+◌, ◌≤◌}
 use mathlib.Core.Path.{◌≡◌, sym, ap, ◌∙◌}
 use mathlib.Core.Logic.{◌≢◌}
 use mathlib.Core.List.{List, map}
@@ -10,7 +10,7 @@ use lib.Seq.{length-take-le}
 use Rattle.papers.specs.declared.Answer.{Answer}
 use Rattle.papers.specs.Bounds.{max_columns}
 use Rattle.papers.specs.Lists.{flat}
-use Rattle.papers.specs.Refusals.{answer, Outcome}
+use Rattle.papers.specs.Refusals.{Outcome}
 use Rattle.papers.specs.Job.{Job, Below, pattern}
 use Rattle.papers.specs.Fill.{R}
 use Rattle.papers.specs.Order.{pops_of, order_of}

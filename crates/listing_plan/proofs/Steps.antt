@@ -22,7 +22,7 @@ use Rattle.job_laws.proofs.Laid.{length-lists, lists_at, laid-column, laid-start
 use Rattle.order_laws.specs.Entries.{entries_after_all}
 use Rattle.order_laws.proofs.Rooms.{rooms-nil, rooms-cons, rooms-append}
 use Rattle.order_laws.proofs.Steps.{column-at}
-use Rattle.order_laws.proofs.Patterns.{order-ordered, order-length}
+use Rattle.order_laws.proofs.Patterns.{order-ordered}
 use Rattle.room.specs.Rows.{row_count_in}
 use Rattle.room.proofs.BySteps.{pops-here, entries-by-steps}
 use Rattle.order.specs.Given.{Given}

@@ -1,7 +1,7 @@
 -- Proves that the walk over lists arranged by a mark gives the steps of that mark. A subtree takes as many steps under every mark, and no step of its
 -- order pops more updates than are held.
 -- Assumes nothing.
-use Prim.Native.Nat.{ℕ, suc, ◌+◌, ◌<◌, ◌≤◌}
+use Prim.Native.Nat.{ℕ, suc, ◌<◌, ◌≤◌}
 use mathlib.Core.Path.{◌≡◌, sym, ap, ◌∙◌}
 use mathlib.Core.Logic.{◌↔◌}
 use mathlib.Core.List.Memᴰ

@@ -1,6 +1,6 @@
 -- Defines when the check of a plan's bytes refuses (11 to 20), and its whole outcome.
 -- Assumes nothing.
-use Rattle.std.specs.Prelude.{ℕ, ◌-◌, ◌<◌, ◌≤◌, ◌≡◌, ◌≢◌, Bool, true, false, not, List, [], ◌∷◌, eqb, length, get_or, take}
+use Rattle.std.specs.Prelude.{ℕ, ◌-◌, ◌<◌, ◌≤◌, ◌≡◌, ◌≢◌, Bool, not, List, [], ◌∷◌, eqb, length, get_or, take}
 use Rattle.papers.specs.Lists.{nth, member, same, flat}
 use Rattle.papers.specs.Refusals.{answer, Verdict, passed, refused, Refusal, when, at_least, of, Outcome, outcome}
 use Rattle.papers.specs.Job.{Job, pattern}

@@ -90,13 +90,13 @@ AreOf job bytes plan = Fit job.n plan × (bytes ≡ bytes_of_plan job plan)
 -- ---- reading
 
 -- reads a step: a column from 1 to n, then pops from 0 to n - 1
-unfoldable pub read_step : ℕ → List ℕ → ℕ → Read (ℕ × ℕ)
-read_step n s at = then (field 1 n s at) λ column at. then (field 0 (n - 1) s at) λ pops at. got (column, pops) at
+unfoldable pub step_read_from : ℕ → List ℕ → ℕ → Read (ℕ × ℕ)
+step_read_from n s at = then (field 1 n s at) λ column at. then (field 0 (n - 1) s at) λ pops at. got (column, pops) at
 
 -- reads k steps
 unfoldable pub steps_read_from : ℕ → ℕ → List ℕ → ℕ → Read (List (ℕ × ℕ))
 steps_read_from n zero s at = got [] at
-steps_read_from n (suc k) s at = then (read_step n s at) λ step at. onto (step ∷ []) (steps_read_from n k s at)
+steps_read_from n (suc k) s at = then (step_read_from n s at) λ step at. onto (step ∷ []) (steps_read_from n k s at)
 
 -- reads the plan behind a key that ends at `at`: steps, lists, the peak from 0 to its bound, and the end
 unfoldable pub plan_read_from : ℕ → List ℕ → ℕ → Read Plan

@@ -1,7 +1,7 @@
 -- Defines a run of steps on a stack of updates: when it refuses, its whole outcome, and how it is handed the lists of an analysis.
 -- Assumes nothing.
 use Rattle.std.specs.Prelude.{ℕ, zero, suc, ◌+◌, ◌-◌, ◌<◌, ◌≤◌, max, Bool, true, false, ◌&&◌, List, [], ◌∷◌, map, ltb, leb, length, take, drop}
-use Rattle.papers.specs.Lists.{◌∈◌, nth, member, every, least, zeros}
+use Rattle.papers.specs.Lists.{◌∈◌, nth, member, every, zeros}
 use Rattle.papers.specs.Refusals.{answer, Refusal, when, on, Outcome, outcome, first_fault_among}
 use Rattle.papers.specs.Job.{start, column_of, columns_over, RowLists, bad_starts, bad_row}
 use Rattle.papers.specs.Tree.{t}

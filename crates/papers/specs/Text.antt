@@ -2,7 +2,7 @@
 -- Assumes nothing.
 use Rattle.std.specs.Prelude.{ℕ, zero, suc, ◌+◌, ◌-◌, ◌*◌, ◌/◌, ◌%◌, ◌^◌, ◌<◌, ◌≡◌, ◌⊎◌, Bool, true, false, not, ◌&&◌, ◌||◌, List, [], ◌∷◌, ◌++◌, map, ltb, leb, eqb, length, replicate}
 use Rattle.papers.specs.Bounds.{input_bytes, program_columns, program_rows, program_factor_rows, work_length_for, max_digits, default_mark, listing_bytes}
-use Rattle.papers.specs.Lists.{◌∈◌, every, up_to, least, flat, zeros, then_zeros}
+use Rattle.papers.specs.Lists.{◌∈◌, every, up_to, flat, zeros, then_zeros}
 use Rattle.papers.specs.Refusals.{answer, passed, refused, Refusal, when, on, of, first, Outcome, outcome, first_fault_among}
 use Rattle.papers.specs.Job.{Job, Pattern, pattern}
 use Rattle.papers.specs.Fill.{R}

@@ -17,7 +17,7 @@ use Rattle.papers.specs.Room.{top_update, room_at, entries_after, rooms, peak_of
 use Rattle.papers.specs.Order.{column_at_step, sibling_key_of, alone, arranged, steps_of, order_of, rooms_of, order_peak, scattered}
 use Rattle.papers.specs.Numbers.{groups_of, bytes_of, encode, over, last_group, read_from, number_read_from, then, onto, within_field, field, at_end, differs_at}
 use Rattle.papers.specs.Key.{gaps_of, list_numbers, lists_numbers, lists_of, key_numbers, key_of, rows_read_from, list_read_from, lists_read_from}
-use Rattle.papers.specs.Plan.{plan_of, step_numbers, plan_numbers, bytes_of_plan, read_step, steps_read_from, plan_read_from, plan_read, plan_for}
+use Rattle.papers.specs.Plan.{plan_of, step_numbers, plan_numbers, bytes_of_plan, step_read_from, steps_read_from, plan_read_from, plan_read, plan_for}
 use Rattle.papers.specs.Analysis.{Lent, all_zero, holding_plan, analysis_done, analysed, plan_done, plan_zero, plan_written, some_short}
 use Rattle.papers.specs.Analysis.{early_refusals, analysis_early, analysis_late, plan_early, plan_late}
 use Rattle.papers.specs.Check.{read_test, repeated_at, true_peak_of, check_done, checked, judge_refusals, plan_test, plan_refusals, check_early}
@@ -63,7 +63,7 @@ pub holds : Piece → Bool
 unfolding lent_for same_answer flat_map up_to head0 member same every keep sum largest merge insert sort least flat starts_counted_from then_zeros groups_of
     bytes_of encode over last_group read_from number_read_from start column_of gather lists R parent t children is_under subtree_of top_update front_room room_at
     entries_after rooms peak_of column_at_step sibling_key_of alone arranged steps_of order_of order_peak gaps_of list_numbers lists_numbers lists_of key_numbers
-    key_of plan_for plan_of step_numbers plan_numbers bytes_of_plan then onto within_field field read_step steps_read_from rows_read_from list_read_from lists_read_from at_end plan_read_from
+    key_of plan_for plan_of step_numbers plan_numbers bytes_of_plan then onto within_field field step_read_from steps_read_from rows_read_from list_read_from lists_read_from at_end plan_read_from
     first refused_if refused_at fault_test outcome falls_at_place fault_of_row fault_of_rows column_fault job_refusals all_zero some_short
     early_refusals holding_plan analysis_early analysis_late analysis_done analysed plan_early plan_late plan_done plan_zero plan_written differs_at plan_read
     read_test repeated_at scattered true_peak_of judge_refusals plan_test plan_refusals check_early check_late check_done checked rooms_of is_decimal_digit starting_with

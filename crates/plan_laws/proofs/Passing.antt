@@ -1,7 +1,7 @@
 -- Proves that all tests of the check pass exactly when the bytes are those of a sound plan of a valid job and the slices are long enough:
 -- 11 to 15 make the bytes those of a plan, 16 to 20 and 9 make it sound.
 -- Assumes nothing.
-use Prim.Native.Nat.{ℕ, ◌*◌, ◌^◌, ◌<◌}
+use Prim.Native.Nat.{◌*◌, ◌^◌, ◌<◌}
 use mathlib.Core.Path.{◌≡◌, sym, ◌∙◌}
 use mathlib.Core.Logic.{◌↔◌}
 use native.Mathlib.Omega.{arith}

@@ -2,14 +2,14 @@
 -- the limit is sound.
 -- Assumes nothing.
 use Prim.Native.Nat.{ℕ, ◌-◌, ◌≤◌}
-use mathlib.Core.Path.{◌≡◌, refl, sym, ◌∙◌}
+use mathlib.Core.Path.{refl, sym, ◌∙◌}
 use native.Mathlib.Omega.{arith}
 use lib.ListN.{length-map}
 use Rattle.papers.specs.Lists.{up_to}
 use Rattle.papers.specs.Job.{Job, Pattern, Below, pattern}
 use Rattle.papers.specs.Fill.{R}
 use Rattle.papers.specs.Tree.{parent}
-use Rattle.papers.specs.Order.{children_of, pops_of, order_of, order_peak}
+use Rattle.papers.specs.Order.{children_of, pops_of, order_of}
 use Rattle.papers.specs.Plan.{Plan, columns_in, plan_for, plan_of, Sound, Fit}
 use Rattle.job_laws.specs.Passed.{Passed}
 use Rattle.list_laws.proofs.Counts.{distinct-length}

@@ -1,9 +1,9 @@
 -- Defines what it takes to pass the check, and what is proved of a plan that is written and then checked.
 -- Assumes nothing.
-use Rattle.std.specs.Prelude.{ℕ, ◌+◌, ◌≤◌, ◌≡◌, List, length}
+use Rattle.std.specs.Prelude.{ℕ, ◌≤◌, ◌≡◌, List, length}
 use Rattle.papers.specs.Lists.{flat, then_zeros}
-use Rattle.papers.specs.Refusals.{answer, passed, first}
-use Rattle.papers.specs.Job.{Job, job_refusals}
+use Rattle.papers.specs.Refusals.{answer}
+use Rattle.papers.specs.Job.{Job}
 use Rattle.papers.specs.Plan.{Plan, bytes_of_plan, Sound}
 use Rattle.papers.specs.Analysis.{Lent, holding_plan, PlanLent, plan_written, written_part, LongEnough, fixed_lengths}
 use Rattle.job_laws.specs.Passed.{Passed}

@@ -9,7 +9,7 @@ use Rattle.papers.specs.Bounds.{edition, max_columns, max_mark, max_limit}
 use Rattle.papers.specs.Numbers.{Read, got, bad, field}
 use Rattle.papers.specs.declared.JobHead.{JobHead}
 use Rattle.bytes_laws.proofs.Fields.{got-inj, then-got, then-bad, then-only, field-got}
-use Rattle.read_key.specs.Keys.{mark_read_from, read_head, head_reading, CountAsked}
+use Rattle.read_key.specs.Keys.{mark_read_from, head_read_from, head_reading, CountAsked}
 use Rattle.read_key.specs.declared.HeadReading.{HeadReading}
 use Rattle.read_key.specs.declared.HeadReading.TheVariants.{Head, Faulty}
 
@@ -35,18 +35,18 @@ module _ (n : ℕ) (s : List ℕ) (at : ℕ) where
     mark-limit f = ap head_reading (sym (then-got _ e ∙ then-got _ f))
 
 module _ (s : List ℕ) where
-  pub no-edition : {number place : ℕ} → field edition edition s 0 ≡ bad number place → Faulty ≡ head_reading (read_head s)
-  unfolding read_head
+  pub no-edition : {number place : ℕ} → field edition edition s 0 ≡ bad number place → Faulty ≡ head_reading (head_read_from s)
+  unfolding head_read_from
   no-edition e = faulty (then-bad _ e)
 
   module _ {e m : ℕ} (f : field edition edition s 0 ≡ got e m) where
-    pub no-columns : {number place : ℕ} → field 0 max_columns s m ≡ bad number place → Faulty ≡ head_reading (read_head s)
-    unfolding read_head
+    pub no-columns : {number place : ℕ} → field 0 max_columns s m ≡ bad number place → Faulty ≡ head_reading (head_read_from s)
+    unfolding head_read_from
     no-columns g = faulty (then-got _ f ∙ then-bad _ g)
 
     pub columns-mark : {n next : ℕ} {r : HeadReading} → field 0 max_columns s m ≡ got n next → r ≡ head_reading (mark_read_from n s next)
-        → r ≡ head_reading (read_head s)
-    unfolding read_head
+        → r ≡ head_reading (head_read_from s)
+    unfolding head_read_from
     columns-mark g h = h ∙ ap head_reading (sym (then-got _ f ∙ then-got _ g))
 
 -- ---- from the answer
@@ -65,8 +65,8 @@ head-faulty (got h m) e g = absurd (let z : ◌≡◌ {A = ℕ} 0 1 = cc in omeg
 head-faulty (bad c p) e g = (c, p, refl)
 
 -- the head's size is within its bound, and it ends within the bytes, so its lists can be counted
-pub head-fits : (s : List ℕ) (head : JobHead) (at : ℕ) → read_head s ≡ got head at → CountAsked s at head.n
-unfolding read_head mark_read_from
+pub head-fits : (s : List ℕ) (head : JobHead) (at : ℕ) → head_read_from s ≡ got head at → CountAsked s at head.n
+unfolding head_read_from mark_read_from
 head-fits s head at e =
     let (ed, to, f, t) = then-only _ (field edition edition s 0) e in
     let (n, tn, g, u) = then-only _ (field 0 max_columns s to) t in

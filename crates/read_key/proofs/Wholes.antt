@@ -16,7 +16,7 @@ use Rattle.papers.specs.declared.JobHead.{JobHead}
 use Rattle.bytes_laws.proofs.Fields.{then-got, then-bad}
 use Rattle.read_fields.specs.Reading.{Told, finds, meets-fault}
 use Rattle.read_fields.specs.declared.Reading.{Reading}
-use Rattle.read_key.specs.Keys.{mark_read_from, read_head, KeyParts, KeyTold, reads, not-read}
+use Rattle.read_key.specs.Keys.{mark_read_from, head_read_from, KeyParts, KeyTold, reads, not-read}
 use Rattle.read_key.specs.declared.KeyReading.{KeyReading}
 use Rattle.read_key.specs.declared.KeyReading.TheVariants.{Whole, Unreadable}
 use Rattle.read_key.proofs.Heads.{head-fits}
@@ -32,8 +32,8 @@ module _ (s : List ℕ) where
   rest : JobHead → ℕ → Read Job
   rest head at = then (lists_read_from head.n 1 head.n s at) λ lists at. at_end (job_of head (starts_counted_from 0 lists) (flat lists)) s at
 
-  key-by-head : key_read_from s ≡ then (read_head s) rest
-  unfolding key_read_from read_head mark_read_from rest then
+  key-by-head : key_read_from s ≡ then (head_read_from s) rest
+  unfolding key_read_from head_read_from mark_read_from rest then
   key-by-head =
       sym (then-then (field edition edition s 0) (λ e at. with-columns at) rest ∙ ap (then (field edition edition s 0)) (λ i e at. from-columns at i))
     where
@@ -59,10 +59,10 @@ module _ (s : List ℕ) where
       from-columns at =
           then-then (field 0 max_columns s at) (λ n at. mark_read_from n s at) rest ∙ ap (then (field 0 max_columns s at)) (λ i n at. from-mark n at i)
 
-  pub no-head : {number place : ℕ} → read_head s ≡ bad number place → KeyTold s Unreadable
+  pub no-head : {number place : ℕ} → head_read_from s ≡ bad number place → KeyTold s Unreadable
   no-head e = not-read (key-by-head ∙ then-bad _ e) refl
 
-  module _ {head : JobHead} {at : ℕ} (e : read_head s ≡ got head at) where
+  module _ {head : JobHead} {at : ℕ} (e : head_read_from s ≡ got head at) where
     behind-head : key_read_from s ≡ rest head at
     behind-head = key-by-head ∙ then-got _ e
 

@@ -20,8 +20,8 @@ mark_read_from n s at =
     then (field 0 max_mark s at) λ mark at. then (field 0 max_limit s at) λ limit at. got (record { n = n; mark = mark; limit = limit }) at
 
 -- reads edition, size, mark and limit
-unfoldable pub read_head : List ℕ → Read JobHead
-read_head s = then (field edition edition s 0) λ e at. then (field 0 max_columns s at) λ n at. mark_read_from n s at
+unfoldable pub head_read_from : List ℕ → Read JobHead
+head_read_from s = then (field edition edition s 0) λ e at. then (field 0 max_columns s at) λ n at. mark_read_from n s at
 
 unfoldable pub head_reading : Read JobHead → HeadReading
 head_reading (got head next) = Head head next

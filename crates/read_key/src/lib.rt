@@ -6,7 +6,7 @@ ghost use Rattle.std.specs.Prelude.{◌≡◌, ◌≤◌, length};
 ghost use Rattle.papers.specs.Lists.{flat};
 ghost use Rattle.papers.specs.Key.{lists_read_from};
 ghost use Rattle.read_fields.specs.Reading.{Told};
-ghost use Rattle.read_key.specs.Keys.{mark_read_from, read_head, head_reading, CountAsked, KeyTold};
+ghost use Rattle.read_key.specs.Keys.{mark_read_from, head_read_from, head_reading, CountAsked, KeyTold};
 
 use papers::JobHead;
 use read_fields::Reading;
@@ -65,7 +65,7 @@ fn read_mark(key: &[u8], at: usize, n: u64) -> HeadReading
 
 // Reads edition, n, mark and limit.
 fn read_head(key: &[u8]) -> HeadReading
-    ensures { result ≡ head_reading (read_head key.now) }
+    ensures { result ≡ head_reading (head_read_from key.now) }
 {
     match read_fields::read_field(key, 0, papers::EDITION, papers::EDITION) {
         Reading::Refused {

@@ -8,7 +8,7 @@ use lib.ListN.{length, length-map}
 use lib.Seq.{sets, length-sets}
 use Rattle.papers.specs.Bounds.{max_columns}
 use Rattle.papers.specs.Numbers.{field, got, bad, onto}
-use Rattle.papers.specs.Plan.{columns_in, pops_in, read_step, steps_read_from}
+use Rattle.papers.specs.Plan.{columns_in, pops_in, step_read_from, steps_read_from}
 use Rattle.list_laws.proofs.Stores.{sets_more}
 use Rattle.bytes_laws.proofs.Fields.{then-got, then-bad}
 use Rattle.bytes_laws.proofs.Reaches.{step-reach}
@@ -30,17 +30,17 @@ pops-narrow few h = omega arith
 -- ---- a step and the steps behind it
 
 module _ (n : ℕ) (s : List ℕ) (at : ℕ) where
-  pub step-no-column : {c p : ℕ} → field 1 n s at ≡ bad c p → read_step n s at ≡ bad c p
-  unfolding read_step
+  pub step-no-column : {c p : ℕ} → field 1 n s at ≡ bad c p → step_read_from n s at ≡ bad c p
+  unfolding step_read_from
   step-no-column e = then-bad _ e
 
   module _ {column m : ℕ} (e : field 1 n s at ≡ got column m) where
-    pub step-no-pops : {c p : ℕ} → field 0 (n - 1) s m ≡ bad c p → read_step n s at ≡ bad c p
-    unfolding read_step
+    pub step-no-pops : {c p : ℕ} → field 0 (n - 1) s m ≡ bad c p → step_read_from n s at ≡ bad c p
+    unfolding step_read_from
     step-no-pops f = then-got _ e ∙ then-bad _ f
 
-    pub step-got : {pops k : ℕ} → field 0 (n - 1) s m ≡ got pops k → read_step n s at ≡ got (column, pops) k
-    unfolding read_step
+    pub step-got : {pops k : ℕ} → field 0 (n - 1) s m ≡ got pops k → step_read_from n s at ≡ got (column, pops) k
+    unfolding step_read_from
     step-got f = then-got _ e ∙ then-got _ f
 
   steps-none : (k : ℕ) → k ≡ 0 → steps_read_from n k s at ≡ got [] at
@@ -48,12 +48,12 @@ module _ (n : ℕ) (s : List ℕ) (at : ℕ) where
   steps-none zero z = refl
   steps-none (suc k) z = absurd (omega arith)
 
-  steps-bad : (k : ℕ) {c p : ℕ} → 0 < k → read_step n s at ≡ bad c p → steps_read_from n k s at ≡ bad c p
+  steps-bad : (k : ℕ) {c p : ℕ} → 0 < k → step_read_from n s at ≡ bad c p → steps_read_from n k s at ≡ bad c p
   unfolding steps_read_from
   steps-bad zero z e = absurd (omega arith)
   steps-bad (suc k) z e = then-bad _ e
 
-  steps_next : (k : ℕ) {x : ℕ × ℕ} {m : ℕ} → 0 < k → read_step n s at ≡ got x m → steps_read_from n k s at ≡ onto (x ∷ []) (steps_read_from n (k - 1) s m)
+  steps_next : (k : ℕ) {x : ℕ × ℕ} {m : ℕ} → 0 < k → step_read_from n s at ≡ got x m → steps_read_from n k s at ≡ onto (x ∷ []) (steps_read_from n (k - 1) s m)
   unfolding steps_read_from
   steps_next zero z e = absurd (omega arith)
   steps_next (suc k) z e = let q : suc k - 1 ≡ k = omega arith in rw q (then-got _ e)
@@ -83,7 +83,7 @@ module _ {n at k i : ℕ} {s order₀ pops₀ order pops : List ℕ} (l : Steps 
   pub pops-long : length pops ≡ length pops₀
   pops-long = ap length l.popped ∙ length-sets pops₀ 0 (pops_in l.done)
 
-  module _ {order' pops' : List ℕ} {r : Reading} (h : i < n) (t : Told (λ step. step.0) (StepKept i order order' pops pops') (read_step n s k) r) where
+  module _ {order' pops' : List ℕ} {r : Reading} (h : i < n) (t : Told (λ step. step.0) (StepKept i order order' pops pops') (step_read_from n s k) r) where
     pub steps-turn : {v m : ℕ} → r ≡ Found v m → Steps n s at order₀ pops₀ order' pops' m (i + 1)
     steps-turn {m = m} e =
         let d = l.done in

@@ -4,7 +4,7 @@
 ghost use Rattle.std.specs.Prelude.{◌≡◌, ◌≤◌, length};
 ghost use Rattle.papers.specs.Lists.{flat};
 ghost use Rattle.papers.specs.Key.{lists_read_from};
-ghost use Rattle.papers.specs.Plan.{read_step, steps_read_from, plan_read_from};
+ghost use Rattle.papers.specs.Plan.{step_read_from, steps_read_from, plan_read_from};
 ghost use Rattle.read_fields.specs.Reading.{Told};
 ghost use Rattle.read_plan.specs.Plans.{StepAsked, StepsAsked, ListsAsked, PlanAsked};
 ghost use Rattle.read_plan.specs.Plans.{StepKept, StepsKept, ListsKept, peak_read_from, peak_reading, PlanTold};
@@ -36,7 +36,7 @@ fn read_step(
 ) -> Reading
     requires { StepAsked plan.now at n i order.old pops.old }
     ensures { Told (λ step. step.0) (StepKept i order.old order.new pops.old pops.new)
-        (read_step n plan.now at) result }
+        (step_read_from n plan.now at) result }
 {
     match read_fields::read_field(plan, at, 1, n) {
         Reading::Refused { number, place } => {

@@ -1,9 +1,8 @@
 -- Proves that two keys that were written are the same exactly when their jobs agree in all that a key says: size, rows, mark and limit.
 -- Assumes nothing.
-use mathlib.Core.Path.{◌≡◌, refl, sym, ap, ◌∙◌}
+use mathlib.Core.Path.{◌≡◌, refl, sym, ◌∙◌}
 use mathlib.Core.Logic.{◌↔◌}
 use mathlib.Core.List.{◌++◌}
-use Rattle.papers.specs.Refusals.{passed, first}
 use Rattle.papers.specs.Key.{key_of}
 use Rattle.papers.specs.Analysis.{KeyCall, key_early, key_late, key_done, key_written}
 use Rattle.refusal_laws.specs.Written.{written_key}

@@ -1,14 +1,14 @@
 -- Proves that what passes the check runs: the bytes are those of a sound plan, the checked slices hold that plan, and the parts handed on
 -- are its own lists.
 -- Assumes nothing.
-use Prim.Native.Nat.{ℕ, ◌<◌, ◌≤◌}
+use Prim.Native.Nat.{ℕ, ◌≤◌}
 use mathlib.Core.Path.{◌≡◌, sym, ap, subst, ◌∙◌}
 use mathlib.Core.List.{List}
 use native.Mathlib.Omega.{arith}
-use lib.ListN.{length, get_or}
+use lib.ListN.{length}
 use Rattle.papers.specs.Lists.{zeros}
-use Rattle.papers.specs.Refusals.{answer, passed, first, Outcome}
-use Rattle.papers.specs.Job.{Job, pattern, job_refusals}
+use Rattle.papers.specs.Refusals.{answer, Outcome}
+use Rattle.papers.specs.Job.{Job, pattern}
 use Rattle.papers.specs.Numbers.{Bytes}
 use Rattle.papers.specs.Plan.{Plan, plan_of, Sound}
 use Rattle.papers.specs.Analysis.{Lent, holding_plan, PlanLent, plan_written}

@@ -2,15 +2,14 @@
 -- children.
 -- Assumes nothing.
 use Prim.Native.Nat.{ℕ, ◌<◌, ◌≤◌}
-use mathlib.Core.Path.{◌≡◌, ap}
+use mathlib.Core.Path.{ap}
 use mathlib.Core.List.{List}
 use lib.ListN.{length}
 use Rattle.papers.specs.Lists.{flat, starts_counted_from}
-use Rattle.papers.specs.Refusals.{passed, first}
-use Rattle.papers.specs.Job.{Job, pattern, job_refusals}
+use Rattle.papers.specs.Job.{Job, pattern}
 use Rattle.papers.specs.Plan.{Plan, Sound}
 use Rattle.job_laws.specs.Passed.{Passed}
-use Rattle.job_laws.proofs.Passed.{passes-iff, passed-below}
+use Rattle.job_laws.proofs.Passed.{passed-below}
 use Rattle.run_laws.specs.Runs.{plan_run, Runs, LacksRoom}
 use Rattle.run_laws.specs.Follows.{Follows}
 use Rattle.run_laws.proofs.Completes.{follows-runs, less-refused}

@@ -10,7 +10,7 @@ use lib.ListN.{length, get_or, set, take, drop, length-set}
 use lib.Seq.{get_or-set_same, get_or-set_other}
 use Rattle.papers.specs.Job.{column_of}
 use Rattle.papers.specs.Tree.{t}
-use Rattle.papers.specs.Run.{RunCall, State, entries, rows_in_factor, pushed, stepped}
+use Rattle.papers.specs.Run.{RunCall, State, rows_in_factor, pushed, stepped}
 use Rattle.list_laws.proofs.Tests.{Compare, below, level, above, compare}
 use Rattle.order_laws.proofs.Steps.{column-at}
 use Rattle.run_held.specs.declared.Held.{Held}

@@ -11,7 +11,7 @@ use Rattle.papers.specs.Bounds.{max_columns}
 use Rattle.papers.specs.Refusals.{answer, Verdict, passed, refused, Refusal, first}
 use Rattle.papers.specs.Job.{Job, start, column_of, fault_of_row, fault_of_rows, column_fault, job_refusals}
 use Rattle.job_laws.specs.Passed.{starts_test, rows_test}
-use Rattle.list_laws.proofs.Tests.{below_or, test}
+use Rattle.list_laws.proofs.Tests.{below_or}
 use Rattle.job_laws.proofs.Firsts.{first_passes, first-refuses, over-refuses}
 use Rattle.job_laws.proofs.Faults.{faults-same}
 use Rattle.job_laws.proofs.Rows.{row-over, rows-fault, rows_next}

@@ -20,7 +20,7 @@ pub enum JobRead {
 // is lent.
 pub fn read_job(text: &[u8], more: bool, starts: &mut [u64], rows: &mut [u32]) -> JobRead
     requires { program_columns < length starts.old }
-    ensures { JobTold (record { text = text.entry.now; more = more }) starts.old rows.old starts.new
+    ensures { JobTold (record { text = text.now; more = more }) starts.old rows.old starts.new
         rows.new result }
 {
     if more {

@@ -19,7 +19,6 @@ use Rattle.text_laws.proofs.Lines.{after_next}
 use Rattle.text_laws.proofs.Numbers.{numbers-later}
 use Rattle.text_words.specs.Words.{LineTo}
 use Rattle.text_lines.specs.Narrowed.{narrowed}
-use Rattle.text_lines.specs.declared.Line.TheVariants.{Rows}
 use Rattle.text_rows.specs.declared.Lines.{Lines}
 use Rattle.text_rows.specs.declared.Lines.TheVariants as lines
 use Rattle.text_rows.specs.RowsRead.{lists_of_columns, LinesTold, all_lines, bad-lines}

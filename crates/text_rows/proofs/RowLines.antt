@@ -13,7 +13,6 @@ use Rattle.text_lines.specs.Narrowed.{narrowed}
 use Rattle.text_lines.specs.declared.Line.{Line}
 use Rattle.text_lines.specs.declared.Line.TheVariants.{Rows, Bad}
 use Rattle.text_lines.specs.Lines.{LineTold, row_line, no-row-line}
-use Rattle.text_rows.specs.declared.Lines.TheVariants as lines
 
 -- a line of rows, kept
 pub record RowLine (text : List ℕ) (k t : ℕ) (rows rows' : List ℕ) (count next : ℕ) : Type 0 where

@@ -12,7 +12,7 @@ use native.Mathlib.Numerals.{add-one}
 use lib.Dec.{leb, eqb}
 use lib.ListN.{length, get_or, take, drop, length-drop}
 use lib.Seq.{take-suc, get_or-take, get_or-drop, length-take-le}
-use borrow.Author.Tests.{le-leb, lt-leb, eqb-true, eqb-false, not-true, not-false}
+use borrow.Author.Tests.{le-leb, lt-leb, eqb-true, eqb-false}
 use Rattle.papers.specs.Bounds.{max_digits}
 use Rattle.papers.specs.Text.{is_decimal_digit, is_decimal_number, value_of}
 use Rattle.list_laws.proofs.Tests.{below_or, Test, passes, fails, test, true-false}

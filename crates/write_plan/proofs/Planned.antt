@@ -16,7 +16,7 @@ use Rattle.list_laws.specs.Wrote.{Wrote}
 use Rattle.list_laws.proofs.Writing.{wrote_as, Writes, writes-all, writes-none}
 use Rattle.bytes_laws.proofs.Numbers.{encode-append}
 use Rattle.bytes_laws.proofs.Writing.{encode-none, writes-number, writes-numbers, writes-near}
-use Rattle.job_laws.proofs.Passed.{passes-iff, lists-iff}
+use Rattle.job_laws.proofs.Passed.{lists-iff}
 use Rattle.write_lists.proofs.Columns.{lists-few}
 use Rattle.key.proofs.Written.{numbers-few}
 use Rattle.write_plan.specs.Lists.{plan_in, Writable}

@@ -1,7 +1,6 @@
 -- Proves that `analyse` makes its tests in the order of their numbers. A job or slices that fail one of 1 to 7 are answered by it; else the
 -- answer is that of making the plan, and a refusal clears the slices.
 -- Assumes nothing.
-use native.Mathlib.Omega.{arith}
 use borrow.Author.Rules.{rules}
 use Rattle.job_laws.proofs.Outcomes.{early-passed}
 use Rattle.lent_plan.proofs.Ways.{way-early}

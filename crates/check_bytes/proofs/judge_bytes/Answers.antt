@@ -1,10 +1,8 @@
 -- Proves that `judge_bytes` answers right: 11 if the plan's bytes do not begin with the key; else the bytes behind the key are read into the cleared
 -- slices and judged. Each way out is one way through the papers' tests (`Rules`).
 -- Assumes nothing.
-use Prim.Native.Nat.{ℕ}
 use mathlib.Core.Path.{refl, sym, ◌∙◌}
 use native.Mathlib.Omega.{arith}
-use borrow.Author.Rules.{rules}
 use Rattle.papers.specs.Job.{Job, job_of}
 use Rattle.papers.specs.Analysis.{Lent}
 use Rattle.lent.specs.Six.{six_slices}

@@ -1,8 +1,6 @@
 -- Proves that `judge_reading` answers the fault that the reading found. If the plan was read but its rows do not fit, it answers 8; else the slices
 -- hold the plan, and its judgement is the answer.
 -- Assumes nothing.
-use borrow.Author.Rules.{rules}
-use native.Mathlib.Omega.{arith}
 use Rattle.check_bytes.specs.Ruled.{fault, too_many_rows, judged}
 use Rattle.check_bytes.proofs.judge_reading.Goals as goal
 

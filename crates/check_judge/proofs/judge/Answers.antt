@@ -3,10 +3,9 @@
 -- Assumes nothing.
 use mathlib.Core.Path.{◌≡◌, refl}
 use native.Mathlib.Omega.{arith}
-use borrow.Author.Rules.{rules}
 use Rattle.papers.specs.Check.{column_repeated, list_wrong}
 use Rattle.papers.specs.Refusals.{passed}
-use Rattle.papers.specs.Job.{Job, job_of}
+use Rattle.papers.specs.Job.{job_of}
 use Rattle.papers.specs.Plan.{Plan}
 use Rattle.lent.proofs.Alike.{part-long}
 use Rattle.column_laws.proofs.Testing.{tested}

@@ -3,7 +3,6 @@
 -- Assumes nothing.
 use mathlib.Core.Path.{◌≡◌}
 use native.Mathlib.Omega.{arith}
-use borrow.Author.Rules.{rules}
 use Rattle.papers.specs.Check.{pops_wrong, subtree_scattered}
 use Rattle.papers.specs.Refusals.{passed}
 use Rattle.papers.specs.Job.{Job}

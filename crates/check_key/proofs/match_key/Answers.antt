@@ -1,9 +1,7 @@
 -- Proves that `match_key` compares edition and n, then mark and limit, then the lists: the first byte that differs is the one that refusal 11 names.
 -- Assumes nothing.
 use native.Mathlib.Omega.{arith}
-use borrow.Author.Rules.{rules}
 use Rattle.papers.specs.Job.{job_of}
-use Rattle.job_laws.proofs.Passed.{passes-iff}
 use Rattle.column_laws.proofs.Testing.{tested}
 use Rattle.key.proofs.Written.{numbers_fit}
 use Rattle.check_key.proofs.Keys.{size-differs, behind-size, mark-differs, behind-mark, lists-found}

@@ -1,11 +1,8 @@
 -- Proves that `first_wrong_list` finds the first wrong list: those of the columns up to m are right, so the next can be compared with R(m + 1), and
 -- if it differs it is the first. Each turn leaves one column less.
 -- Assumes nothing.
-use Prim.Native.Nat.{◌-◌}
 use native.Mathlib.Omega.{arith}
-use borrow.Author.Tests.{not-false}
-use borrow.Author.Tests.{not-true}
-use Rattle.check_lists.proofs.Passing.{Passing, pass-begin, long-p, pass_all, pass-part, pass-next, pass-wrong, pass-hangable, pass_on}
+use Rattle.check_lists.proofs.Passing.{pass-begin, long-p, pass_all, pass-part, pass-next, pass-wrong, pass-hangable, pass_on}
 use Rattle.check_lists.proofs.first_wrong_list.Goals as goal
 
 pub loop-m-init : goal.loop-m-init

@@ -2,10 +2,7 @@
 -- if it differs it is the first. Each turn leaves one column less.
 -- Assumes nothing.
 use Prim.Native.Nat.{◌-◌}
-use native.Mathlib.Omega.{arith}
-use borrow.Author.Tests.{not-false}
-use borrow.Author.Tests.{not-true}
-use Rattle.check_lists.proofs.Passing.{Passing, pass-begin, long-p, pass_all, pass-part, pass-next, pass-wrong, pass-hangable, pass_on}
+use Rattle.check_lists.proofs.Passing.{Passing}
 use Rattle.check_lists.proofs.first_wrong_list.Given as goal
 
 abbrev pub invariant-loop-m : goal.invariant-loop-m

@@ -2,7 +2,6 @@
 -- rows; any other list is tested by the marks of its rows.
 -- Assumes nothing.
 use native.Mathlib.Omega.{arith}
-use borrow.Author.Rules.{rules}
 use Rattle.column_list.proofs.Begins.{part_of}
 use Rattle.check_lists.proofs.OneChild.{no-child, child-link, child-found, addable, one-child}
 use Rattle.check_lists.proofs.is_right.Goals as goal

@@ -4,9 +4,8 @@
 use Prim.Native.Nat.{◌+◌, ◌<◌}
 use native.Mathlib.Omega.{arith}
 use lib.ListN.{length}
-use Rattle.papers.specs.Job.{column_of}
 use Rattle.column_list.proofs.Begins.{part_of}
-use Rattle.check_marks.proofs.Counting.{Counting, own-once, own-changed, count-begin, count-few, child-at, link}
+use Rattle.check_marks.proofs.Counting.{own-once, own-changed, count-begin, count-few, child-at, link}
 use Rattle.check_marks.proofs.Counting.{more-once, falls, count_turn, count-stop}
 use Rattle.check_marks.proofs.mark_column.Goals as goal
 use Rattle.check_marks.proofs.mark_column.Goals.{In-loop-c}

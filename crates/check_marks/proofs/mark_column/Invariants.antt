@@ -1,13 +1,8 @@
 -- Proves that `mark_column` marks and counts R(m + 1): the marked rows and what the children left hand on make the list, and the count is the number
 -- of marked rows. Each turn the next child falls, since the chain descends.
 -- Assumes nothing.
-use Prim.Native.Nat.{◌+◌, ◌<◌}
-use native.Mathlib.Omega.{arith}
-use lib.ListN.{length}
 use Rattle.papers.specs.Job.{column_of}
-use Rattle.column_list.proofs.Begins.{part_of}
-use Rattle.check_marks.proofs.Counting.{Counting, own-once, own-changed, count-begin, count-few, child-at, link}
-use Rattle.check_marks.proofs.Counting.{more-once, falls, count_turn, count-stop}
+use Rattle.check_marks.proofs.Counting.{Counting}
 use Rattle.check_marks.proofs.mark_column.Given as goal
 
 abbrev pub invariant-loop-c : goal.invariant-loop-c

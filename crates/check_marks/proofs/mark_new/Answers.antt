@@ -1,11 +1,11 @@
 -- Proves that `mark_new` marks a list and counts its new rows: those counted and the new ones among the rows left are all. Each turn leaves one row
 -- less.
 -- Assumes nothing.
-use Prim.Native.Nat.{◌+◌, ◌-◌, ◌<◌}
+use Prim.Native.Nat.{◌+◌, ◌<◌}
 use native.Mathlib.Omega.{arith}
 use lib.ListN.{length, get_or}
 use Rattle.child_lists.proofs.Marks.{mark-place}
-use Rattle.check_marks.proofs.Newly.{Newly, new-begin, new-old, new-mark, new-stop}
+use Rattle.check_marks.proofs.Newly.{new-begin, new-old, new-mark, new-stop}
 use Rattle.check_marks.proofs.mark_new.Goals as goal
 use Rattle.check_marks.proofs.mark_new.Goals.{In-loop-k}
 

@@ -1,11 +1,9 @@
 -- Proves that `mark_new` marks a list and counts its new rows: those counted and the new ones among the rows left are all. Each turn leaves one row
 -- less.
 -- Assumes nothing.
-use Prim.Native.Nat.{◌+◌, ◌-◌, ◌<◌}
-use native.Mathlib.Omega.{arith}
-use lib.ListN.{length, get_or}
-use Rattle.child_lists.proofs.Marks.{mark-place}
-use Rattle.check_marks.proofs.Newly.{Newly, new-begin, new-old, new-mark, new-stop}
+use Prim.Native.Nat.{◌-◌}
+use lib.ListN.{length}
+use Rattle.check_marks.proofs.Newly.{Newly}
 use Rattle.check_marks.proofs.mark_new.Given as goal
 
 abbrev pub invariant-loop-k : goal.invariant-loop-k

@@ -1,14 +1,9 @@
 -- Proves that `match_gaps` compares all gaps: those of the rows before i agree, so the others are compared from k on. Each turn leaves one row less.
 -- Assumes nothing.
-use Prim.Native.Nat.{ℕ, ◌-◌}
-use mathlib.Core.List.{List}
 use native.Mathlib.Omega.{arith}
-use lib.Seq.{slice}
 use borrow.Author.Rules.{rules}
-use Rattle.papers.specs.Key.{gaps_of}
-use Rattle.write_gaps.proofs.Rows.{RowsLeft, rows_all, gaps-next, row-above, rows_next, gaps-none}
-use Rattle.check_numbers.proofs.Numbers.{Left, left-all, left-number, differs-number, left-none}
-use Rattle.check_numbers.proofs.match_gaps.Invariants.{Gaps}
+use Rattle.write_gaps.proofs.Rows.{rows_all, gaps-next, row-above, rows_next, gaps-none}
+use Rattle.check_numbers.proofs.Numbers.{left-all, left-number, differs-number, left-none}
 use Rattle.check_numbers.proofs.match_gaps.Goals as goal
 
 pub loop-i-init : goal.loop-i-init

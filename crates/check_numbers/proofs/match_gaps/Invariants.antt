@@ -2,12 +2,10 @@
 -- Assumes nothing.
 use Prim.Native.Nat.{ℕ, ◌-◌}
 use mathlib.Core.List.{List}
-use native.Mathlib.Omega.{arith}
 use lib.Seq.{slice}
-use borrow.Author.Rules.{rules}
 use Rattle.papers.specs.Key.{gaps_of}
-use Rattle.write_gaps.proofs.Rows.{RowsLeft, rows_all, gaps-next, row-above, rows_next, gaps-none}
-use Rattle.check_numbers.proofs.Numbers.{Left, left-all, left-number, differs-number, left-none}
+use Rattle.write_gaps.proofs.Rows.{RowsLeft}
+use Rattle.check_numbers.proofs.Numbers.{Left}
 use Rattle.check_numbers.proofs.match_gaps.Given as goal
 
 -- the gaps of the rows before i agree, up to k

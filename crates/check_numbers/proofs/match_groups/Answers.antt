@@ -1,15 +1,14 @@
 -- Proves that `match_groups` compares all bytes of a number: the first i agree, so the others decide. Each turn leaves one byte less.
 -- Assumes nothing.
-use Prim.Native.Nat.{◌-◌, ◌<◌}
+use Prim.Native.Nat.{◌<◌}
 use mathlib.Core.Path.{sym, ◌∙◌}
 use native.Mathlib.Omega.{arith}
 use lib.ListN.{length}
-use borrow.Author.Rules.{rules}
 use Rattle.papers.specs.Bounds.{max_groups}
 use Rattle.papers.specs.Numbers.{bytes_of}
 use Rattle.bytes_laws.proofs.Numbers.{bytes-length}
 use Rattle.groups.proofs.LittleArray.{array-byte}
-use Rattle.check_numbers.proofs.Bytes.{Bytes, bytes-start, bytes-lack, bytes-other, bytes-turn, bytes-stop}
+use Rattle.check_numbers.proofs.Bytes.{bytes-start, bytes-lack, bytes-other, bytes-turn, bytes-stop}
 use Rattle.check_numbers.proofs.match_groups.Goals as goal
 
 pub number-groups-requires : goal.number-groups-requires

@@ -1,6 +1,5 @@
 -- Proves that `match_list` compares a list: its count and, if that agrees, the gaps with what follows it.
 -- Assumes nothing.
-use borrow.Author.Rules.{rules}
 use Rattle.write_lists.proofs.Counted.{list-is}
 use Rattle.check_numbers.proofs.Numbers.{left-all, left-number, differs-number, left-last}
 use Rattle.check_numbers.proofs.match_list.Goals as goal

@@ -3,14 +3,12 @@
 -- Assumes nothing.
 use Prim.Native.Nat.{ℕ, ◌-◌, ◌≤◌}
 use mathlib.Core.List.{List}
-use borrow.Author.Rules.{rules}
 use Rattle.papers.specs.Bounds.{max_columns}
 use Rattle.papers.specs.Job.{column_of}
 use Rattle.papers.specs.Key.{lists_numbers, lists_of}
 use Rattle.job_laws.specs.Passed.{PassedLists}
-use Rattle.job_laws.proofs.Passed.{lists-iff}
-use Rattle.write_lists.proofs.Columns.{numbers_from, column-list, numbers-next, numbers-none}
-use Rattle.check_numbers.proofs.Numbers.{Left, left-all, left-numbers, differs-numbers, left-none}
+use Rattle.write_lists.proofs.Columns.{numbers_from}
+use Rattle.check_numbers.proofs.Numbers.{Left}
 use Rattle.check_numbers.proofs.match_lists.Given as goal
 
 -- the lists of the first `done` columns agree, up to k

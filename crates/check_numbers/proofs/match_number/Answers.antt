@@ -1,7 +1,6 @@
 -- Proves that `match_number` compares a number: one below 128 is a single byte, which it compares at once; of any other it compares all bytes.
 -- Assumes nothing.
 use mathlib.Core.Path.{sym, ◌∙◌}
-use borrow.Author.Rules.{rules}
 use Rattle.check_numbers.proofs.Bytes.{one_byte}
 use Rattle.check_numbers.proofs.match_number.Goals as goal
 

@@ -1,7 +1,6 @@
 -- Proves that `match_two` compares two numbers: if the first differs, that decides; if it agrees, the second is compared with what follows it.
 -- Assumes nothing.
 use mathlib.Core.Path.{refl, sym, ◌∙◌}
-use borrow.Author.Rules.{rules}
 use Rattle.papers.specs.Numbers.{bytes_of}
 use Rattle.check_numbers.proofs.Bytes.{bytes_inside}
 use Rattle.check_numbers.proofs.Numbers.{left-all, left-number, differs-number, left_one}

@@ -2,7 +2,6 @@
 -- is their number, the rows behind place p decide.
 -- Assumes nothing.
 use mathlib.Core.Path.{sym, ap, ◌∙◌}
-use borrow.Author.Rules.{rules}
 use native.Mathlib.Omega.{arith}
 use Rattle.papers.specs.Lists.{every}
 use Rattle.list_laws.proofs.Parts.{part-last}

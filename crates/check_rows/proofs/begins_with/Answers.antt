@@ -2,7 +2,6 @@
 -- Assumes nothing.
 use mathlib.Core.Path.{refl, sym, ◌∙◌}
 use lib.Seq.{length-take-le}
-use borrow.Author.Rules.{rules}
 use Rattle.list_laws.proofs.Tests.{true-false}
 use Rattle.list_laws.proofs.Members.{same_true}
 use Rattle.check_rows.proofs.begins_with.Goals as goal

@@ -2,7 +2,6 @@
 -- Assumes nothing.
 use mathlib.Core.Path.{refl}
 use native.Mathlib.Omega.{arith}
-use borrow.Author.Rules.{rules}
 use Rattle.check_steps.proofs.column_at.Goals as goal
 
 pub overflow_cast-result : goal.overflow_cast-result

@@ -1,12 +1,10 @@
 -- Proves that `first_repeat` finds the first repeat: exactly the columns of the first i steps are marked, and none of them occurs twice. Each turn
 -- leaves one step less.
 -- Assumes nothing.
-use Prim.Native.Nat.{◌-◌}
 use mathlib.Core.Path.{sym}
 use native.Mathlib.Omega.{arith}
 use lib.Seq.{length-take-le}
-use borrow.Author.Rules.{rules}
-use Rattle.check_steps.proofs.Marks.{Marks, marks-start, marks-stop, marks-found, marks-turn}
+use Rattle.check_steps.proofs.Marks.{marks-start, marks-stop, marks-found, marks-turn}
 use Rattle.check_steps.proofs.first_repeat.Goals as goal
 
 pub slice_bounds-clear64-end-2 : goal.slice_bounds-clear64-end-2

@@ -2,11 +2,7 @@
 -- leaves one step less.
 -- Assumes nothing.
 use Prim.Native.Nat.{◌-◌}
-use mathlib.Core.Path.{sym}
-use native.Mathlib.Omega.{arith}
-use lib.Seq.{length-take-le}
-use borrow.Author.Rules.{rules}
-use Rattle.check_steps.proofs.Marks.{Marks, marks-start, marks-stop, marks-found, marks-turn}
+use Rattle.check_steps.proofs.Marks.{Marks}
 use Rattle.check_steps.proofs.first_repeat.Given as goal
 
 abbrev pub invariant-loop-i : goal.invariant-loop-i

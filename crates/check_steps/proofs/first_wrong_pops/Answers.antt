@@ -1,12 +1,10 @@
 -- Proves that `first_wrong_pops` finds the first step with wrong pops: work holds the numbers of children, and the pops of the first i steps agree
 -- with them. Each turn leaves one step less.
 -- Assumes nothing.
-use Prim.Native.Nat.{◌-◌}
 use mathlib.Core.Path.{sym}
 use native.Mathlib.Omega.{arith}
 use lib.Seq.{length-take-le}
-use borrow.Author.Rules.{rules}
-use Rattle.check_steps.proofs.Pops.{Popped, popped-start, popped-stop, popped-found, popped-turn}
+use Rattle.check_steps.proofs.Pops.{popped-start, popped-stop, popped-found, popped-turn}
 use Rattle.check_steps.proofs.first_wrong_pops.Goals as goal
 
 pub slice_bounds-count_children-end-2 : goal.slice_bounds-count_children-end-2

@@ -2,11 +2,7 @@
 -- with them. Each turn leaves one step less.
 -- Assumes nothing.
 use Prim.Native.Nat.{◌-◌}
-use mathlib.Core.Path.{sym}
-use native.Mathlib.Omega.{arith}
-use lib.Seq.{length-take-le}
-use borrow.Author.Rules.{rules}
-use Rattle.check_steps.proofs.Pops.{Popped, popped-start, popped-stop, popped-found, popped-turn}
+use Rattle.check_steps.proofs.Pops.{Popped}
 use Rattle.check_steps.proofs.first_wrong_pops.Given as goal
 
 abbrev pub invariant-loop-i : goal.invariant-loop-i

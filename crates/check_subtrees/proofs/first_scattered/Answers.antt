@@ -3,7 +3,6 @@
 -- Assumes nothing.
 use mathlib.Core.Path.{sym}
 use native.Mathlib.Omega.{arith}
-use borrow.Author.Rules.{rules}
 use Rattle.check_subtrees.proofs.Whole.{start-long, steps-asked, stray-asked, start-room, stray-found}
 use Rattle.check_subtrees.proofs.first_scattered.Goals as goal
 

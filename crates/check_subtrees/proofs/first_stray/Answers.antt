@@ -1,12 +1,6 @@
 -- Proves that `first_stray` finds the least stray step, since it keeps the least of the first i columns. Each turn leaves one column less.
 -- Assumes nothing.
-use Prim.Native.Nat.{◌-◌}
-use lib.ListN.{length}
-use borrow.Author.Rules.{rules}
-use Rattle.tree.specs.Parents.{parent_in}
-use Rattle.check_subtrees.specs.Steps.{number_for}
-use Rattle.check_subtrees.specs.Strays.{stray_step_of}
-use Rattle.check_subtrees.proofs.Earliest.{Earlier, earliest-none, earliest-next, earliest-all}
+use Rattle.check_subtrees.proofs.Earliest.{earliest-none, earliest-next, earliest-all}
 use Rattle.check_subtrees.proofs.first_stray.Goals as goal
 
 pub loop-i-init : goal.loop-i-init

@@ -2,11 +2,10 @@
 -- Assumes nothing.
 use Prim.Native.Nat.{◌-◌}
 use lib.ListN.{length}
-use borrow.Author.Rules.{rules}
 use Rattle.tree.specs.Parents.{parent_in}
 use Rattle.check_subtrees.specs.Steps.{number_for}
 use Rattle.check_subtrees.specs.Strays.{stray_step_of}
-use Rattle.check_subtrees.proofs.Earliest.{Earlier, earliest-none, earliest-next, earliest-all}
+use Rattle.check_subtrees.proofs.Earliest.{Earlier}
 use Rattle.check_subtrees.proofs.first_stray.Given as goal
 
 abbrev pub invariant-loop-i : goal.invariant-loop-i

@@ -1,11 +1,9 @@
 -- Proves that `write_steps` writes the step of each column: no column has two steps, so a step once written stays. The first k steps are written;
 -- each turn leaves one step less.
 -- Assumes nothing.
-use Prim.Native.Nat.{◌-◌}
 use native.Mathlib.Omega.{arith}
-use lib.ListN.{length}
 use borrow.Author.Rules.{rules}
-use Rattle.check_subtrees.proofs.Placing.{Writing, writing_start, column_fits, writing-turn, writing-stop}
+use Rattle.check_subtrees.proofs.Placing.{writing_start, column_fits, writing-turn, writing-stop}
 use Rattle.check_subtrees.proofs.write_steps.Goals as goal
 
 pub loop-k-init : goal.loop-k-init

@@ -2,10 +2,8 @@
 -- each turn leaves one step less.
 -- Assumes nothing.
 use Prim.Native.Nat.{◌-◌}
-use native.Mathlib.Omega.{arith}
 use lib.ListN.{length}
-use borrow.Author.Rules.{rules}
-use Rattle.check_subtrees.proofs.Placing.{Writing, writing_start, column_fits, writing-turn, writing-stop}
+use Rattle.check_subtrees.proofs.Placing.{Writing}
 use Rattle.check_subtrees.proofs.write_steps.Given as goal
 
 abbrev pub invariant-loop-k : goal.invariant-loop-k

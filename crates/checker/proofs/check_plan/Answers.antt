@@ -1,7 +1,6 @@
 -- Proves that `check_plan` answers right: 1 to 7 end it at once; in every other case the tests decide, and then it
 -- clears all slices, or work alone.
 -- Assumes nothing.
-use borrow.Author.Rules.{rules}
 use native.Mathlib.Omega.{arith}
 use Rattle.job_laws.proofs.Outcomes.{early-passed}
 use Rattle.lent.proofs.Alike.{zeros-alike}

@@ -1,9 +1,9 @@
 -- Proves that `covered` tests whether all rows are marked, since the rows passed are, so those left decide. Each turn leaves one row less.
 -- Assumes nothing.
-use Prim.Native.Nat.{◌+◌, ◌-◌, ◌<◌}
+use Prim.Native.Nat.{◌+◌, ◌<◌}
 use native.Mathlib.Omega.{arith}
 use lib.ListN.{length, get_or}
-use Rattle.child_lists.proofs.Marks.{Covering, cover-begin, cover-turn, cover-no, cover-yes, mark-place}
+use Rattle.child_lists.proofs.Marks.{cover-begin, cover-turn, cover-no, cover-yes, mark-place}
 use Rattle.child_lists.proofs.covered.Goals as goal
 use Rattle.child_lists.proofs.covered.Goals.{In-loop-k}
 

@@ -1,9 +1,8 @@
 -- Proves that `covered` tests whether all rows are marked, since the rows passed are, so those left decide. Each turn leaves one row less.
 -- Assumes nothing.
-use Prim.Native.Nat.{◌+◌, ◌-◌, ◌<◌}
-use native.Mathlib.Omega.{arith}
-use lib.ListN.{length, get_or}
-use Rattle.child_lists.proofs.Marks.{Covering, cover-begin, cover-turn, cover-no, cover-yes, mark-place}
+use Prim.Native.Nat.{◌-◌}
+use lib.ListN.{length}
+use Rattle.child_lists.proofs.Marks.{Covering}
 use Rattle.child_lists.proofs.covered.Given as goal
 
 abbrev pub invariant-loop-k : goal.invariant-loop-k

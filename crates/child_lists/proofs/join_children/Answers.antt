@@ -5,7 +5,7 @@ use Prim.Native.Nat.{◌+◌, ◌<◌}
 use mathlib.Core.Path.{sym, ◌∙◌}
 use native.Mathlib.Omega.{arith}
 use lib.ListN.{length}
-use Rattle.child_lists.proofs.Joining.{State, begin, stop}
+use Rattle.child_lists.proofs.Joining.{begin, stop}
 use Rattle.child_lists.proofs.NextChild.{child-at, falls, link-first, falls-marked, markable, roomy, passes_over, joins}
 use Rattle.child_lists.proofs.join_children.Goals as goal
 use Rattle.child_lists.proofs.join_children.Goals.{In-loop-d}

@@ -1,12 +1,7 @@
 -- Proves that `join_children` makes the whole list of the rows so far and what the children hand on. It may skip a child whose rows are all marked,
 -- since every marked row is in the list. Each turn c falls, since the chain descends.
 -- Assumes nothing.
-use Prim.Native.Nat.{◌+◌, ◌<◌}
-use mathlib.Core.Path.{sym, ◌∙◌}
-use native.Mathlib.Omega.{arith}
-use lib.ListN.{length}
-use Rattle.child_lists.proofs.Joining.{State, begin, stop}
-use Rattle.child_lists.proofs.NextChild.{child-at, falls, link-first, falls-marked, markable, roomy, passes_over, joins}
+use Rattle.child_lists.proofs.Joining.{State}
 use Rattle.child_lists.proofs.join_children.Given as goal
 
 abbrev pub invariant-loop-d : goal.invariant-loop-d

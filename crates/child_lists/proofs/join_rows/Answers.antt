@@ -2,7 +2,6 @@
 -- Assumes nothing.
 use mathlib.Core.Path.{sym}
 use lib.Seq.{length-take-le}
-use native.Mathlib.Omega.{arith}
 use Rattle.child_lists.proofs.Buffers.{fits-x, fits-y, joined-in-x, joined-in-y}
 use Rattle.child_lists.proofs.join_rows.Goals as goal
 

@@ -1,9 +1,9 @@
 -- Proves that `mark` marks every row of the list, since marking the rows left completes what was marked. Each turn leaves one row less.
 -- Assumes nothing.
-use Prim.Native.Nat.{◌+◌, ◌-◌, ◌<◌}
+use Prim.Native.Nat.{◌+◌, ◌<◌}
 use native.Mathlib.Omega.{arith}
 use lib.ListN.{length, get_or}
-use Rattle.child_lists.proofs.Marks.{Marking, mark-begin, mark-turn, mark-stop, mark-place}
+use Rattle.child_lists.proofs.Marks.{mark-begin, mark-turn, mark-stop, mark-place}
 use Rattle.child_lists.proofs.mark.Goals as goal
 use Rattle.child_lists.proofs.mark.Goals.{In-loop-k}
 

@@ -1,9 +1,8 @@
 -- Proves that `mark` marks every row of the list, since marking the rows left completes what was marked. Each turn leaves one row less.
 -- Assumes nothing.
-use Prim.Native.Nat.{◌+◌, ◌-◌, ◌<◌}
-use native.Mathlib.Omega.{arith}
-use lib.ListN.{length, get_or}
-use Rattle.child_lists.proofs.Marks.{Marking, mark-begin, mark-turn, mark-stop, mark-place}
+use Prim.Native.Nat.{◌-◌}
+use lib.ListN.{length}
+use Rattle.child_lists.proofs.Marks.{Marking}
 use Rattle.child_lists.proofs.mark.Given as goal
 
 abbrev pub invariant-loop-k : goal.invariant-loop-k

@@ -1,6 +1,5 @@
 -- Proves that `pattern_rows` gives a column's rows: the part between its start and the next one.
 -- Assumes nothing.
-use native.Mathlib.Omega.{arith}
 use Rattle.column_laws.proofs.Columns.{column-part}
 use Rattle.column_list.proofs.pattern_rows.Goals as goal
 

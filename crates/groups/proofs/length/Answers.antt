@@ -3,7 +3,6 @@
 -- Assumes nothing.
 use mathlib.Core.Path.{refl}
 use native.Mathlib.Omega.{arith}
-use borrow.Author.Rules.{rules}
 use Rattle.bytes_laws.proofs.Numbers.{count-of-zeros}
 use Rattle.groups.proofs.Written.{bytes_small, bytes-large}
 use Rattle.groups.proofs.length.Goals as goal

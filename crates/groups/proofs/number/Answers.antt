@@ -3,10 +3,9 @@
 -- Assumes nothing.
 use Prim.Native.Nat.{◌<◌}
 use native.Mathlib.Omega.{arith}
-use borrow.Author.Rules.{rules}
 use Rattle.papers.specs.Bounds.{max_groups}
 use Rattle.bytes_laws.proofs.Numbers.{bytes-length}
-use Rattle.groups.proofs.Written.{Left, written_start, turn, stop, inside}
+use Rattle.groups.proofs.Written.{written_start, turn, stop, inside}
 use Rattle.groups.proofs.number.Goals as goal
 use Rattle.groups.proofs.number.Goals.{At-loop-v}
 

@@ -1,12 +1,7 @@
 -- Proves that `number` makes the bytes of x, since the groups left, stored from count on, complete them, and each turn stores the low group. Each
 -- turn makes the rest smaller.
 -- Assumes nothing.
-use Prim.Native.Nat.{◌<◌}
-use native.Mathlib.Omega.{arith}
-use borrow.Author.Rules.{rules}
-use Rattle.papers.specs.Bounds.{max_groups}
-use Rattle.bytes_laws.proofs.Numbers.{bytes-length}
-use Rattle.groups.proofs.Written.{Left, written_start, turn, stop, inside}
+use Rattle.groups.proofs.Written.{Left}
 use Rattle.groups.proofs.number.Given as goal
 
 abbrev pub invariant-loop-v : goal.invariant-loop-v

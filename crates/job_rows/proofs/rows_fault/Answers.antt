@@ -1,10 +1,8 @@
 -- Proves that `rows_fault` finds the first row at fault: neither the columns passed nor the rows before i have a fault, so the next fault found is
 -- the first, and if none is found there is none.
 -- Assumes nothing.
-use borrow.Author.Rules.{rules}
-use Prim.Native.Nat.{◌-◌}
 use native.Mathlib.Omega.{arith}
-use Rattle.job_rows.proofs.Reading.{Columns, Rows, first-column, last-column, first-row, next_row, next-column, found}
+use Rattle.job_rows.proofs.Reading.{first-column, last-column, first-row, next_row, next-column, found}
 use Rattle.job_rows.proofs.rows_fault.Goals as goal
 
 pub columns-init : goal.columns-init

@@ -1,11 +1,8 @@
 -- Proves that `starts_fault` finds the first fault: no start of the first `done` columns falls, so the next column that ends before it begins is the
 -- first. After all columns only the last start is left to test.
 -- Assumes nothing.
-use borrow.Author.Rules.{rules}
 use Prim.Native.Nat.{◌-◌}
-use Rattle.job_laws.proofs.Firsts.{answer-refused, answer-passed}
-use Rattle.job_laws.proofs.Starts.{start-at, starts-few, starts_from}
-use Rattle.job_starts.proofs.Rising.{Rising, begin, next, fall, end, pass}
+use Rattle.job_starts.proofs.Rising.{Rising}
 use Rattle.job_starts.proofs.starts_fault.Given as goal
 
 abbrev pub invariant-loop-done : goal.invariant-loop-done

@@ -2,10 +2,9 @@
 -- since a key has few enough numbers and each has few bytes.
 -- Assumes nothing.
 use native.Mathlib.Omega.{arith}
-use borrow.Author.Rules.{rules}
 use Rattle.papers.specs.Job.{job_of}
 use Rattle.job_laws.specs.Passed.{Passed}
-use Rattle.job_laws.proofs.Passed.{passes-iff, lists-iff}
+use Rattle.job_laws.proofs.Passed.{lists-iff}
 use Rattle.key.proofs.Written.{numbers_fit, key-near, behind-edition, behind-n, behind-mark, behind-limit, key-put}
 use Rattle.key.proofs.put_key.Goals as goal
 use Rattle.key.proofs.put_key.Goals.{Start}

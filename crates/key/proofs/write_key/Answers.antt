@@ -1,7 +1,6 @@
 -- Proves that `write_key` answers right: one law covers a refused job, and one a stored key.
 -- Assumes nothing.
 use mathlib.Core.Path.{refl, sym, ◌∙◌}
-use borrow.Author.Rules.{rules}
 use Rattle.papers.specs.Job.{job_of}
 use Rattle.papers.specs.Key.{key_of}
 use Rattle.job_laws.proofs.Outcomes.{job-answered}

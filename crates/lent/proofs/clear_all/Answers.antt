@@ -1,7 +1,6 @@
 -- Proves that `clear_all` clears the six slices, since it clears each of them in turn.
 -- Assumes nothing.
 use Rattle.lent.proofs.Sixes.{all-cleared}
-use borrow.Author.Rules.{rules}
 use Rattle.lent.proofs.clear_all.Goals as goal
 
 pub returns : goal.returns

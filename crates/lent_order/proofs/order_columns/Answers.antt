@@ -3,7 +3,6 @@
 use mathlib.Core.Path.{sym}
 use lib.Seq.{length-take-le}
 use Rattle.lent_order.proofs.Orderings.{order-given, ordering-made}
-use borrow.Author.Rules.{rules}
 use Rattle.lent_order.proofs.order_columns.Goals as goal
 
 pub slice_bounds-order_of-end-4 : goal.slice_bounds-order_of-end-4

@@ -1,7 +1,6 @@
 -- Proves that `planned` makes the plan or refuses: a law covers each way out, with too many rows, with a peak over the limit, and with the plan made.
 -- Every call keeps the lengths of the slices.
 -- Assumes nothing.
-use native.Mathlib.Omega.{arith}
 use borrow.Author.Rules.{rules}
 use Rattle.lent_plan.proofs.Plans.{listable-in, countable, made-rows, orderable, made-peak, made-done}
 use Rattle.lent_plan.proofs.planned.Goals as goal

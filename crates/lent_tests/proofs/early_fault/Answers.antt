@@ -1,8 +1,6 @@
 -- Proves that `early_fault` answers 1 to 7 in their order: the fault of the job; or 7 for a short slice; or 0.
 -- Assumes nothing.
 use mathlib.Core.Path.{sym, ◌∙◌}
-use borrow.Author.Rules.{rules}
-use Rattle.job_laws.specs.Passed.{Passed}
 use Rattle.job_laws.proofs.Outcomes.{job-answered, early-job, early-short, early-none}
 use Rattle.lent_tests.proofs.early_fault.Goals as goal
 

@@ -1,7 +1,6 @@
 -- Proves that `too_short` tests the lengths: each test that holds makes the slices too short, and if the first four fail, the last decides.
 -- Assumes nothing.
 use Rattle.lent_tests.proofs.Shorts.{short-parents, short-order, short-pops, short-starts, short-work}
-use borrow.Author.Rules.{rules}
 use Rattle.lent_tests.proofs.too_short.Goals as goal
 
 pub returns-then-parents-n : goal.returns-then-parents-n

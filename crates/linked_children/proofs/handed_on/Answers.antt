@@ -2,7 +2,6 @@
 -- parent and is not handed on.
 -- Assumes nothing.
 use mathlib.Core.Path.{refl}
-use native.Mathlib.Omega.{arith}
 use Rattle.linked_children.proofs.handed_on.Goals as goal
 
 pub returns : goal.returns

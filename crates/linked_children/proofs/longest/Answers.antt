@@ -5,7 +5,7 @@ use Prim.Native.Nat.{◌+◌, ◌<◌}
 use native.Mathlib.Omega.{arith}
 use lib.ListN.{length}
 use Rattle.linked_children.specs.Children.{Child}
-use Rattle.linked_children.proofs.Picking.{Picking, begin, child-at, link, goes_down, takes, keeps, picked}
+use Rattle.linked_children.proofs.Picking.{begin, child-at, link, goes_down, takes, keeps, picked}
 use Rattle.linked_children.proofs.longest.Goals as goal
 use Rattle.linked_children.proofs.longest.Goals.{In-loop-d}
 

@@ -1,11 +1,7 @@
 -- Proves that `longest` finds the child with the most rows, since no child before d has more rows than the best, and the links list the others from d
 -- on. Each turn d falls, since the chain descends.
 -- Assumes nothing.
-use Prim.Native.Nat.{◌+◌, ◌<◌}
-use native.Mathlib.Omega.{arith}
-use lib.ListN.{length}
-use Rattle.linked_children.specs.Children.{Child}
-use Rattle.linked_children.proofs.Picking.{Picking, begin, child-at, link, goes_down, takes, keeps, picked}
+use Rattle.linked_children.proofs.Picking.{Picking}
 use Rattle.linked_children.proofs.longest.Given as goal
 
 abbrev pub invariant-loop-d : goal.invariant-loop-d

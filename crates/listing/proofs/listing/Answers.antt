@@ -1,6 +1,5 @@
 -- Proves that `listing` answers right: one law covers a slice too short for any listing, and one what is printed in the cleared slice.
 -- Assumes nothing.
-use borrow.Author.Rules.{rules}
 use Rattle.listing.proofs.Ways.{way-short, prints-fit, way-printed}
 use Rattle.listing.proofs.listing.Goals as goal
 

@@ -1,7 +1,6 @@
 -- Proves that `print_job` prints a job, since zeroed slices of the program's sizes are the program's buffers.
 -- Assumes nothing.
 use native.Mathlib.Omega.{arith}
-use borrow.Author.Rules.{rules}
 use Rattle.listing.proofs.Told.{fits_in, printed-in}
 use Rattle.listing.proofs.print_job.Goals as goal
 

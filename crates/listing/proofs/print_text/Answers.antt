@@ -5,7 +5,6 @@ use mathlib.Core.Path.{sym, ap}
 use native.Mathlib.Omega.{arith}
 use lib.ListN.{length}
 use lib.Seq.{length-take-le}
-use borrow.Author.Rules.{rules}
 use Rattle.list_laws.proofs.Writing.{wrote_as}
 use Rattle.listing.proofs.Told.{told-refusal, told-job, Found, found-columns, found_rows, starts-long, rows_long, found-printed}
 use Rattle.listing.proofs.print_text.Goals as goal

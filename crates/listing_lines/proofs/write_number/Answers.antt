@@ -2,7 +2,6 @@
 -- Assumes nothing.
 use native.Mathlib.Omega.{arith}
 use lib.ListN.{length-set}
-use borrow.Author.Rules.{rules}
 use Rattle.listing_lines.proofs.Lines.{spaced-number}
 use Rattle.listing_lines.proofs.write_number.Goals as goal
 

@@ -3,7 +3,6 @@
 use Prim.Native.Nat.{ℕ, ◌≤◌}
 use mathlib.Core.List.{List, [], ◌∷◌}
 use lib.ListN.{length}
-use borrow.Author.Rules.{rules}
 use Rattle.papers.specs.declared.Answer.{Answer}
 use Rattle.papers.specs.Text.{printed, word_refused, refusal_line}
 use Rattle.list_laws.specs.Wrote.{Wrote}

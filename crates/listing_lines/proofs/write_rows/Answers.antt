@@ -1,11 +1,8 @@
 -- Proves that `write_rows` writes all numbers, since storing those from i on at next leaves what storing all of them leaves. Each turn leaves one
 -- number less.
 -- Assumes nothing.
-use Prim.Native.Nat.{◌-◌}
-use lib.ListN.{length}
-use borrow.Author.Rules.{rules}
 use Rattle.list_laws.proofs.Writing.{writes-all}
-use Rattle.listing_lines.proofs.Lines.{Listed, listed-fits, listed-turn, listed-stop}
+use Rattle.listing_lines.proofs.Lines.{listed-fits, listed-turn, listed-stop}
 use Rattle.listing_lines.proofs.write_rows.Goals as goal
 
 pub loop-i-init : goal.loop-i-init

@@ -3,9 +3,7 @@
 -- Assumes nothing.
 use Prim.Native.Nat.{◌-◌}
 use lib.ListN.{length}
-use borrow.Author.Rules.{rules}
-use Rattle.list_laws.proofs.Writing.{writes-all}
-use Rattle.listing_lines.proofs.Lines.{Listed, listed-fits, listed-turn, listed-stop}
+use Rattle.listing_lines.proofs.Lines.{Listed}
 use Rattle.listing_lines.proofs.write_rows.Given as goal
 
 abbrev pub invariant-loop-i : goal.invariant-loop-i

@@ -1,11 +1,8 @@
 -- Proves that `write_word` writes all letters, since storing those from i on at their place leaves what storing all of them leaves. Each turn leaves
 -- one letter less.
 -- Assumes nothing.
-use Prim.Native.Nat.{◌-◌}
 use mathlib.Core.Path.{refl}
-use lib.ListN.{length}
-use borrow.Author.Rules.{rules}
-use Rattle.list_laws.proofs.Writing.{Copied, copied_none, copied_more, copied_all}
+use Rattle.list_laws.proofs.Writing.{copied_none, copied_more, copied_all}
 use Rattle.listing_lines.proofs.write_word.Goals as goal
 
 pub loop-i-init : goal.loop-i-init

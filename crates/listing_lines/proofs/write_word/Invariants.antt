@@ -2,10 +2,8 @@
 -- one letter less.
 -- Assumes nothing.
 use Prim.Native.Nat.{◌-◌}
-use mathlib.Core.Path.{refl}
 use lib.ListN.{length}
-use borrow.Author.Rules.{rules}
-use Rattle.list_laws.proofs.Writing.{Copied, copied_none, copied_more, copied_all}
+use Rattle.list_laws.proofs.Writing.{Copied}
 use Rattle.listing_lines.proofs.write_word.Given as goal
 
 abbrev pub invariant-loop-i : goal.invariant-loop-i

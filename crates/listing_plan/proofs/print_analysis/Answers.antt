@@ -5,7 +5,6 @@ use mathlib.Core.Path.{sym, ap}
 use native.Mathlib.Omega.{arith}
 use lib.ListN.{length}
 use lib.Seq.{length-take-le}
-use borrow.Author.Rules.{rules}
 use Rattle.papers.specs.Job.{job_of}
 use Rattle.list_laws.proofs.Writing.{wrote_as}
 use Rattle.lent.specs.Six.{six_slices}

@@ -4,7 +4,6 @@ use Prim.Native.Nat.{ℕ}
 use mathlib.Core.List.{List, [], ◌∷◌}
 use native.Mathlib.Omega.{arith}
 use lib.ListN.{length}
-use borrow.Author.Rules.{rules}
 use Rattle.papers.specs.Text.{word_plan, printed}
 use Rattle.list_laws.proofs.Writing.{wrote-both, first_fits, second_fits}
 use Rattle.listing_steps.specs.Steps.{lines_to}

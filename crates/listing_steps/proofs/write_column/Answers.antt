@@ -5,7 +5,6 @@ use mathlib.Core.Path.{◌≡◌}
 use mathlib.Core.List.{List}
 use native.Mathlib.Omega.{arith}
 use lib.ListN.{get_or, take, drop}
-use borrow.Author.Rules.{rules}
 use Rattle.papers.specs.Job.{column_of}
 use Rattle.column_laws.proofs.Columns.{column-part}
 use Rattle.listing_steps.proofs.write_column.Goals as goal

@@ -1,13 +1,11 @@
 -- Proves that `write_steps` writes all lines: after k steps their lines are written, and below holds the sums of the updates then held. Each turn
 -- leaves one step less.
 -- Assumes nothing.
-use Prim.Native.Nat.{◌-◌}
 use mathlib.Core.Path.{◌∙◌}
 use native.Mathlib.Omega.{arith}
-use lib.ListN.{length-set, length}
-use borrow.Author.Rules.{rules}
+use lib.ListN.{length-set}
 use Rattle.room.proofs.Stacks.{stacked-over}
-use Rattle.listing_steps.proofs.Printing.{Printing, printing-start, printing-long, printing-stop, printing-fits, printing-turn}
+use Rattle.listing_steps.proofs.Printing.{printing-start, printing-long, printing-stop, printing-fits, printing-turn}
 use Rattle.listing_steps.proofs.write_steps.Goals as goal
 
 pub loop-k-init : goal.loop-k-init

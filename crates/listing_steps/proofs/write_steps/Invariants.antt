@@ -2,12 +2,8 @@
 -- leaves one step less.
 -- Assumes nothing.
 use Prim.Native.Nat.{◌-◌}
-use mathlib.Core.Path.{◌∙◌}
-use native.Mathlib.Omega.{arith}
-use lib.ListN.{length-set, length}
-use borrow.Author.Rules.{rules}
-use Rattle.room.proofs.Stacks.{stacked-over}
-use Rattle.listing_steps.proofs.Printing.{Printing, printing-start, printing-long, printing-stop, printing-fits, printing-turn}
+use lib.ListN.{length}
+use Rattle.listing_steps.proofs.Printing.{Printing}
 use Rattle.listing_steps.proofs.write_steps.Given as goal
 
 abbrev pub invariant-loop-k : goal.invariant-loop-k

@@ -3,7 +3,7 @@
 -- Assumes nothing.
 use Prim.Native.Nat.{◌-◌}
 use native.Mathlib.Omega.{arith}
-use Rattle.needed_climb.proofs.Climbs.{Climb, begin, row_small, in-work, Here, here, go-new, go-up, go-old, stop}
+use Rattle.needed_climb.proofs.Climbs.{begin, row_small, in-work, Here, here, go-new, go-up, go-old, stop}
 use Rattle.needed_climb.proofs.climb.Goals as goal
 use Rattle.needed_climb.proofs.climb.Goals.{In-loop-work}
 

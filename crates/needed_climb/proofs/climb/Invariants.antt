@@ -2,8 +2,7 @@
 -- column, at the latest at column i. Each turn goes to a higher column.
 -- Assumes nothing.
 use Prim.Native.Nat.{◌-◌}
-use native.Mathlib.Omega.{arith}
-use Rattle.needed_climb.proofs.Climbs.{Climb, begin, row_small, in-work, Here, here, go-new, go-up, go-old, stop}
+use Rattle.needed_climb.proofs.Climbs.{Climb}
 use Rattle.needed_climb.proofs.climb.Given as goal
 
 abbrev pub invariant-loop-work : goal.invariant-loop-work

@@ -3,7 +3,6 @@
 -- Assumes nothing.
 use mathlib.Core.Path.{sym}
 use native.Mathlib.Omega.{arith}
-use borrow.Author.Rules.{rules}
 use Rattle.order.proofs.Peaks.{list-starts-length, pops-asked, peak-given, order-made}
 use Rattle.order.proofs.order_of.Goals as goal
 

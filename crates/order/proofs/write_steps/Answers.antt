@@ -2,7 +2,6 @@
 -- Assumes nothing.
 use mathlib.Core.Path.{sym}
 use native.Mathlib.Omega.{arith}
-use borrow.Author.Rules.{rules}
 use Rattle.order.proofs.Walked.{walk-asked}
 use Rattle.order.proofs.Lying.{arrange-asked, lists-lie, starts-long, steps-written}
 use Rattle.order.proofs.write_steps.Goals as goal

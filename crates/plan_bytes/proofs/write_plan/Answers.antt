@@ -2,7 +2,6 @@
 -- outcome.
 -- Assumes nothing.
 use native.Mathlib.Omega.{arith}
-use borrow.Author.Rules.{rules}
 use Rattle.job_laws.proofs.Outcomes.{early-passed}
 use Rattle.lent.proofs.Alike.{zeros-alike}
 use Rattle.plan_bytes.proofs.Ways.{way-early, early-on, way-refused}

@@ -1,6 +1,6 @@
 -- Proves that `store_beside` stores the plan or refuses it: the first places lent hold the plan, and a law covers each way out.
 -- Assumes nothing.
-use mathlib.Core.Path.{refl, sym}
+use mathlib.Core.Path.{sym}
 use native.Mathlib.Omega.{arith}
 use lib.Seq.{length-take-le}
 use Rattle.write_plan.proofs.Planned.{few}

@@ -1,6 +1,5 @@
 -- Proves that `in_range` finds a value from low to high, and answers 14 at the number's first place for any other.
 -- Assumes nothing.
-use borrow.Author.Rules.{rules}
 use Rattle.read_fields.proofs.Answers.{below-range, above-range, in-range}
 use Rattle.read_fields.proofs.in_range.Goals as goal
 use Rattle.read_fields.proofs.in_range.Goals.{then-value-low-via-then-value-low, then-value-low-via-else-value-low+then-high-value}

@@ -1,7 +1,6 @@
 -- Proves that `read_field` reads a field: a byte below 128 is a number, two bytes may be one, and read_long reads any other. Each is then tested
 -- against its range.
 -- Assumes nothing.
-use borrow.Author.Rules.{rules}
 use Rattle.read_fields.proofs.Answers.{field-by-number, one-group}
 use Rattle.read_fields.proofs.read_field.Goals as goal
 

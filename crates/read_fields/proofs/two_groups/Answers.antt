@@ -3,7 +3,6 @@
 use mathlib.Core.Path.{refl}
 use mathlib.Core.Logic.{◌≢◌}
 use native.Mathlib.Omega.{arith}
-use borrow.Author.Rules.{rules}
 use Rattle.read_fields.proofs.Answers.{two-groups}
 use Rattle.read_fields.proofs.two_groups.Goals as goal
 

@@ -3,11 +3,7 @@
 -- Assumes nothing.
 use Prim.Native.Nat.{◌+◌, ◌-◌}
 use mathlib.Core.List.{[]}
-use mathlib.Core.Path.{refl}
-use borrow.Author.Rules.{rules}
-use Rattle.read_fields.specs.Reading.{meets-fault}
-use Rattle.read_plan.proofs.Lists.{rows_long, Lists, lists-start, lists-turn, lists-fault, lists-stop}
-use Rattle.read_key.proofs.Wholes.{told-alone}
+use Rattle.read_plan.proofs.Lists.{Lists}
 use Rattle.read_key.proofs.count_rows.Given as goal
 
 abbrev pub invariant-loop-j : goal.invariant-loop-j

@@ -3,7 +3,6 @@
 use mathlib.Core.Path.{sym, ap}
 use lib.ListN.{set}
 use lib.Seq.{set_out}
-use borrow.Author.Rules.{rules}
 use Rattle.read_lists.proofs.keep_row.Goals as goal
 
 pub returns-then-i-rows : goal.returns-then-i-rows

@@ -2,7 +2,6 @@
 -- those kept.
 -- Assumes nothing.
 use mathlib.Core.Path.{refl}
-use borrow.Author.Rules.{rules}
 use native.Mathlib.Omega.{arith}
 use Rattle.read_fields.specs.Reading.{meets-fault}
 use Rattle.read_fields.proofs.Answers.{field-refused, field-read, field_found, told_of}

@@ -4,11 +4,9 @@
 use mathlib.Core.Path.{refl}
 use native.Mathlib.Nat.{lt_of_le_of_lt, lt_of_lt_of_le}
 use borrow.Author.Count.{falls_down}
-use borrow.Author.Rules.{rules}
 use mir.Facts.{Fits-bits}
 use native.Mathlib.Omega.{arith}
 use Rattle.read_fields.specs.Reading.{meets-fault}
-use Rattle.read_rows.specs.Rows.{RowsRead}
 use Rattle.read_fields.proofs.Answers.{field-refused, field-read, field_found}
 use Rattle.read_fields.proofs.Places.{next_fits, none_left}
 use Rattle.read_rows.proofs.Rows.{rows_start, rows-one, rows_both, rows_long, rows-paced, row-narrow}

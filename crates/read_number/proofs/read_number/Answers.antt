@@ -4,8 +4,7 @@
 use Prim.Native.Nat.{◌-◌}
 use mathlib.Core.Logic.{inl, inr}
 use native.Mathlib.Omega.{arith}
-use borrow.Author.Rules.{rules}
-use Rattle.read_number.proofs.Carried.{Carried, carried-start, carried-below, stop-end, stop-long, stop-zero, stop-value, turn}
+use Rattle.read_number.proofs.Carried.{carried-start, carried-below, stop-end, stop-long, stop-zero, stop-value, turn}
 use Rattle.read_number.proofs.read_number.Goals as goal
 use Rattle.read_number.proofs.read_number.Goals.{then-b-eq0+else-at-i, else-b-eq0}
 

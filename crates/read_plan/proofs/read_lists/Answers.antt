@@ -1,13 +1,11 @@
 -- Proves that `read_lists` reads all lists: those of the columns before j are read and kept, and those left, put onto them, are all. Each turn leaves
 -- one column less.
 -- Assumes nothing.
-use Prim.Native.Nat.{◌+◌, ◌-◌}
 use mathlib.Core.Path.{◌≡◌, refl, ◌∙◌}
 use native.Mathlib.Omega.{arith}
 use lib.ListN.{length, length-set}
-use borrow.Author.Rules.{rules}
 use Rattle.read_fields.specs.Reading.{meets-fault}
-use Rattle.read_plan.proofs.Lists.{Lists, lists-start, starts-long, rows_long, lists-turn, lists-fault, lists-stop}
+use Rattle.read_plan.proofs.Lists.{lists-start, starts-long, rows_long, lists-turn, lists-fault, lists-stop}
 use Rattle.read_plan.proofs.read_lists.Goals as goal
 use Rattle.read_plan.proofs.read_lists.Goals.{At-loop-j}
 

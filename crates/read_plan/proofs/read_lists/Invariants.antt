@@ -2,12 +2,7 @@
 -- one column less.
 -- Assumes nothing.
 use Prim.Native.Nat.{◌+◌, ◌-◌}
-use mathlib.Core.Path.{◌≡◌, refl, ◌∙◌}
-use native.Mathlib.Omega.{arith}
-use lib.ListN.{length, length-set}
-use borrow.Author.Rules.{rules}
-use Rattle.read_fields.specs.Reading.{meets-fault}
-use Rattle.read_plan.proofs.Lists.{Lists, lists-start, starts-long, rows_long, lists-turn, lists-fault, lists-stop}
+use Rattle.read_plan.proofs.Lists.{Lists}
 use Rattle.read_plan.proofs.read_lists.Given as goal
 
 abbrev pub invariant-loop-j : goal.invariant-loop-j

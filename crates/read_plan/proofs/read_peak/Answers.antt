@@ -1,6 +1,5 @@
 -- Proves that `read_peak` reads the peak as a field, and answers 15 at the first byte behind it if the plan does not end there.
 -- Assumes nothing.
-use borrow.Author.Rules.{rules}
 use Rattle.read_fields.proofs.Answers.{field-refused, field-read}
 use Rattle.read_plan.proofs.Wholes.{no-peak, bytes_after, at-the-end}
 use Rattle.read_plan.proofs.read_peak.Goals as goal

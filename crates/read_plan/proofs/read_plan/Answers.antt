@@ -1,8 +1,6 @@
 -- Proves that `read_plan` reads the steps, the lists, the peak and the end: the first part at fault is the plan's fault, and each part that is read
 -- is kept.
 -- Assumes nothing.
-use borrow.Author.Rules.{rules}
-use native.Mathlib.Omega.{arith}
 use Rattle.read_fields.proofs.Answers.{told-found, told-refused}
 use Rattle.read_plan.proofs.Wholes.{no_steps, no-lists, steps-inside, lists-inside, plan-faulty, plan-whole}
 use Rattle.read_plan.proofs.read_plan.Goals as goal

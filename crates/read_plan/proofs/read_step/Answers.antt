@@ -2,7 +2,6 @@
 -- Assumes nothing.
 use mathlib.Core.Path.{refl, ap}
 use lib.ListN.{set, length-set}
-use borrow.Author.Rules.{rules}
 use Rattle.read_fields.proofs.Answers.{field-refused, field-read, field_found}
 use Rattle.read_fields.specs.Reading.{finds, meets-fault}
 use Rattle.read_plan.proofs.Steps.{column-narrow, pops-narrow, step-no-column, step-no-pops, step-got}

@@ -1,11 +1,9 @@
 -- Proves that `read_steps` reads all steps: the first i are read and kept, and those left, put onto them, are all. Each turn leaves one step less.
 -- Assumes nothing.
-use Prim.Native.Nat.{◌-◌}
 use mathlib.Core.Path.{refl}
 use native.Mathlib.Omega.{arith}
-use borrow.Author.Rules.{rules}
 use Rattle.read_fields.specs.Reading.{meets-fault}
-use Rattle.read_plan.proofs.Steps.{Steps, steps-start, order-long, pops-long, steps-turn, steps-fault, steps-stop}
+use Rattle.read_plan.proofs.Steps.{steps-start, order-long, pops-long, steps-turn, steps-fault, steps-stop}
 use Rattle.read_plan.proofs.read_steps.Goals as goal
 
 pub loop-i-init : goal.loop-i-init

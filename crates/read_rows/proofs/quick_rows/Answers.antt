@@ -2,11 +2,9 @@
 -- read_rows. Each turn leaves fewer rows.
 -- Assumes nothing.
 use native.Mathlib.Nat.{le_trans, pos_of_ne-zero}
-use borrow.Author.Tests.{leb-false, ltb-false}
 use mir.Facts.{Fits-bits}
 use native.Mathlib.Omega.{arith}
 use Rattle.read_fields.proofs.Places.{bytes_fit, fewer, inside-fits, next_fits, none_left}
-use Rattle.read_rows.specs.Rows.{RowsRead}
 use Rattle.read_rows.proofs.Rows.{rows_start, rows_both, rows_long, rows_few, rows-paced, row-narrow}
 use Rattle.read_rows.proofs.Quick.{quick-room, quick-found, quick-turn, quick-over, quick-stop, quick-part}
 use Rattle.read_rows.proofs.quick_rows.Goals as goal

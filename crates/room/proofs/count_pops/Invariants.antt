@@ -1,14 +1,10 @@
 -- Proves that `count_pops` writes each step's pops: a list of children is as long as the distance from its start to the next one. The pops of the
 -- first k steps are written; each turn leaves one step less.
 -- Assumes nothing.
-use Prim.Native.Nat.{ℕ, ◌+◌, ◌-◌, ◌<◌, ◌≤◌}
-use mathlib.Core.Path.{◌≡◌, refl, ◌∙◌}
-use mathlib.Core.List.{List, [], ◌∷◌, map, map-append}
-use native.Mathlib.Omega.{arith}
-use native.Mathlib.Numerals.{add-one}
-use lib.ListN.{length, get_or, set, take, length-set}
-use lib.Seq.{take-suc, take_all, take-suc-set}
-use borrow.Author.Rules.{rules}
+use Prim.Native.Nat.{ℕ, ◌-◌, ◌≤◌}
+use mathlib.Core.Path.{◌≡◌}
+use mathlib.Core.List.{List, map}
+use lib.ListN.{length, take}
 use Rattle.room.specs.Rows.{row_count_at}
 use Rattle.room.proofs.count_pops.Given as goal
 

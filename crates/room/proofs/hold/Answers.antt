@@ -5,7 +5,6 @@ use Prim.Native.Nat.{ℕ, ◌+◌, ◌-◌}
 use mathlib.Core.Path.{ap}
 use native.Mathlib.Omega.{arith}
 use lib.ListN.{get_or, set}
-use borrow.Author.Rules.{rules}
 use Rattle.room.proofs.Entries.{entries_fit}
 use Rattle.room.proofs.hold.Goals as goal
 

@@ -6,7 +6,6 @@ use mathlib.Core.Path.{◌≡◌}
 use mathlib.Core.List.{List}
 use native.Mathlib.Omega.{arith}
 use lib.ListN.{get_or}
-use borrow.Author.Rules.{rules}
 use Rattle.papers.specs.Tree.{t}
 use Rattle.room.proofs.Entries.{entries_fit}
 use Rattle.room.proofs.in_use.Goals as goal

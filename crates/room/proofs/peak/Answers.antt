@@ -1,13 +1,11 @@
 -- Proves that `peak` finds the greatest room: after k steps below holds the sums of the updates held, and most is the greatest room so far. Each turn
 -- leaves one step less.
 -- Assumes nothing.
-use Prim.Native.Nat.{◌-◌}
 use mathlib.Core.Path.{◌∙◌}
 use native.Mathlib.Omega.{arith}
-use lib.ListN.{length-set, length, get_or}
-use borrow.Author.Rules.{rules}
+use lib.ListN.{length-set, get_or}
 use Rattle.room.specs.Steps.{UpdatesSummed}
-use Rattle.room.proofs.Stacks.{Peaked, stacked-over, peaked-start, peaked-stop, peaked-turn}
+use Rattle.room.proofs.Stacks.{stacked-over, peaked-start, peaked-stop, peaked-turn}
 use Rattle.room.proofs.peak.Goals as goal
 use Rattle.room.proofs.peak.Goals.{After-rows_of-rows}
 

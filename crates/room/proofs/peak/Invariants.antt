@@ -2,12 +2,8 @@
 -- leaves one step less.
 -- Assumes nothing.
 use Prim.Native.Nat.{◌-◌}
-use mathlib.Core.Path.{◌∙◌}
-use native.Mathlib.Omega.{arith}
-use lib.ListN.{length-set, length, get_or}
-use borrow.Author.Rules.{rules}
-use Rattle.room.specs.Steps.{UpdatesSummed}
-use Rattle.room.proofs.Stacks.{Peaked, stacked-over, peaked-start, peaked-stop, peaked-turn}
+use lib.ListN.{length}
+use Rattle.room.proofs.Stacks.{Peaked}
 use Rattle.room.proofs.peak.Given as goal
 
 abbrev pub invariant-loop-k : goal.invariant-loop-k

@@ -1,10 +1,9 @@
 -- Proves that `begin` files every column: in cleared work none is filed, and each turn files one more under its first pattern row. Each turn leaves
 -- one column less.
 -- Assumes nothing.
-use Prim.Native.Nat.{◌-◌}
 use native.Mathlib.Omega.{arith}
 use Rattle.column_laws.proofs.Columns.{starts-long}
-use Rattle.rows_needed.proofs.RowLoop.{FiledTo, file-none, filing-first, file-next, file-all}
+use Rattle.rows_needed.proofs.RowLoop.{file-none, filing-first, file-next, file-all}
 use Rattle.rows_needed.proofs.begin.Goals as goal
 
 pub loop-m-init : goal.loop-m-init

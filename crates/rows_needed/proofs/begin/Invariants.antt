@@ -2,9 +2,7 @@
 -- one column less.
 -- Assumes nothing.
 use Prim.Native.Nat.{◌-◌}
-use native.Mathlib.Omega.{arith}
-use Rattle.column_laws.proofs.Columns.{starts-long}
-use Rattle.rows_needed.proofs.RowLoop.{FiledTo, file-none, filing-first, file-next, file-all}
+use Rattle.rows_needed.proofs.RowLoop.{FiledTo}
 use Rattle.rows_needed.proofs.begin.Given as goal
 
 abbrev pub invariant-loop-m : goal.invariant-loop-m

@@ -4,7 +4,6 @@
 use mathlib.Core.Path.{sym, ◌∙◌}
 use native.Mathlib.Omega.{arith}
 use lib.ListN.{length-set}
-use borrow.Author.Rules.{rules}
 use Rattle.rows_needed.proofs.Stores.{filed-some, filed-none, pushed-is}
 use Rattle.rows_needed.proofs.file.Goals as goal
 

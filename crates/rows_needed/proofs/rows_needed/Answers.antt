@@ -1,10 +1,8 @@
 -- Proves that `rows_needed` counts all rows: before row m + 1 the rows up to m are counted, and the walk over a row's columns counts that row. Each
 -- turn leaves one row less.
 -- Assumes nothing.
-use Prim.Native.Nat.{◌-◌}
 use native.Mathlib.Omega.{arith}
-use borrow.Author.Rules.{rules}
-use Rattle.rows_needed.proofs.RowLoop.{Rows, rows-first, rows-open, rows-close, rows_last}
+use Rattle.rows_needed.proofs.RowLoop.{rows-first, rows-open, rows-close, rows_last}
 use Rattle.rows_needed.proofs.rows_needed.Goals as goal
 
 pub loop-m-init : goal.loop-m-init

@@ -2,9 +2,7 @@
 -- turn leaves one row less.
 -- Assumes nothing.
 use Prim.Native.Nat.{◌-◌}
-use native.Mathlib.Omega.{arith}
-use borrow.Author.Rules.{rules}
-use Rattle.rows_needed.proofs.RowLoop.{Rows, rows-first, rows-open, rows-close, rows_last}
+use Rattle.rows_needed.proofs.RowLoop.{Rows}
 use Rattle.rows_needed.proofs.rows_needed.Given as goal
 
 abbrev pub invariant-loop-m : goal.invariant-loop-m

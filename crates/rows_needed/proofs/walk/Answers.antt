@@ -5,7 +5,7 @@ use Prim.Native.Nat.{◌+◌, ◌<◌}
 use mathlib.Core.Path.{refl}
 use native.Mathlib.Omega.{arith}
 use lib.ListN.{length}
-use Rattle.rows_needed.proofs.Walks.{Walking, ahead, column, climbing, step_fits, filing, walked, falls}
+use Rattle.rows_needed.proofs.Walks.{column, climbing, step_fits, filing, walked, falls}
 use Rattle.rows_needed.proofs.walk.Goals as goal
 use Rattle.rows_needed.proofs.walk.Goals.{In-loop-c}
 

@@ -1,11 +1,7 @@
 -- Proves that `walk` does every column at row i: those from c on are left, and a turn climbs from the first of them and files it under its next row.
 -- Each turn leaves fewer rows ahead.
 -- Assumes nothing.
-use Prim.Native.Nat.{◌+◌, ◌<◌}
-use mathlib.Core.Path.{refl}
-use native.Mathlib.Omega.{arith}
-use lib.ListN.{length}
-use Rattle.rows_needed.proofs.Walks.{Walking, ahead, column, climbing, step_fits, filing, walked, falls}
+use Rattle.rows_needed.proofs.Walks.{Walking, ahead}
 use Rattle.rows_needed.proofs.walk.Given as goal
 
 abbrev pub invariant-loop-c : goal.invariant-loop-c

@@ -2,8 +2,6 @@
 -- Assumes nothing.
 use native.Mathlib.Omega.{arith}
 use lib.ListN.{get_or}
-use borrow.Author.Tests.{not-true, not-false}
-use borrow.Author.Rules.{rules}
 use Rattle.run_front.specs.Column.{Column}
 use Rattle.run_faults.proofs.Faults.{fault-low, fault-high, fault-few, fault-outside, fault-over, fault-none}
 use Rattle.run_faults.proofs.step_fault.Goals as goal

@@ -1,9 +1,6 @@
 -- Proves that `alike` counts the first rows that two lists share: the first i are equal. Each turn leaves one row less of the shorter list.
 -- Assumes nothing.
-use Prim.Native.Nat.{◌-◌}
 use native.Mathlib.Omega.{arith}
-use borrow.Author.Rules.{rules}
-use Rattle.run_front.specs.Search.{SameFirst}
 use Rattle.run_front.proofs.SameRows.{same_next}
 use Rattle.run_front.proofs.alike.Goals as goal
 

@@ -1,10 +1,7 @@
 -- Proves that `bisect` finds a row's place, which is never before low nor behind high. Each turn brings the two closer.
 -- Assumes nothing.
-use Prim.Native.Nat.{◌-◌}
 use native.Mathlib.Omega.{arith}
-use borrow.Author.Rules.{rules}
 use Rattle.run_front.proofs.Places.{narrow-above, narrow_below, one_place}
-use Rattle.run_front.specs.Search.{Bracket}
 use Rattle.run_front.proofs.bisect.Goals as goal
 
 pub loop-low-init : goal.loop-low-init

@@ -3,7 +3,6 @@
 use mathlib.Core.Path.{ap, ◌∙◌}
 use native.Mathlib.Omega.{arith}
 use lib.ListN.{length}
-use borrow.Author.Rules.{rules}
 use Rattle.papers.specs.Tree.{t}
 use Rattle.run_front.proofs.Columns.{column_fits}
 use Rattle.run_front.proofs.entries_of.Goals as goal

@@ -1,7 +1,6 @@
 -- Proves that `rows_of` gives a column's rows: its two starts ascend and are within the rows, so the part between them exists.
 -- Assumes nothing.
 use native.Mathlib.Omega.{arith}
-use borrow.Author.Rules.{rules}
 use Rattle.run_front.proofs.Columns.{lies, part-is-column}
 use Rattle.run_front.proofs.rows_of.Goals as goal
 

@@ -1,13 +1,7 @@
 -- Proves that `seek` finds a row's place, which is never before low, and low is never behind the place looked at. Each turn leaves fewer places.
 -- Assumes nothing.
-use Prim.Native.Nat.{ℕ, ◌-◌, ◌≤◌}
-use mathlib.Core.List.{List}
 use native.Mathlib.Omega.{arith}
-use lib.ListN.{length}
-use borrow.Author.Rules.{rules}
-use Rattle.run_front.specs.Search.{Bracket}
 use Rattle.run_front.proofs.Places.{narrow-above, narrow_below}
-use Rattle.run_front.proofs.seek.Invariants.{Looking}
 use Rattle.run_front.proofs.seek.Goals as goal
 
 pub bisect-requires : goal.bisect-requires

@@ -2,11 +2,8 @@
 -- Assumes nothing.
 use Prim.Native.Nat.{ℕ, ◌-◌, ◌≤◌}
 use mathlib.Core.List.{List}
-use native.Mathlib.Omega.{arith}
 use lib.ListN.{length}
-use borrow.Author.Rules.{rules}
 use Rattle.run_front.specs.Search.{Bracket}
-use Rattle.run_front.proofs.Places.{narrow-above, narrow_below}
 use Rattle.run_front.proofs.seek.Given as goal
 
 -- the row's place is not before low, and the next place looked at is no earlier

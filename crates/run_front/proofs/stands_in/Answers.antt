@@ -1,11 +1,8 @@
 -- Proves that `stands_in` tests every row of an update: the first i are in the front, and the front's rows before the last one found are below the
 -- next. Each turn leaves fewer rows.
 -- Assumes nothing.
-use Prim.Native.Nat.{◌-◌}
 use native.Mathlib.Omega.{arith}
-use lib.ListN.{length}
-use borrow.Author.Rules.{rules}
-use Rattle.run_front.proofs.Sweeps.{Swept, swept-start, swept-end, to-seek, swept-column, swept-alike, swept-missing}
+use Rattle.run_front.proofs.Sweeps.{swept-start, swept-end, to-seek, swept-column, swept-alike, swept-missing}
 use Rattle.run_front.proofs.stands_in.Goals as goal
 
 pub loop-i-init : goal.loop-i-init

@@ -2,10 +2,8 @@
 -- next. Each turn leaves fewer rows.
 -- Assumes nothing.
 use Prim.Native.Nat.{◌-◌}
-use native.Mathlib.Omega.{arith}
 use lib.ListN.{length}
-use borrow.Author.Rules.{rules}
-use Rattle.run_front.proofs.Sweeps.{Swept, swept-start, swept-end, to-seek, swept-column, swept-alike, swept-missing}
+use Rattle.run_front.proofs.Sweeps.{Swept}
 use Rattle.run_front.proofs.stands_in.Given as goal
 
 abbrev pub invariant-loop-i : goal.invariant-loop-i

@@ -2,7 +2,6 @@
 -- Assumes nothing.
 use Prim.Native.Nat.{ℕ, ◌+◌, ◌-◌, min, max}
 use mathlib.Core.Path.{◌≡◌}
-use borrow.Author.Rules.{rules}
 use Rattle.run_held.specs.declared.Held.{Held}
 use Rattle.run_held.specs.Record.{stepped_of}
 use Rattle.run_held.proofs.stepped.Goals as goal

@@ -2,7 +2,6 @@
 -- behind those that stay, which has a place.
 -- Assumes nothing.
 use native.Mathlib.Omega.{arith}
-use borrow.Author.Rules.{rules}
 use Rattle.run_step.proofs.Taken.{Place, takes, taken-root, store-within, taken-update}
 use Rattle.run_step.proofs.take_step.Goals as goal
 use Rattle.run_step.proofs.take_step.Goals.{Else-update-eq0}

@@ -1,11 +1,9 @@
 -- Proves that `steps` runs the steps: after `done` steps without a fault the stack list and the record hold the state. Each turn leaves one step
 -- less.
 -- Assumes nothing.
-use Prim.Native.Nat.{◌-◌}
 use mathlib.Core.Path.{◌∙◌}
 use native.Mathlib.Omega.{arith}
-use borrow.Author.Rules.{rules}
-use Rattle.run_steps.proofs.Running.{Running, running-start, ready, running-next, answers-fault, answers-left, answers-done}
+use Rattle.run_steps.proofs.Running.{running-start, ready, running-next, answers-fault, answers-left, answers-done}
 use Rattle.run_steps.proofs.steps.Goals as goal
 
 pub loop-done-init : goal.loop-done-init

@@ -2,10 +2,7 @@
 -- less.
 -- Assumes nothing.
 use Prim.Native.Nat.{◌-◌}
-use mathlib.Core.Path.{◌∙◌}
-use native.Mathlib.Omega.{arith}
-use borrow.Author.Rules.{rules}
-use Rattle.run_steps.proofs.Running.{Running, running-start, ready, running-next, answers-fault, answers-left, answers-done}
+use Rattle.run_steps.proofs.Running.{Running}
 use Rattle.run_steps.proofs.steps.Given as goal
 
 abbrev pub invariant-loop-done : goal.invariant-loop-done

@@ -3,7 +3,6 @@
 use Prim.Native.Nat.{◌-◌}
 use mathlib.Core.Path.{refl}
 use native.Mathlib.Omega.{arith}
-use borrow.Author.Rules.{rules}
 use Rattle.run_updates.proofs.held_column.Goals as goal
 
 pub overflow_cast-result : goal.overflow_cast-result

@@ -1,13 +1,9 @@
 -- Proves that `popped_entries` sums the popped updates: the total is the sum of those above `top`, and even all entries together fit. Each turn
 -- leaves one update less.
 -- Assumes nothing.
-use Prim.Native.Nat.{◌-◌}
 use native.Mathlib.Omega.{arith}
-use lib.ListN.{take}
-use borrow.Author.Rules.{rules}
-use Rattle.run_updates.specs.Kept.{held_in_order}
 use Rattle.run_updates.proofs.Entries.{popped-small}
-use Rattle.run_updates.proofs.Popped.{Added, added-start, added-end, added_next, added-within}
+use Rattle.run_updates.proofs.Popped.{added-start, added-end, added_next, added-within}
 use Rattle.run_updates.proofs.popped_entries.Goals as goal
 
 pub loop-top-init : goal.loop-top-init

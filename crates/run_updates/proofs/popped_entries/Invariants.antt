@@ -2,12 +2,9 @@
 -- leaves one update less.
 -- Assumes nothing.
 use Prim.Native.Nat.{◌-◌}
-use native.Mathlib.Omega.{arith}
 use lib.ListN.{take}
-use borrow.Author.Rules.{rules}
 use Rattle.run_updates.specs.Kept.{held_in_order}
-use Rattle.run_updates.proofs.Entries.{popped-small}
-use Rattle.run_updates.proofs.Popped.{Added, added-start, added-end, added_next, added-within}
+use Rattle.run_updates.proofs.Popped.{Added}
 use Rattle.run_updates.proofs.popped_entries.Given as goal
 
 abbrev pub invariant-loop-top : goal.invariant-loop-top

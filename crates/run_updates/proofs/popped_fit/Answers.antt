@@ -1,12 +1,8 @@
 -- Proves that `popped_fit` tests all popped updates: those above `top` are in the front, so the others decide. Each turn leaves one update less.
 -- Assumes nothing.
-use Prim.Native.Nat.{◌-◌}
 use native.Mathlib.Omega.{arith}
-use lib.ListN.{take}
-use borrow.Author.Rules.{rules}
 use Rattle.run_front.proofs.Columns.{column-ascends}
-use Rattle.run_updates.specs.Kept.{held_in_order}
-use Rattle.run_updates.proofs.Popped.{Looked, looked-start, looked-end, looked-next, looked-outside}
+use Rattle.run_updates.proofs.Popped.{looked-start, looked-end, looked-next, looked-outside}
 use Rattle.run_updates.proofs.popped_fit.Goals as goal
 
 pub loop-top-init : goal.loop-top-init

@@ -3,7 +3,6 @@
 -- Assumes nothing.
 use Prim.Native.Nat.{◌+◌, ◌^◌, ◌<◌}
 use native.Mathlib.Omega.{arith}
-use borrow.Author.Rules.{rules}
 use Rattle.run_updates.proofs.Uses.{top_within, front_fits, room_fits, room-above, room-on-top}
 use Rattle.run_updates.proofs.room_in_use.Goals as goal
 use Rattle.run_updates.proofs.room_in_use.Goals.{After-entries-front}

@@ -1,12 +1,9 @@
 -- Proves that `room_alone` finds W: it keeps the room of the first i children, the sum of their updates, and the sum of all these but the last. Each
 -- turn leaves one child less.
 -- Assumes nothing.
-use Prim.Native.Nat.{◌+◌, ◌-◌, ◌<◌}
-use native.Mathlib.Omega.{arith}
-use lib.ListN.{length, get_or}
-use borrow.Author.Rules.{rules}
-use Rattle.room.proofs.Entries.{entries_fit}
-use Rattle.sibling_keys.proofs.Turns.{Turned, turned-start, turned-stop, turned-column, turned-known, turned-light, turned_turn}
+use Prim.Native.Nat.{◌-◌}
+use lib.ListN.{length}
+use Rattle.sibling_keys.proofs.Turns.{Turned}
 use Rattle.sibling_keys.proofs.room_alone.Given as goal
 
 abbrev pub invariant-loop-i : goal.invariant-loop-i

@@ -2,7 +2,6 @@
 -- Assumes nothing.
 use mathlib.Core.Path.{sym, ◌∙◌}
 use native.Mathlib.Omega.{arith}
-use borrow.Author.Rules.{rules}
 use Rattle.sibling_keys.proofs.Keys.{key-none, key_one, key-two}
 use Rattle.sibling_keys.proofs.sibling_key.Goals as goal
 

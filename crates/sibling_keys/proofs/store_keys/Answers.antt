@@ -1,13 +1,10 @@
 -- Proves that `store_keys` stores the keys of the children: it stores them behind the W, so it overwrites no W that it has yet to read. Each turn
 -- leaves one child less.
 -- Assumes nothing.
-use Prim.Native.Nat.{◌-◌}
 use native.Mathlib.Omega.{arith}
-use lib.ListN.{length, get_or}
+use lib.ListN.{get_or}
 use borrow.Author.Rules.{rules}
-use Rattle.sibling_keys.proofs.Keys.{same_key, Places, keying-places, Keying, keying-start, keying-stop, keying-reads, keying-turn}
-use Rattle.list_laws.specs.Parts.{part}
-use Rattle.sibling_keys.specs.Kids.{key_at}
+use Rattle.sibling_keys.proofs.Keys.{same_key, Places, keying-places, keying-start, keying-stop, keying-reads, keying-turn}
 use Rattle.list_laws.proofs.Members.{at_place}
 use Rattle.sibling_keys.proofs.store_keys.Goals as goal
 use Rattle.sibling_keys.proofs.store_keys.Goals.{In-loop-i}

@@ -2,13 +2,10 @@
 -- leaves one child less.
 -- Assumes nothing.
 use Prim.Native.Nat.{◌-◌}
-use native.Mathlib.Omega.{arith}
-use lib.ListN.{length, get_or}
-use borrow.Author.Rules.{rules}
-use Rattle.sibling_keys.proofs.Keys.{same_key, Places, keying-places, Keying, keying-start, keying-stop, keying-reads, keying-turn}
+use lib.ListN.{length}
+use Rattle.sibling_keys.proofs.Keys.{Keying}
 use Rattle.list_laws.specs.Parts.{part}
 use Rattle.sibling_keys.specs.Kids.{key_at}
-use Rattle.list_laws.proofs.Members.{at_place}
 use Rattle.sibling_keys.proofs.store_keys.Given as goal
 
 abbrev pub invariant-loop-i : goal.invariant-loop-i

@@ -1,11 +1,8 @@
 -- Proves that `arrange` arranges all lists: those of the columns before j are arranged, and their W stored. Each turn leaves one column less.
 -- Assumes nothing.
 use Prim.Native.Nat.{◌+◌, ◌-◌}
-use native.Mathlib.Omega.{arith}
 use lib.ListN.{length}
-use borrow.Author.Rules.{rules}
-use Rattle.siblings.proofs.Arranging.{Arranging, none-arranged, arranging-start, arranging-stop, arranging-placed}
-use Rattle.siblings.proofs.OneArranged.{arranging-turn}
+use Rattle.siblings.proofs.Arranging.{Arranging}
 use Rattle.siblings.proofs.arrange.Given as goal
 
 abbrev pub invariant-loop-j : goal.invariant-loop-j

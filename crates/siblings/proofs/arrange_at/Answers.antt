@@ -1,6 +1,5 @@
 -- Proves that `arrange_at` sorts the children in their place: they are between the column's start and the next one, and come back there sorted.
 -- Assumes nothing.
-use borrow.Author.Rules.{rules}
 use Rattle.siblings.proofs.Placing.{placed-kids, placed-done}
 use Rattle.siblings.proofs.arrange_at.Goals as goal
 

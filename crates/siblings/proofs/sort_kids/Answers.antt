@@ -1,7 +1,6 @@
 -- Proves that `sort_kids` sorts by the mark: the sort reads the keys that were stored, and W is computed from the sorted children.
 -- Assumes nothing.
 use native.Mathlib.Omega.{arith}
-use borrow.Author.Rules.{rules}
 use Rattle.siblings.proofs.Placing.{sorted-kids, sorted-done}
 use Rattle.siblings.proofs.sort_kids.Goals as goal
 

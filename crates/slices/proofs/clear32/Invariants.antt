@@ -2,8 +2,7 @@
 -- Assumes nothing.
 use Prim.Native.Nat.{◌-◌}
 use lib.ListN.{length}
-use borrow.Author.Rules.{rules}
-use Rattle.slices.proofs.Zeroed.{Zeroed, zeroed_start, turn, stop}
+use Rattle.slices.proofs.Zeroed.{Zeroed}
 use Rattle.slices.proofs.clear32.Given as goal
 
 abbrev pub invariant-loop-i : goal.invariant-loop-i

@@ -1,6 +1,5 @@
 -- Proves that `clear32_from` clears the part from the place on, and keeps what is before it.
 -- Assumes nothing.
-use borrow.Author.Rules.{rules}
 use Rattle.slices.proofs.From.{cleared-from}
 use Rattle.slices.proofs.clear32_from.Goals as goal
 

@@ -1,9 +1,6 @@
 -- Proves that `clear64` clears the slice, since every place before i is zero. Each turn leaves one place less.
 -- Assumes nothing.
-use Prim.Native.Nat.{◌-◌}
-use lib.ListN.{length}
-use borrow.Author.Rules.{rules}
-use Rattle.slices.proofs.Zeroed.{Zeroed, zeroed_start, turn, stop}
+use Rattle.slices.proofs.Zeroed.{zeroed_start, turn, stop}
 use Rattle.slices.proofs.clear64.Goals as goal
 
 pub loop-i-init : goal.loop-i-init

@@ -4,7 +4,6 @@
 use mathlib.Core.Path.{sym}
 use native.Mathlib.Omega.{arith}
 use lib.Seq.{length-take-le}
-use borrow.Author.Rules.{rules}
 use Rattle.solver.proofs.Keys.{key-answer}
 use Rattle.solver.proofs.check_for_key.Goals as goal
 

@@ -1,7 +1,6 @@
 -- Proves that `run` answers right: each test before the steps passes, or refuses and leaves the stack list as it was; if all pass, the steps decide,
 -- and the list is cleared after them.
 -- Assumes nothing.
-use borrow.Author.Rules.{rules}
 use Rattle.run_updates.specs.Kept.{run_of}
 use Rattle.job_rows.proofs.Started.{started}
 use Rattle.stack_run.proofs.Outcomes.{run-many, run-starts, run-rows, run_short, steps-asked, run-steps}

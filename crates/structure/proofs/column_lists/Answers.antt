@@ -1,11 +1,10 @@
 -- Proves that `column_lists` makes the lists, starts and parents: after m columns the slices hold theirs, so the next list can be gathered, and
 -- stored if it fits. Each turn leaves one column less.
 -- Assumes nothing.
-use Prim.Native.Nat.{◌-◌}
 use mathlib.Core.Path.{refl, ◌∙◌}
 use native.Mathlib.Omega.{arith}
 use lib.ListN.{length-set}
-use Rattle.structure.proofs.Running.{Running, run-begin, run-next, run_end, run-buffered, run_store, run_on, run_short, run-all}
+use Rattle.structure.proofs.Running.{run-begin, run-next, run_end, run-buffered, run_store, run_on, run_short, run-all}
 use Rattle.structure.proofs.Running.{long-p, long-s, long-f}
 use Rattle.structure.proofs.column_lists.Goals as goal
 

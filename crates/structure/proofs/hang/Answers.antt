@@ -3,7 +3,6 @@
 use mathlib.Core.Path.{sym}
 use native.Mathlib.Omega.{arith}
 use lib.ListN.{length-set}
-use borrow.Author.Rules.{rules}
 use Rattle.structure.proofs.Hanging.{hanging-root, hanging-is}
 use Rattle.structure.proofs.hang.Goals as goal
 

@@ -1,6 +1,5 @@
 -- Proves that `least` gives the first row of a list, and 0 of an empty list.
 -- Assumes nothing.
-use native.Mathlib.Omega.{arith}
 use Rattle.structure.proofs.Storing.{least-none, least-some}
 use Rattle.structure.proofs.least.Goals as goal
 

@@ -1,8 +1,6 @@
 -- Proves that `store` stores a column's list: each of its stores is one of the definition's four equations, and the parent is the list's least row.
 -- Assumes nothing.
 use mathlib.Core.Path.{refl}
-use native.Mathlib.Omega.{arith}
-use borrow.Author.Rules.{rules}
 use Rattle.structure.proofs.store.Goals as goal
 
 pub returns : goal.returns

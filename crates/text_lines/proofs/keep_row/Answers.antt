@@ -3,7 +3,6 @@
 use mathlib.Core.Path.{sym, ap}
 use lib.ListN.{set}
 use lib.Seq.{set_out}
-use borrow.Author.Rules.{rules}
 use Rattle.text_lines.specs.Narrowed.{narrowed}
 use Rattle.text_lines.proofs.keep_row.Goals as goal
 

@@ -1,12 +1,10 @@
 -- Proves that `read_rows` reads the rows: the numbers before k are read and kept, and the rest of the line completes them. Each turn leaves less
 -- text.
 -- Assumes nothing.
-use Prim.Native.Nat.{◌-◌}
 use native.Mathlib.Omega.{arith}
-use lib.ListN.{length}
 use borrow.Author.Rules.{rules}
 use Rattle.text_words.proofs.Told.{word_more, word-last, word-bad}
-use Rattle.text_lines.proofs.Rows.{RowsRead, rows_start, rows_long, rows-turn, rows_last, rows-bad, rows_out}
+use Rattle.text_lines.proofs.Rows.{rows_start, rows_long, rows-turn, rows_last, rows-bad, rows_out}
 use Rattle.text_lines.proofs.read_rows.Goals as goal
 
 pub loop-k-init : goal.loop-k-init

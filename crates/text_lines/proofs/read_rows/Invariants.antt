@@ -2,11 +2,8 @@
 -- text.
 -- Assumes nothing.
 use Prim.Native.Nat.{◌-◌}
-use native.Mathlib.Omega.{arith}
 use lib.ListN.{length}
-use borrow.Author.Rules.{rules}
-use Rattle.text_words.proofs.Told.{word_more, word-last, word-bad}
-use Rattle.text_lines.proofs.Rows.{RowsRead, rows_start, rows_long, rows-turn, rows_last, rows-bad, rows_out}
+use Rattle.text_lines.proofs.Rows.{RowsRead}
 use Rattle.text_lines.proofs.read_rows.Given as goal
 
 abbrev pub invariant-loop-k : goal.invariant-loop-k

@@ -2,13 +2,7 @@
 -- next. Each turn leaves one column less.
 -- Assumes nothing.
 use Prim.Native.Nat.{◌-◌}
-use mathlib.Core.Path.{◌≡◌, refl, ◌∙◌}
-use native.Mathlib.Omega.{arith}
-use lib.ListN.{length, length-set}
-use borrow.Author.Rules.{rules}
-use Rattle.text_rows.proofs.RowLines.{told-rows, told-bad}
-use Rattle.text_rows.proofs.LinesRead.{LinesRead, lines_start, told-first, starts-long, rows_long, lines-bad, lines-over}
-use Rattle.text_rows.proofs.LinesRead.{lines-turn, lines_left, lines-done}
+use Rattle.text_rows.proofs.LinesRead.{LinesRead}
 use Rattle.text_rows.proofs.read_lines.Given as goal
 
 abbrev pub invariant-loop-j : goal.invariant-loop-j

@@ -2,7 +2,6 @@
 -- Assumes nothing.
 use mathlib.Core.Path.{sym}
 use native.Mathlib.Omega.{arith}
-use borrow.Author.Rules.{rules}
 use Rattle.text_words.proofs.Scan.{digits_decimal, none-decimal, lead-decimal}
 use Rattle.text_words.proofs.is_decimal.Goals as goal
 

@@ -1,10 +1,7 @@
 -- Proves that `read_digits` reads the digits: the first i bytes are digits, and value is what they make. Each turn leaves one less that may come.
 -- Assumes nothing.
-use Prim.Native.Nat.{◌-◌}
 use mathlib.Core.Logic.{inr}
 use native.Mathlib.Omega.{arith}
-use borrow.Author.Rules.{rules}
-use Rattle.text_words.specs.Words.{DigitsRead}
 use Rattle.text_words.proofs.Scan.{digit-yes, digit-no, digits-start, digits-fit, digits-turn, digits-stop}
 use Rattle.text_words.proofs.read_digits.Goals as goal
 

@@ -2,8 +2,6 @@
 -- follows, a line that begins there has no numbers.
 -- Assumes nothing.
 use mathlib.Core.Path.{refl, sym, ◌∙◌}
-use borrow.Author.Rules.{rules}
-use borrow.Author.Tests.{not-true, not-false}
 use Rattle.text_words.specs.Words.{before-space, before-newline, no_number}
 use Rattle.text_words.proofs.Numbers.{number-here, none-ended, none-bad, none_other}
 use Rattle.text_words.proofs.read_word.Goals as goal

@@ -1,7 +1,6 @@
 -- Proves that `hold`, which tries a pattern under every mark, is safe: a turn needs nothing of what it reads, and each leaves fewer to come.
 -- Assumes nothing.
 use Prim.Native.Nat.{◌-◌}
-use native.Mathlib.Omega.{arith}
 use Rattle.trial_analyse.proofs.hold.Given as goal
 
 abbrev pub invariant-loop-mark : goal.invariant-loop-mark

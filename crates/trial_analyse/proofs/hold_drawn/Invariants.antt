@@ -2,7 +2,6 @@
 -- come.
 -- Assumes nothing.
 use Prim.Native.Nat.{◌-◌}
-use native.Mathlib.Omega.{arith}
 use Rattle.trial_analyse.proofs.hold_drawn.Given as goal
 
 abbrev pub invariant-loop-seed : goal.invariant-loop-seed

@@ -2,7 +2,6 @@
 -- fewer to come.
 -- Assumes nothing.
 use Prim.Native.Nat.{◌-◌}
-use native.Mathlib.Omega.{arith}
 use Rattle.trial_checked_runs.proofs.hold_mark.Given as goal
 
 abbrev pub invariant-loop-key : goal.invariant-loop-key

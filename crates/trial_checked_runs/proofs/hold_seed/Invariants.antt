@@ -2,7 +2,6 @@
 -- come.
 -- Assumes nothing.
 use Prim.Native.Nat.{◌-◌}
-use native.Mathlib.Omega.{arith}
 use Rattle.trial_checked_runs.proofs.hold_seed.Given as goal
 
 abbrev pub invariant-loop-mark : goal.invariant-loop-mark

@@ -1,11 +1,7 @@
 -- Proves that `fill64`, which fills a slice before a call, is safe and keeps the slice's length, since each turn only stores a number at a place.
 -- Each turn leaves fewer to come.
 -- Assumes nothing.
-use Prim.Native.Nat.{◌-◌}
-use native.Mathlib.Omega.{arith}
-use mathlib.Core.Path.{◌≡◌, refl}
-use lib.ListN.{length}
-use borrow.Author.Rules.{rules}
+use mathlib.Core.Path.{refl}
 use Rattle.trial_comparison.proofs.fill64.Goals as goal
 
 pub loop-i-init : goal.loop-i-init

@@ -2,10 +2,8 @@
 -- Each turn leaves fewer to come.
 -- Assumes nothing.
 use Prim.Native.Nat.{◌-◌}
-use native.Mathlib.Omega.{arith}
-use mathlib.Core.Path.{◌≡◌, refl}
+use mathlib.Core.Path.{◌≡◌}
 use lib.ListN.{length}
-use borrow.Author.Rules.{rules}
 use Rattle.trial_comparison.proofs.fill64.Given as goal
 
 abbrev pub invariant-loop-i : goal.invariant-loop-i

@@ -1,7 +1,6 @@
 -- Proves that `thin`, which takes away one row in eight, is safe: a turn needs nothing of what it reads, and each leaves fewer to come.
 -- Assumes nothing.
 use Prim.Native.Nat.{◌-◌}
-use native.Mathlib.Omega.{arith}
 use Rattle.trial_lists.proofs.thin.Given as goal
 
 abbrev pub invariant-loop-place : goal.invariant-loop-place

@@ -1,7 +1,6 @@
 -- Proves that `hold_all`, which tries the cases of all seeds, is safe: a turn needs nothing of what it reads, and each leaves fewer to come.
 -- Assumes nothing.
 use Prim.Native.Nat.{◌-◌}
-use native.Mathlib.Omega.{arith}
 use Rattle.trial_run.proofs.hold_all.Given as goal
 
 abbrev pub invariant-loop : goal.invariant-loop

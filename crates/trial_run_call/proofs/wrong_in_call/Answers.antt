@@ -2,7 +2,6 @@
 -- Assumes nothing.
 use native.Mathlib.Omega.{arith}
 use lib.ListN.{length-take}
-use borrow.Author.Rules.{rules}
 use Rattle.trial_run_call.proofs.wrong_in_call.Goals as goal
 
 pub slice_bounds-run-end : goal.slice_bounds-run-end

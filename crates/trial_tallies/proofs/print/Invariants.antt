@@ -2,8 +2,6 @@
 -- Each turn leaves fewer to come.
 -- Assumes nothing.
 use Prim.Native.Nat.{◌-◌}
-use native.Mathlib.Omega.{arith}
-use borrow.Author.Rules.{rules}
 use Rattle.trial_tallies.proofs.print.Given as goal
 
 abbrev pub invariant-loop-i : goal.invariant-loop-i

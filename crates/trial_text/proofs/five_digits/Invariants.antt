@@ -1,7 +1,6 @@
 -- Proves that `five_digits`, which reads a number of five digits, is safe: a turn needs nothing of what it reads, and each leaves fewer to come.
 -- Assumes nothing.
 use Prim.Native.Nat.{◌-◌}
-use borrow.Author.Rules.{rules}
 use Rattle.trial_text.proofs.five_digits.Given as goal
 
 abbrev pub invariant-loop-i : goal.invariant-loop-i

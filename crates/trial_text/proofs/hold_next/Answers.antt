@@ -2,7 +2,6 @@
 -- Assumes nothing.
 use native.Mathlib.Omega.{arith}
 use lib.ListN.{length-take}
-use borrow.Author.Rules.{rules}
 use Rattle.trial_text.proofs.hold_next.Goals as goal
 
 pub slice_bounds-read_full-end-2 : goal.slice_bounds-read_full-end-2

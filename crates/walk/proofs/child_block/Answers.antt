@@ -1,7 +1,6 @@
 -- Proves that `child_block` gives a child's block: it reads the child from its place in the lists, and counts its descendants and itself.
 -- Assumes nothing.
 use mathlib.Core.Path.{refl}
-use borrow.Author.Rules.{rules}
 use Rattle.walk.proofs.child_block.Goals as goal
 
 pub returns : goal.returns

@@ -3,7 +3,6 @@
 -- Assumes nothing.
 use mathlib.Core.Path.{◌∙◌}
 use native.Mathlib.Omega.{arith}
-use borrow.Author.Rules.{rules}
 use Rattle.walk.proofs.Down.{wider, no-columns}
 use Rattle.walk.proofs.steps.Goals as goal
 

@@ -1,12 +1,10 @@
 -- Proves that `low_bytes` stores the low byte of each gap: those before i are stored up to next, and widest is the greatest of these gaps. Each turn
 -- leaves one row less.
 -- Assumes nothing.
-use Prim.Native.Nat.{◌-◌}
 use mathlib.Core.Path.{refl}
 use native.Mathlib.Omega.{arith}
-use borrow.Author.Rules.{rules}
 use Rattle.write_gaps.proofs.Rows.{row-above}
-use Rattle.write_gaps.proofs.Lows.{Lows, lows-start, lows-turn, lows-stop}
+use Rattle.write_gaps.proofs.Lows.{lows-start, lows-turn, lows-stop}
 use Rattle.write_gaps.proofs.low_bytes.Goals as goal
 
 pub loop-i-init : goal.loop-i-init

@@ -2,11 +2,7 @@
 -- leaves one row less.
 -- Assumes nothing.
 use Prim.Native.Nat.{◌-◌}
-use mathlib.Core.Path.{refl}
-use native.Mathlib.Omega.{arith}
-use borrow.Author.Rules.{rules}
-use Rattle.write_gaps.proofs.Rows.{row-above}
-use Rattle.write_gaps.proofs.Lows.{Lows, lows-start, lows-turn, lows-stop}
+use Rattle.write_gaps.proofs.Lows.{Lows}
 use Rattle.write_gaps.proofs.low_bytes.Given as goal
 
 abbrev pub invariant-loop-i : goal.invariant-loop-i

@@ -1,11 +1,9 @@
 -- Proves that `write_gaps` stores all gaps, since storing the gaps from i on at next leaves what storing all of them leaves. Each turn leaves one row
 -- less.
 -- Assumes nothing.
-use Prim.Native.Nat.{◌-◌}
 use mathlib.Core.Path.{refl}
 use native.Mathlib.Omega.{arith}
-use borrow.Author.Rules.{rules}
-use Rattle.write_gaps.proofs.Rows.{WritesRows, row-above, row_within, gaps-start, place-near, write-turn, gaps-stop}
+use Rattle.write_gaps.proofs.Rows.{row-above, row_within, gaps-start, place-near, write-turn, gaps-stop}
 use Rattle.write_gaps.proofs.write_gaps.Goals as goal
 
 pub loop-i-init : goal.loop-i-init

@@ -2,10 +2,7 @@
 -- less.
 -- Assumes nothing.
 use Prim.Native.Nat.{◌-◌}
-use mathlib.Core.Path.{refl}
-use native.Mathlib.Omega.{arith}
-use borrow.Author.Rules.{rules}
-use Rattle.write_gaps.proofs.Rows.{WritesRows, row-above, row_within, gaps-start, place-near, write-turn, gaps-stop}
+use Rattle.write_gaps.proofs.Rows.{WritesRows}
 use Rattle.write_gaps.proofs.write_gaps.Given as goal
 
 abbrev pub invariant-loop-i : goal.invariant-loop-i

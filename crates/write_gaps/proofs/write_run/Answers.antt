@@ -1,7 +1,6 @@
 -- Proves that `write_run` stores the gaps: if all are below 128, their low bytes are their bytes; else it writes the gaps over them.
 -- Assumes nothing.
 use native.Mathlib.Omega.{arith}
-use borrow.Author.Rules.{rules}
 use Rattle.write_gaps.proofs.Lows.{run_short, run-over}
 use Rattle.write_gaps.proofs.write_run.Goals as goal
 

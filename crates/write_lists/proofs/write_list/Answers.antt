@@ -4,9 +4,8 @@
 use Prim.Native.Nat.{◌-◌}
 use mathlib.Core.Path.{refl}
 use native.Mathlib.Omega.{arith}
-use borrow.Author.Rules.{rules}
 use Rattle.bytes_laws.proofs.Numbers.{bytes-length}
-use Rattle.write_gaps.proofs.Rows.{WritesRows, gaps-start, place-near}
+use Rattle.write_gaps.proofs.Rows.{gaps-start, place-near}
 use Rattle.write_lists.proofs.Counted.{list-stop}
 use Rattle.write_lists.proofs.Runs.{run-list, run-turn}
 use Rattle.write_lists.proofs.write_list.Goals as goal

@@ -2,13 +2,7 @@
 -- writes a run of rows, so fewer rows are left.
 -- Assumes nothing.
 use Prim.Native.Nat.{◌-◌}
-use mathlib.Core.Path.{refl}
-use native.Mathlib.Omega.{arith}
-use borrow.Author.Rules.{rules}
-use Rattle.bytes_laws.proofs.Numbers.{bytes-length}
-use Rattle.write_gaps.proofs.Rows.{WritesRows, gaps-start, place-near}
-use Rattle.write_lists.proofs.Counted.{list-stop}
-use Rattle.write_lists.proofs.Runs.{run-list, run-turn}
+use Rattle.write_gaps.proofs.Rows.{WritesRows}
 use Rattle.write_lists.proofs.write_list.Given as goal
 
 abbrev pub invariant-loop-i : goal.invariant-loop-i

@@ -1,12 +1,10 @@
 -- Proves that `write_lists` stores all lists, since storing those behind the first `done` at next leaves what storing all of them leaves. Each turn
 -- leaves one column less.
 -- Assumes nothing.
-use Prim.Native.Nat.{◌-◌}
 use native.Mathlib.Omega.{arith}
-use borrow.Author.Rules.{rules}
 use Rattle.list_laws.proofs.Writing.{writes-all}
 use Rattle.job_laws.proofs.Passed.{lists-iff}
-use Rattle.write_lists.proofs.Columns.{WritesColumns, column-list, list-near, lists-turn, lists-stop}
+use Rattle.write_lists.proofs.Columns.{column-list, list-near, lists-turn, lists-stop}
 use Rattle.write_lists.proofs.write_lists.Goals as goal
 
 pub loop-done-init : goal.loop-done-init

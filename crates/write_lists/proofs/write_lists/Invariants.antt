@@ -2,11 +2,7 @@
 -- leaves one column less.
 -- Assumes nothing.
 use Prim.Native.Nat.{◌-◌}
-use native.Mathlib.Omega.{arith}
-use borrow.Author.Rules.{rules}
-use Rattle.list_laws.proofs.Writing.{writes-all}
-use Rattle.job_laws.proofs.Passed.{lists-iff}
-use Rattle.write_lists.proofs.Columns.{WritesColumns, column-list, list-near, lists-turn, lists-stop}
+use Rattle.write_lists.proofs.Columns.{WritesColumns}
 use Rattle.write_lists.proofs.write_lists.Given as goal
 
 abbrev pub invariant-loop-done : goal.invariant-loop-done

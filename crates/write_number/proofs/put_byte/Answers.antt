@@ -2,7 +2,6 @@
 -- Assumes nothing.
 use mathlib.Core.Path.{sym}
 use lib.Seq.{set_out}
-use borrow.Author.Rules.{rules}
 use Rattle.write_number.proofs.put_byte.Goals as goal
 
 pub returns-else-at-dst : goal.returns-else-at-dst

@@ -1,7 +1,6 @@
 -- Proves that `put_plan` writes the plan part by part: behind each part a known rest is left, at a small place, and behind the peak nothing.
 -- Assumes nothing.
 use native.Mathlib.Omega.{arith}
-use borrow.Author.Rules.{rules}
 use Rattle.write_plan.proofs.Planned.{few, place-near, behind-key, behind-steps, behind-lists, plan-put}
 use Rattle.write_plan.proofs.put_plan.Goals as goal
 

@@ -1,6 +1,5 @@
 -- Proves that `store_plan` stores the plan: it writes the bytes, then clears what is behind them or refuses.
 -- Assumes nothing.
-use borrow.Author.Rules.{rules}
 use Rattle.write_plan.proofs.store_plan.Goals as goal
 
 pub returns : goal.returns

@@ -1,12 +1,9 @@
 -- Proves that `write_steps` stores all steps, since storing those behind the first `done` at next leaves what storing all of them leaves. Each turn
 -- leaves one step less.
 -- Assumes nothing.
-use Prim.Native.Nat.{◌-◌}
 use native.Mathlib.Omega.{arith}
-use lib.ListN.{length}
-use borrow.Author.Rules.{rules}
 use Rattle.list_laws.proofs.Writing.{writes-all}
-use Rattle.write_plan.proofs.Steps.{WritesSteps, column-near, pops-near, write-turn, write-stop}
+use Rattle.write_plan.proofs.Steps.{column-near, pops-near, write-turn, write-stop}
 use Rattle.write_plan.proofs.write_steps.Goals as goal
 
 pub loop-done-init : goal.loop-done-init

@@ -2,11 +2,8 @@
 -- leaves one step less.
 -- Assumes nothing.
 use Prim.Native.Nat.{◌-◌}
-use native.Mathlib.Omega.{arith}
 use lib.ListN.{length}
-use borrow.Author.Rules.{rules}
-use Rattle.list_laws.proofs.Writing.{writes-all}
-use Rattle.write_plan.proofs.Steps.{WritesSteps, column-near, pops-near, write-turn, write-stop}
+use Rattle.write_plan.proofs.Steps.{WritesSteps}
 use Rattle.write_plan.proofs.write_steps.Given as goal
 
 abbrev pub invariant-loop-done : goal.invariant-loop-done

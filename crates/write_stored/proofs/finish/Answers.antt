@@ -1,6 +1,5 @@
 -- Proves that `finish` refuses and clears a slice that is too short, and else clears the places behind the bytes: a law covers each way out.
 -- Assumes nothing.
-use borrow.Author.Rules.{rules}
 use Rattle.write_stored.proofs.Stores.{finished-short, finished-whole}
 use Rattle.write_stored.proofs.finish.Goals as goal
 

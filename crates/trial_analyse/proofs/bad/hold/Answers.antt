@@ -2,7 +2,6 @@
 -- Assumes nothing.
 use native.Mathlib.Omega.{arith}
 use lib.ListN.{length-take}
-use borrow.Author.Rules.{rules}
 use Rattle.trial_analyse.proofs.bad.hold.Goals as goal
 
 pub slice_bounds-wrong-end : goal.slice_bounds-wrong-end

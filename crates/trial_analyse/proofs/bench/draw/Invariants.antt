@@ -1,7 +1,6 @@
 -- Proves that `draw`, which draws the pattern of a piece, is safe: a turn needs nothing of what it reads, and each leaves fewer to come.
 -- Assumes nothing.
 use Prim.Native.Nat.{◌-◌}
-use native.Mathlib.Omega.{arith}
 use Rattle.trial_analyse.proofs.bench.draw.Given as goal
 
 abbrev pub invariant-loop-k : goal.invariant-loop-k

@@ -2,7 +2,6 @@
 -- Assumes nothing.
 use native.Mathlib.Omega.{arith}
 use lib.ListN.{length-take}
-use borrow.Author.Rules.{rules}
 use Rattle.trial_analyse.proofs.call.wrong_in_call.Goals as goal
 
 pub slice_bounds-analyse-end : goal.slice_bounds-analyse-end

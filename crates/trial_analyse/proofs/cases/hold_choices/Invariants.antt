@@ -1,7 +1,6 @@
 -- Proves that `hold_choices`, which makes the calls of every choice, is safe: a turn needs nothing of what it reads, and each leaves fewer to come.
 -- Assumes nothing.
 use Prim.Native.Nat.{◌-◌}
-use native.Mathlib.Omega.{arith}
 use Rattle.trial_analyse.proofs.cases.hold_choices.Given as goal
 
 abbrev pub invariant-loop-choice : goal.invariant-loop-choice

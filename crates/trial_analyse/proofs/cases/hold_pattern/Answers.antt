@@ -2,7 +2,6 @@
 -- Assumes nothing.
 use native.Mathlib.Omega.{arith}
 use lib.ListN.{length-take}
-use borrow.Author.Rules.{rules}
 use Rattle.trial_analyse.proofs.cases.hold_pattern.Goals as goal
 
 pub slice_bounds-hold_choices-end : goal.slice_bounds-hold_choices-end

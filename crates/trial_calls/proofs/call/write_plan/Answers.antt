@@ -2,7 +2,6 @@
 -- Assumes nothing.
 use native.Mathlib.Omega.{arith}
 use lib.ListN.{length-take}
-use borrow.Author.Rules.{rules}
 use Rattle.trial_calls.proofs.call.write_plan.Goals as goal
 
 pub slice_bounds-write_plan-end-5 : goal.slice_bounds-write_plan-end-5

@@ -2,7 +2,6 @@
 -- Assumes nothing.
 use native.Mathlib.Omega.{arith}
 use lib.ListN.{length-take}
-use borrow.Author.Rules.{rules}
 use Rattle.trial_check.proofs.call.call.Goals as goal
 
 pub slice_bounds-check_plan-end : goal.slice_bounds-check_plan-end

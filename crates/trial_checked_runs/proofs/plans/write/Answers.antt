@@ -2,7 +2,6 @@
 -- Assumes nothing.
 use native.Mathlib.Omega.{arith}
 use lib.ListN.{length-take}
-use borrow.Author.Rules.{rules}
 use Rattle.trial_checked_runs.proofs.plans.write.Goals as goal
 
 pub slice_bounds-write_plan-end : goal.slice_bounds-write_plan-end

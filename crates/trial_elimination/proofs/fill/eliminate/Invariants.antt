@@ -1,7 +1,6 @@
 -- Proves that `eliminate`, which eliminates all columns, is safe: a turn needs nothing of what it reads, and each leaves fewer to come.
 -- Assumes nothing.
 use Prim.Native.Nat.{◌-◌}
-use native.Mathlib.Omega.{arith}
 use Rattle.trial_elimination.proofs.fill.eliminate.Given as goal
 
 abbrev pub invariant-loop-place : goal.invariant-loop-place

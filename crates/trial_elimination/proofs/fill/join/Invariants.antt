@@ -2,7 +2,6 @@
 -- come.
 -- Assumes nothing.
 use Prim.Native.Nat.{◌-◌}
-use native.Mathlib.Omega.{arith}
 use Rattle.trial_elimination.proofs.fill.join.Given as goal
 
 abbrev pub invariant-loop-i : goal.invariant-loop-i

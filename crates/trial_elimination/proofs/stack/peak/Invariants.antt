@@ -2,7 +2,6 @@
 -- come.
 -- Assumes nothing.
 use Prim.Native.Nat.{◌-◌}
-use native.Mathlib.Omega.{arith}
 use Rattle.trial_elimination.proofs.stack.peak.Given as goal
 
 abbrev pub invariant-loop-k : goal.invariant-loop-k

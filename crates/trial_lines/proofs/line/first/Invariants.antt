@@ -1,6 +1,6 @@
 -- Proves that `first`, which finds where a list begins, is safe: a turn needs nothing of what it reads, and each leaves fewer to come.
 -- Assumes nothing.
-use Rattle.std.proofs.Common.{◌-◌, arith}
+use Rattle.std.proofs.Common.{◌-◌}
 use Rattle.trial_lines.proofs.line.first.Given as goal
 
 abbrev pub invariant-loop-k : goal.invariant-loop-k

@@ -1,6 +1,6 @@
 -- Proves that `length`, which reads how many bytes follow, is safe: a turn needs nothing of what it reads, and each leaves fewer to come.
 -- Assumes nothing.
-use Rattle.std.proofs.Common.{◌-◌, arith, rules}
+use Rattle.std.proofs.Common.{◌-◌}
 use Rattle.trial_lines.proofs.line.length.Given as goal
 
 abbrev pub invariant-loop-i : goal.invariant-loop-i

@@ -1,7 +1,6 @@
 -- Proves that `sprinkle`, which adds random rows, is safe: a turn needs nothing of what it reads, and each leaves fewer to come.
 -- Assumes nothing.
 use Prim.Native.Nat.{◌-◌}
-use native.Mathlib.Omega.{arith}
 use Rattle.trial_lists.proofs.shapes.sprinkle.Given as goal
 
 abbrev pub invariant-loop-place : goal.invariant-loop-place

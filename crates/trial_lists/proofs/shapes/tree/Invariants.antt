@@ -2,7 +2,6 @@
 -- come.
 -- Assumes nothing.
 use Prim.Native.Nat.{◌-◌}
-use native.Mathlib.Omega.{arith}
 use Rattle.trial_lists.proofs.shapes.tree.Given as goal
 
 abbrev pub invariant-loop-j : goal.invariant-loop-j

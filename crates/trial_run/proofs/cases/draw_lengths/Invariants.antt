@@ -2,7 +2,6 @@
 -- leaves fewer to come.
 -- Assumes nothing.
 use Prim.Native.Nat.{◌-◌}
-use native.Mathlib.Omega.{arith}
 use Rattle.trial_run.proofs.cases.draw_lengths.Given as goal
 
 abbrev pub invariant-loop-part : goal.invariant-loop-part

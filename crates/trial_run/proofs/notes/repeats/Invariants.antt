@@ -1,7 +1,6 @@
 -- Proves that `repeats`, which looks for two steps of one column, is safe: a turn needs nothing of what it reads, and each leaves fewer to come.
 -- Assumes nothing.
 use Prim.Native.Nat.{◌-◌}
-use native.Mathlib.Omega.{arith}
 use Rattle.trial_run.proofs.notes.repeats.Given as goal
 
 abbrev pub invariant-loop-place : goal.invariant-loop-place

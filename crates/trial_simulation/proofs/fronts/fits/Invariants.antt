@@ -1,7 +1,6 @@
 -- Proves that `fits`, which tests a column's rows against a front, is safe: a turn needs nothing of what it reads, and each leaves fewer to come.
 -- Assumes nothing.
 use Prim.Native.Nat.{◌-◌}
-use native.Mathlib.Omega.{arith}
 use Rattle.trial_simulation.proofs.fronts.fits.Given as goal
 
 abbrev pub invariant-loop-place : goal.invariant-loop-place

@@ -1,7 +1,6 @@
 -- Proves that `in_front`, which looks for a row in a front, is safe: a turn needs nothing of what it reads, and each leaves fewer to come.
 -- Assumes nothing.
 use Prim.Native.Nat.{◌-◌}
-use native.Mathlib.Omega.{arith}
 use Rattle.trial_simulation.proofs.fronts.in_front.Given as goal
 
 abbrev pub invariant-loop-place : goal.invariant-loop-place

@@ -2,8 +2,6 @@
 -- turn leaves fewer to come.
 -- Assumes nothing.
 use Prim.Native.Nat.{◌-◌}
-use native.Mathlib.Omega.{arith}
-use borrow.Author.Rules.{rules}
 use Rattle.trial_simulation.proofs.lists.owner.Given as goal
 
 abbrev pub invariant-loop-j : goal.invariant-loop-j

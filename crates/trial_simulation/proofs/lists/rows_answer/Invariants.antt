@@ -1,7 +1,6 @@
 -- Proves that `rows_answer`, which finds the first row at fault, is safe: a turn needs nothing of what it reads, and each leaves fewer to come.
 -- Assumes nothing.
 use Prim.Native.Nat.{◌-◌}
-use native.Mathlib.Omega.{arith}
 use Rattle.trial_simulation.proofs.lists.rows_answer.Given as goal
 
 abbrev pub invariant-loop-place : goal.invariant-loop-place

@@ -2,8 +2,6 @@
 -- it reads. Each turn leaves fewer to come.
 -- Assumes nothing.
 use Prim.Native.Nat.{◌-◌}
-use native.Mathlib.Omega.{arith}
-use borrow.Author.Rules.{rules}
 use Rattle.trial_simulation.proofs.steps.all_fit.Given as goal
 
 abbrev pub invariant-loop-k : goal.invariant-loop-k
