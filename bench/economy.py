@@ -1,9 +1,12 @@
 #!/usr/bin/env python3
-"""Lines of code, definitions and proof of each crate, the edits that must be refused, and how long its check took in a run of the gate.
-usage: .ci/run 2>&1 | tee LOG, or rt ci >LOG 2>&1; then bench/economy.py LOG | bench/refresh.py"""
+"""Lines of code, definitions and proof of each crate, the edits that must be refused, and how long its check took in a run of the gate from nothing.
+usage: RT_JOBS=1 rt ci --anew 2>&1 | tee LOG | bench/economy.py | bench/refresh.py
+The gate prints no times, so they are taken here, as its lines come: a check took as long as it is since the check before it ended. So the gate must do one
+crate after another, as RT_JOBS=1 has it."""
 import pathlib
 import re
 import sys
+import time
 
 root = pathlib.Path(__file__).resolve().parent.parent
 
@@ -22,12 +25,16 @@ def lines(folder, *ends):
 def crates():
     for line in (root / "crates.txt").read_text().splitlines():
         if line.strip() and not line.startswith("#"):
-            yield line.split(":")[0]
+            yield line.split(":")[0].split()[0]
 
 
-seconds = {}
-for match in re.finditer(r"^rt: (\S+) proved \((\d+) s\)", pathlib.Path(sys.argv[1]).read_text(), re.M):
-    seconds[match[1]] = int(match[2])
+seconds, before = {}, time.monotonic()
+for line in sys.stdin:
+    match = re.match(r"rt: (\w+)( proved| NOT PROVED|: its tests are )", line)
+    if match:
+        if match[2] == " proved":
+            seconds[match[1]] = round(time.monotonic() - before)
+        before = time.monotonic()
 
 print("<!-- figures: economy -->\n")
 print("| crate | code | definitions | proof | edits | check, seconds |")

@@ -6,9 +6,9 @@ set -euo pipefail
 mkdir -p "$1/jobs" "$1/deb"
 out=$(cd "$1" && pwd -P)
 cd "$(dirname "${BASH_SOURCE[0]}")"
-unpacked() { # PACKAGE: its files under OUT/deb/PACKAGE
+unpacked() { # PACKAGE: its files under OUT/deb/PACKAGE, without links, since the gate refuses a checkout with links in it
     [ -d "$out/deb/$1" ] && return
-    (cd "$out/deb" && apt-get -qq download "$1" >&2 && dpkg -x "$1"_*.deb "$1.part" && mv "$1.part" "$1") || { echo "fetch_real: no package $1" >&2; return 1; }
+    (cd "$out/deb" && apt-get -qq download "$1" >&2 && dpkg -x "$1"_*.deb "$1.part" && find "$1.part" -type l -delete && mv "$1.part" "$1") || { echo "fetch_real: no package $1" >&2; return 1; }
 }
 pattern() { # NAME FILE DOF
     [ -s "$out/jobs/$1.job" ] || { python3 pattern.py "$2" "$3" >"$out/jobs/$1.part" && mv "$out/jobs/$1.part" "$out/jobs/$1.job"; }

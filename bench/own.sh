@@ -1,11 +1,13 @@
 #!/usr/bin/env bash
-# Leaves OUT/CRATE.o, this machine's own code of a proved crate, made anew if a source of any crate has changed. usage: bench/own.sh OUT CRATE
+# Leaves OUT/NAME.o, this machine's own code of what the archive libNAME.a has (../c/archive.sh), made anew if a source of any crate has changed.
+# usage: bench/own.sh OUT c_api|solver
 set -euo pipefail
 mkdir -p "$1"
-out=$(cd "$1" && pwd -P) crate=$2
+out=$(cd "$1" && pwd -P) name=$2 crate=$2
+[ "$name" != solver ] || crate=solver_c
 cd "$(dirname "${BASH_SOURCE[0]}")/.."
 sum=$(find crates/*/src -type f | LC_ALL=C sort | xargs sha256sum | sha256sum)
-[ -s "$out/$crate.o" ] && [ "$(cat "$out/$crate.sum" 2>/dev/null)" = "$sum" ] && exit
-bench/harness.sh build . "$crate" "$out/build-$crate" >"$out/$crate.log" 2>&1 || { tail -20 "$out/$crate.log" >&2; exit 1; }
-cp "$out/build-$crate/$crate.o" "$out/$crate.o"
-echo "$sum" >"$out/$crate.sum"
+[ -s "$out/$name.o" ] && [ "$(cat "$out/$name.sum" 2>/dev/null)" = "$sum" ] && exit
+bench/harness.sh build . "$crate" "$out/build-$name" >"$out/$name.log" 2>&1 || { tail -20 "$out/$name.log" >&2; exit 1; }
+cp "$out/build-$name/$crate.o" "$out/$name.o"
+echo "$sum" >"$out/$name.sum"

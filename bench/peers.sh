@@ -4,7 +4,7 @@
 # larger real patterns are taken out of Debian packages that are downloaded into OUT and not installed: libspooles-dev pulls in an MPI that conflicts elsewhere.
 . "$(dirname "${BASH_SOURCE[0]}")/ready.sh"
 spooles=$out/deb/libspooles-dev
-[ -d "$spooles" ] || (cd "$out/deb" && apt-get -qq download libspooles-dev >&2 && dpkg -x libspooles-dev_*.deb "$spooles")
+[ -d "$spooles" ] || (cd "$out/deb" && apt-get -qq download libspooles-dev >&2 && dpkg -x libspooles-dev_*.deb "$spooles" && find "$spooles" -type l -delete)
 gcc -O2 -Wall -Wextra -I/usr/include/suitesparse -I"$spooles/usr/include" -I"$spooles/usr/include/spooles" -o "$out/peers" \
     peers.c ref_analyse.c "$out/c_api.o" "$(find "$spooles" -name libspooles.a)" -lcholmod -lcxsparse -lm -lpthread
 list=$out/peers.list

@@ -56,6 +56,6 @@ $(FARM)farm-tried: $(FARM_NEEDS) $(FARM_LIBRARY)
 	$(FARM_CC) $(FARM_SANITIZE) $(FARM_ORDERS) -o $@ $(FARM_SOURCE) $(FARM_LINK)
 
 $(FARM_ARCHIVES): $(FARM_ROOT)target/staticlib/lib%.a: $(wildcard $(FARM_ROOT)crates/*/src/*.rt)
-	cd $(FARM_ROOT) && rt staticlib $*
+	$(FARM)archive.sh $*
 
 .PHONY: farm-all farm-test farm-clean

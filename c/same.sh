@@ -1,6 +1,6 @@
 #!/bin/sh
 # Whether this machine's own code of the proved crates answers as the kit's x86-64 archives do: same.c is linked with each, and both programs must print
-# the same, byte for byte. Where this machine is not an x86-64 one, the second runs under the kit's emulator. usage: same.sh LIBRARY ARCHIVE...
+# the same, byte for byte. Where this machine is not an x86-64 one, the second runs under Debian's qemu-user. usage: same.sh LIBRARY ARCHIVE...
 # The paths are seen from this folder. SAME has the seed and the number of jobs.
 set -eu
 cd "$(dirname "$0")"
@@ -12,10 +12,9 @@ fail() { echo "same: $*" >&2; exit 1; }
 skip() { echo "same: skipped, $*"; exit 0; }
 
 if [ "$machine" != x86_64 ]; then
-    kit=${RATTLE_KIT:-$(dirname "$(dirname "$(rt doc)")")}
-    cross=x86_64-linux-gnu-gcc static=-static emulator=$kit/on/$machine/toolchain/bin/qemu-x86_64
+    cross=x86_64-linux-gnu-gcc static=-static emulator=qemu-x86_64
     command -v "$cross" >/dev/null || skip "$cross is missing"
-    [ -x "$emulator" ] || skip "the emulator $emulator is missing"
+    command -v "$emulator" >/dev/null || skip "the emulator $emulator is missing"
     for word in $(env | sed -n 's/^\(QEMU_[A-Za-z0-9_]*\)=.*/\1/p'); do unset "$word"; done
 fi
 work=$(mktemp -d)

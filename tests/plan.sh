@@ -12,52 +12,56 @@ passed=0 failed=0
 # ---- The fake kit
 
 checkout=$work/checkout kit=$work/kit
-mkdir -p "$checkout/docs" "$kit/bin" "$kit/docs" "$kit/on/$(uname -m)/toolchain/lib" "$work/tmp"
+mkdir -p "$checkout/docs" "$kit/bin" "$work/tmp"
 cp "$root/plan" "$root/crates.txt" "$checkout"
 cp "$root/docs/REFUSALS.md" "$checkout/docs"
 chmod 777 "$work/tmp"
 cat >"$kit/bin/rt" <<'RT'
 #!/usr/bin/env bash
-# rt check plan: says the lines of the file `said` beside the kit; `sleep N` waits, and `status N` ends.
+# rt run, in crates/plan: says on standard error the lines of the file `said` beside the kit; `sleep N` waits, `build` leaves the program, and `status N`
+# ends. What a true run prints of the program goes to standard output.
 kit=$(cd "$(dirname "$0")/.." && pwd -P)
-case $1 in
-doc) echo "$kit/docs/START-HERE.md" ;;
-check)
-    [ "$2" = plan ] && [ -f crates.txt ] || exit 2
-    while IFS= read -r line; do
-        case $line in
-        'sleep '*) sleep "${line#sleep }" ;;
-        'status '*) exit "${line#status }" ;;
-        'build') : >target/bin/plan ;;
-        *) printf '%s\n' "$line" ;;
-        esac
-    done <"$kit/said"
-    ;;
-*) exit 2 ;;
-esac
+[ "$*" = run ] && [ -f ../../crates.txt ] && [ "$(basename "$PWD")" = plan ] || exit 2
+while IFS= read -r line; do
+    case $line in
+    'sleep '*) sleep "${line#sleep }" ;;
+    'status '*) exit "${line#status }" ;;
+    'build') cp "$kit/program" out/plan ;;
+    'rt: running '*) printf '%s\n' "$line" >&2 && echo 'refused 25 1 0' ;;
+    *) printf '%s\n' "$line" >&2 ;;
+    esac
+done <"$kit/said"
 RT
-# The loader runs no program: it prints what the file `answer` has, and keeps the input.
-cat >"$kit/on/$(uname -m)/toolchain/lib/ld-linux-x86-64.so.2" <<'LOADER'
+# The program: it prints what the file `answer` has, and keeps the input.
+cat >"$kit/program" <<PROGRAM
 #!/usr/bin/env bash
-kit=$(cd "$(dirname "$0")/../../../.." && pwd -P)
+kit='$kit'
+PROGRAM
+cat >>"$kit/program" <<'PROGRAM'
 cat >"$kit/input"
 cat "$kit/answer"
 exit "$(cat "$kit/ends")"
-LOADER
-chmod 755 "$kit/bin/rt" "$kit/on/$(uname -m)/toolchain/lib/ld-linux-x86-64.so.2"
+PROGRAM
+chmod 755 "$kit/bin/rt" "$kit/program"
 : >"$kit/input"
 chmod 666 "$kit/input"
 echo 0 >"$kit/ends"
-quiet='rt: papers proved (unchanged since it was last proved)
-rt: plan proved (unchanged since it was last proved)
-rt: ok, 2 crates proved'
+runs='rt: running out/plan; to give it other input, run that file yourself'
+quiet="rt: nothing has changed since the last proved build, by out/plan.stamp, so nothing is checked now
+$runs"
+
+# What rt says of a crate that it proved: its name and how many functions it has.
+proved() {
+    printf 'rt: chose --jobs 2 for %s\nfn %s::f: proved\nlogic antt-project.json: libraries=16 files=2756 sum=0\n' "$1" "$1"
+    printf 'statements std: modules loaded=5 checked=0\ncrate %s: modules loaded=0 checked=40\nlogic=proved functions=%s sum=0\n' "$1" "$2"
+}
 
 with_kit=$kit/bin:$PATH
 without=$(printf %s "$PATH" | tr : '\n' | while IFS= read -r folder; do [ -x "$folder/rt" ] || printf %s: "$folder"; done)
 without=${without%:}
 export PATH=$with_kit TMPDIR=$work/tmp
 plan=$checkout/plan
-crates=$(awk '{ sub(/#.*/, "") } /:/ { i = index($0, ":"); uses[substr($0, 1, i - 1)] = substr($0, i + 1) }
+crates=$(awk '{ sub(/#.*/, "") } /:/ { i = index($0, ":"); split(substr($0, 1, i - 1), w, " "); uses[w[1]] = substr($0, i + 1) }
     END { want = " plan "; do { was = want; m = split(want, a, " ")
         for (k = 1; k <= m; k++) { c = split(uses[a[k]], b, " ")
             for (j = 1; j <= c; j++) if (b[j] in uses && !index(want, " " b[j] " ")) want = want b[j] " " } } while (want != was)
@@ -75,7 +79,7 @@ run() {
 answers() {
     printf '%s' "$1" >"$kit/answer"
     printf '%s\n' "$quiet" >"$kit/said"
-    : >"$checkout/target/bin/plan"
+    cp "$kit/program" "$checkout/crates/plan/out/plan"
 }
 
 # NAME STATUS OUT ERR: ERR is a pattern for the whole of standard error.
@@ -103,7 +107,7 @@ verdict() {
 }
 
 nl=$'\n'
-mkdir -p "$checkout/target/bin"
+mkdir -p "$checkout/crates/plan/out"
 nine=$root/examples/nine.job
 listing=$(cat "$root/crates/plan/stdout")$nl
 
@@ -186,44 +190,45 @@ PATH=$without run "$plan" "$nine"
 expect 'no kit' 2 '' 'plan: the kit is not here: there is no command rt on the PATH*'"$nl"
 chmod -R a-w "$checkout"
 run "${nobody[@]}" "$plan" "$nine"
-expect 'a checkout that cannot be written, built' 2 '' "plan: $checkout/target* cannot be written, *$nl"
+expect 'a checkout that cannot be written, built' 2 '' "plan: $checkout/crates/*/out cannot be written, *$nl"
 chmod -R u+w "$checkout"
-rm -rf "$checkout/target"
+rm -rf "$checkout/crates"
 chmod a-w "$checkout"
 run "${nobody[@]}" "$plan" "$nine"
-expect 'a checkout that cannot be written, fresh' 2 '' "plan: $checkout/target cannot be written, *$nl"
+expect 'a checkout that cannot be written, fresh' 2 '' "plan: $checkout/crates/*/out cannot be written, *$nl"
 chmod u+w "$checkout"
-: >"$checkout/target"
+mkdir -p "$checkout/crates/plan"
+: >"$checkout/crates/plan/out"
 run "$plan" "$nine"
-expect 'target is a file' 2 '' "plan: $checkout/target cannot be written, *$nl"
-rm "$checkout/target"
+expect 'out is a file' 2 '' "plan: $checkout/crates/plan/out cannot be written, *$nl"
+rm "$checkout/crates/plan/out"
 TMPDIR=$work/none run "$plan" "$nine"
 expect 'no temporary folder' 2 '' "plan: no temporary folder can be made in $work/none$nl"
 
 # ---- The first run
 
-cat >"$kit/said" <<'SAID'
-fn papers::f: proved
-rt: papers proved (1 s)
-sleep 1.2
-fn list_laws::f: proved
-rt: list_laws proved (2 s)
-rt: fill_laws proved (unchanged since it was last proved)
-sleep 1.2
-rt: plan proved (3 s)
-build
-rt: plan ran as nobody, and wrote what its file 'stdout' has (0 s)
-rt: ok, 4 crates proved
-SAID
+# What order_laws uses was built before, but for papers and list_laws: rt says nothing of it.
+{
+    printf 'statements std: modules loaded=0 checked=0\nonly=0 proved=0\n'
+    proved papers 0
+    echo 'sleep 1.2'
+    proved list_laws 0
+    proved order_laws 0
+    echo 'sleep 1.2'
+    proved plan 3
+    echo 'linked target=x86_64-unknown-linux-gnu loader=/lib64/ld-linux-x86-64.so.2 files=out/plan.o'
+    echo 'build'
+    echo "$runs"
+} >"$kit/said"
 printf %s "$listing" >"$kit/answer"
 cp "$kit/said" "$work/first"
-rm -rf "$checkout/target"
+rm -rf "$checkout/crates"
 run "$plan" "$nine"
 p='plan: proving the listing program:' q="of $crates crates proved after [0-9] s (the first run takes about * minutes)$nl"
-expect 'the first run says how far it is, line by line' 0 "$listing" "$p 0 $q$p 1 $q*$p 4 $q"
+expect 'the first run says how far it is, line by line' 0 "$listing" "$p 0 $q$p 1 $q*$p 4 $q*$p $crates $q"
 verdict 'no control character if standard error is no terminal' "$(tr -d '\n' <"$work/err" | grep -q '[[:cntrl:]]' && echo ' there is one')"
 if type -P script >/dev/null; then
-    rm -rf "$checkout/target"
+    rm -rf "$checkout/crates"
     TERM=xterm script -qec "'$plan' '$nine' >'$work/out'" /dev/null </dev/null >"$work/screen" 2>&1
     status=$?
     : >"$work/err"
@@ -234,23 +239,32 @@ else
     echo 'not tried, for there is no command script: the first run on a terminal'
 fi
 answers "$listing"
-sed -i '2s/.*/rt: plan proved (7 s)/' "$kit/said"
+{
+    proved plan 3
+    echo "$runs"
+} >"$kit/said"
 run "$plan" "$nine"
-expect 'a run after an edit says it too' 0 "$listing" "$p 2 $q"
-cat >"$kit/said" <<'SAID'
-fn papers::f: proved
-rt: papers proved (1 s)
-crates/list_laws/src/lib.rt:1:1: error
-rt: list_laws NOT PROVED (exit 1, 2 s)
-rt: plan NOT PROVED: its dependency list_laws is not proved
-rt: FAILED: list_laws plan
-status 1
-SAID
+expect 'a run after an edit says it too' 0 "$listing" "$p $crates $q"
+{
+    proved papers 0
+    echo 'rt: chose --jobs 2 for list_laws'
+    echo 'crates/list_laws/src/lib.rt:1:1: error'
+    echo 'fn list_laws::f: not proved'
+    echo 'fn list_laws::g: proved'
+    printf 'statements std: modules loaded=5 checked=0\ncrate list_laws: modules loaded=0 checked=40\nlogic=not-proved\n'
+    echo 'rattle build: nothing was built, since only a proved crate is built'
+    echo 'rt: the library list_laws did not build, so nothing above it was checked'
+    echo 'status 1'
+} >"$kit/said"
 run "$plan" "$nine"
-expect 'a crate that is not proved' 2 '' "$p 1 ${q}crates/list_laws/src/lib.rt:1:1: error${nl}rt: list_laws NOT PROVED*${nl}rt: FAILED: list_laws plan${nl}plan: the program is not run: *status 1)$nl"
+faults="crates/list_laws/src/lib.rt:1:1: error${nl}fn list_laws::f: not proved${nl}rattle build: *${nl}rt: the library list_laws did not build, *$nl"
+expect 'a crate that is not proved' 2 '' "$p 1 $q${faults}plan: the program is not run: *status 1)$nl"
 printf 'rt: no toolchain for this machine\nstatus 2\n' >"$kit/said"
 run "$plan" "$nine"
 expect 'a kit that fails' 2 '' "rt: no toolchain for this machine${nl}plan: the program is not run: *status 2)$nl"
+printf '%s\nstatus 3\n' "$quiet" >"$kit/said"
+run "$plan" "$nine"
+expect 'the program is proved and built, however it ends on no text' 0 "$listing" ''
 answers ''
 run "$plan" "$nine"
 expect 'a program without an answer' 2 '' "plan: the program ended with status 0, and without an answer to rely on$nl"
@@ -336,7 +350,7 @@ fi
 # ---- The true program
 
 export PATH=${PATH#"$kit/bin:"}
-if type -P rt >/dev/null && [ -e "$root/target/bin/plan" ] && [ -w "$root/target" ]; then
+if type -P rt >/dev/null && [ -e "$root/crates/plan/out/plan" ] && [ -w "$root/crates/plan/out" ]; then
     plan=$root/plan
     answers() { :; }
     run "$plan" "$nine"

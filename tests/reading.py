@@ -15,9 +15,9 @@ HEADINGS = ("Definitions and laws, without code:", "Code:", "Trials, which use t
 
 
 def crates():
-    """What each crate uses."""
+    """What each crate uses. Before the colon a static library says that it is one."""
     lines = (line.split("#")[0].strip() for line in (ROOT / "crates.txt").read_text().splitlines())
-    return {name.strip(): uses.split() for name, uses in (line.split(":") for line in lines if ":" in line)}
+    return {words.split()[0]: uses.split() for words, uses in (line.split(":") for line in lines if ":" in line)}
 
 
 def pictures(text):
