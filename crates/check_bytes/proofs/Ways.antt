@@ -109,5 +109,6 @@ module _ {job : Job} {bytes : List ℕ} {lent : Lent} {parents order pops starts
           → EndsAs r (six_slices parents order pops starts rows work) (checked job bytes lent)
       go (refuses p q n) = absurd (n z)
       go (passes p q n h) =
-          (λ i. record { answered = r; lent = six_slices parents order pops starts rows (e i) }) ∙ h ∙ sym (outcome-done check_early check_late check_done all_zero
+          (λ i. record { answered = r; lent = six_slices parents order pops starts rows (e i) }) ∙ h
+          ∙ sym (outcome-done check_early check_late check_done all_zero
           (check_of job bytes lent) lent p q)

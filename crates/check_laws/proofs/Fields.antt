@@ -43,7 +43,8 @@ module _ (n : ℕ) (s : List ℕ) where
   abbrev Stuck : Field → ℕ → Type 0
   Stuck y to = (v mid : ℕ) → y ≢ nothing → number_at y to ≡ got v mid → ⊥
 
-  leads-once : {y : Field} {to : ℕ} {z : Field} {end : ℕ} {x : Field} {at : ℕ} → Leads y to x at → Stuck y to → Leads z end x at → Stuck z end → (y ≡ z) × (to ≡ end)
+  leads-once : {y : Field} {to : ℕ} {z : Field} {end : ℕ} {x : Field} {at : ℕ} → Leads y to x at → Stuck y to → Leads z end x at → Stuck z end
+      → (y ≡ z) × (to ≡ end)
   leads-once stay p stay q = (refl, refl)
   leads-once stay p (on h e l) q = absurd (p _ _ h e)
   leads-once (on h e l) p stay q = absurd (q _ _ h e)

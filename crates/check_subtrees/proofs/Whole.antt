@@ -82,6 +82,7 @@ module _ {parents order work : List ℕ} (given : OrderGiven parents order work)
       pub stray-asked : Placed parents (take m both) (part m (m + m) both)
       stray-asked = rw (at-start, back) (placed stepped counts start-length back-length)
 
-      pub stray-found : {r : ℕ} → r ≡ earliest (stray_step_of (parent_in parents) (number_for (take m both)) (number_for (part m (m + m) both))) (length parents)
+      pub stray-found : {r : ℕ} → r ≡ earliest (stray_step_of (parent_in parents) (number_for (take m both)) (number_for (part m (m + m) both)))
+          (length parents)
           → r ≡ least (scattered (parent_in parents) (length parents) order) (length parents)
       stray-found e = e ∙ rw (at-start, back) (stray-least (listing stepped counts))

@@ -43,7 +43,8 @@ module _ {n : ℕ} {starts : List ℕ} {done : ℕ} (r : Rising n starts done) w
   pub fall : (rows : List ℕ) → done < n → get_or starts (done + 1) 0 < get_or starts done 0
       → starts_test n starts rows ≡ refused (answer 4 (done + 1) 0)
   fall rows l h =
-      let f : falls_at_place starts (suc done) ≡ true = rw (falls_at starts done, ← add-one done) (lt-ltb (get_or starts (done + 1) 0) (get_or starts done 0) h) in
+      let f : falls_at_place starts (suc done) ≡ true = rw (falls_at starts done, ← add-one done)
+      (lt-ltb (get_or starts (done + 1) 0) (get_or starts done 0) h) in
       rw add-one (starts-fall n starts rows r.long r.from_zero done (least-here (falls_at_place starts) done n r.none f (omega arith)))
 
   module _ (rows : List ℕ) (l : n ≤ done) where

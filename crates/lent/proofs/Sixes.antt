@@ -7,7 +7,8 @@ use Rattle.papers.specs.Lists.{zeros}
 use Rattle.papers.specs.Analysis.{Lent, all_zero}
 use Rattle.lent.specs.Six.{six_slices}
 
-pub sixes : {p p' o o' q q' s s' r r' w w' : List ℕ} → p ≡ p' → o ≡ o' → q ≡ q' → s ≡ s' → r ≡ r' → w ≡ w' → six_slices p o q s r w ≡ six_slices p' o' q' s' r' w'
+pub sixes : {p p' o o' q q' s s' r r' w w' : List ℕ} → p ≡ p' → o ≡ o' → q ≡ q' → s ≡ s' → r ≡ r' → w ≡ w'
+    → six_slices p o q s r w ≡ six_slices p' o' q' s' r' w'
 sixes a b c d e f i = six_slices (a i) (b i) (c i) (d i) (e i) (f i)
 
 pub all-cleared : (p o q s r w : List ℕ) {p' o' q' s' r' w' : List ℕ} → p' ≡ zeros p → o' ≡ zeros o → q' ≡ zeros q → s' ≡ zeros s → r' ≡ zeros r

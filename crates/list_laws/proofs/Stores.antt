@@ -78,7 +78,8 @@ unfolding flat
 flat-more a l = flat_append a (l ∷ []) ∙ ap (λ (k : List ℕ). flat a ++ k) (append-nil l)
 
 -- the next list begins where the last one ends
-pub starts_more : (t : ℕ) (a : List (List ℕ)) (l : List ℕ) → starts_counted_from t (a ++ (l ∷ [])) ≡ starts_counted_from t a ++ ((t + length (flat a) + length l) ∷ [])
+pub starts_more : (t : ℕ) (a : List (List ℕ)) (l : List ℕ) → starts_counted_from t (a ++ (l ∷ [])) ≡ starts_counted_from t a
+    ++ ((t + length (flat a) + length l) ∷ [])
 unfolding starts_counted_from flat
 starts_more t [] l = let e : t + 0 + length l ≡ t + length l = omega arith in rw e
 starts_more t (k ∷ a) l =
@@ -92,7 +93,8 @@ length-starts t [] = refl
 length-starts t (k ∷ a) = let i = length-starts (t + length k) a in omega arith
 
 -- a first start of 0 may be stored before the others: they are stored over it
-pub starts-again : (starts : List ℕ) (lists : List (List ℕ)) → sets (set starts 0 0) 0 (starts_counted_from 0 lists) ≡ sets starts 0 (starts_counted_from 0 lists)
+pub starts-again : (starts : List ℕ) (lists : List (List ℕ)) → sets (set starts 0 0) 0 (starts_counted_from 0 lists)
+    ≡ sets starts 0 (starts_counted_from 0 lists)
 unfolding starts_counted_from
 starts-again starts [] = set-set starts 0 0 0
 starts-again starts (l ∷ lists) = ap (λ (s : List ℕ). sets s 1 (starts_counted_from (0 + length l) lists)) (set-set starts 0 0 0)

@@ -85,7 +85,8 @@ module _ {n : ℕ} {A : Pattern} (good : Below n A) where
   pub same-pops : child_count_in (parents_of n A) ≡ pops_of n A
   same-pops i j = length (same-kids i j)
 
-  pub same-peak : (mark : ℕ) → peak_of (row_count_in (starts_of n A)) (child_count_in (parents_of n A)) (order_in mark (parents_of n A) (starts_of n A)) ≡ order_peak n A
+  pub same-peak : (mark : ℕ) → peak_of (row_count_in (starts_of n A)) (child_count_in (parents_of n A))
+      (order_in mark (parents_of n A) (starts_of n A)) ≡ order_peak n A
       (order_of mark n A)
   unfolding order_peak
   same-peak mark i = peak_of (same_rows i) (same-pops i) (same-order mark i)

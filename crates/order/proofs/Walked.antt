@@ -84,7 +84,8 @@ module _ {mark : ℕ} {parents factor starts list counts : List ℕ} (lying : Li
   unfolding blocks
   steps-are =
       ap (flat_map (block_of (kids_at starts list))) lying.roots
-      ∙ flat_map-same (block_of (kids_at starts list)) (subtree_steps_in mark parents factor) (kids 0) (λ c m. let (l, u, e) = (children-are (parent_in parents) n 0
+      ∙ flat_map-same (block_of (kids_at starts list)) (subtree_steps_in mark parents factor) (kids 0)
+      (λ c m. let (l, u, e) = (children-are (parent_in parents) n 0
       c).0 m in own-steps c l u)
 
   -- what the walk requires

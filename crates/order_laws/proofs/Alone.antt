@@ -90,7 +90,8 @@ module _ (mark : ℕ) (size : ℕ → ℕ) (kids : ℕ → List ℕ) (kin : Kin 
   Deep f = (j : ℕ) → 0 < j → j ≤ f → DoneAlone size pops j (steps f j)
 
   children-done : (f j : ℕ) (entries : List ℕ) → Deep f → 0 < j → j ≤ suc f
-      → Enough size pops entries (flat_map (steps f) (arranged_kids f j)) × (entries_after_all size pops entries (flat_map (steps f) (arranged_kids f j)) ≡ stacked
+      → Enough size pops entries (flat_map (steps f) (arranged_kids f j))
+      × (entries_after_all size pops entries (flat_map (steps f) (arranged_kids f j)) ≡ stacked
       size (arranged_kids f j) entries)
   children-done f j entries deep l u =
       siblings-in-turn f (arranged_kids f j) entries
@@ -108,7 +109,8 @@ module _ (mark : ℕ) (size : ℕ → ℕ) (kids : ℕ → List ℕ) (kin : Kin 
   children-entries f j entries l u = (children-done f j entries (steps-alone f) l u).1
 
   -- above what is held, a subtree leaves one more update
-  pub steps-entries : (f j : ℕ) (entries : List ℕ) → 0 < j → j ≤ f → entries_after_all size pops entries (steps_of mark size kids f j) ≡ leaves (size j) ++ entries
+  pub steps-entries : (f j : ℕ) (entries : List ℕ) → 0 < j → j ≤ f
+      → entries_after_all size pops entries (steps_of mark size kids f j) ≡ leaves (size j) ++ entries
   steps-entries f j entries l u = let a = steps-alone f j l u in entries-above size pops (steps f j) [] entries a.enough ∙ ap (λ q. q ++ entries) a.left
 
   -- above what is held, a subtree uses the room that it uses alone

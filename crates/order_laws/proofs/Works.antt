@@ -53,7 +53,8 @@ module _ {n : ℕ} {A : Pattern} (below : Below n A) where
     subtree-children = deeper ∙ steps-suc mark (row_count A) (children_of n A) n j
 
     -- W(j): the children need theirs in turn, each above the updates of the earlier ones; then the front is put over the last update
-    pub W-children : W mark n A j ≡ max (in_turn (row_count A) (W mark n A) 0 (siblings_of mark n A j)) (update_but_last (row_count A) (siblings_of mark n A j) + t
+    pub W-children : W mark n A j ≡ max (in_turn (row_count A) (W mark n A) 0 (siblings_of mark n A j))
+        (update_but_last (row_count A) (siblings_of mark n A j) + t
         (suc (row_count A j)))
     unfolding siblings_of W arranged alone
     W-children = ap (peak_of (row_count A) (pops_of n A)) deeper ∙ need-children mark (row_count A) (children_of n A) kin-of n j l (omega arith)

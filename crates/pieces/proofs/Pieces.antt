@@ -60,15 +60,16 @@ same_answer : Answer → Answer → Bool
 same_answer a b = eqb a.number b.number && eqb a.place b.place && eqb a.count b.count
 
 pub holds : Piece → Bool
-unfolding lent_for same_answer flat_map up_to head0 member same every keep sum largest merge insert sort least flat starts_counted_from then_zeros groups_of
-    bytes_of encode over last_group read_from number_read_from start column_of gather lists R parent t children is_under subtree_of top_update front_room room_at
-    entries_after rooms peak_of column_at_step sibling_key_of alone arranged steps_of order_of order_peak gaps_of list_numbers lists_numbers lists_of key_numbers
-    key_of plan_for plan_of step_numbers plan_numbers bytes_of_plan then onto within_field field step_read_from steps_read_from rows_read_from list_read_from lists_read_from at_end plan_read_from
-    first refused_if refused_at fault_test outcome falls_at_place fault_of_row fault_of_rows column_fault job_refusals all_zero some_short
-    early_refusals holding_plan analysis_early analysis_late analysis_done analysed plan_early plan_late plan_done plan_zero plan_written differs_at plan_read
-    read_test repeated_at scattered true_peak_of judge_refusals plan_test plan_refusals check_early check_late check_done checked rooms_of is_decimal_digit starting_with
-    cut after_lines on_word words_of is_decimal_number all_decimal value_of numbers_of numbers_at head_of rows_of_line is_row_line head_of_text text_lists text_job
-    line_fault text_refusals digits_of decimal_of printed refusal_line step_lines listing_of buffers job_printed program_prints
+unfolding lent_for same_answer flat_map up_to head0 member same every keep sum largest merge insert sort least flat starts_counted_from then_zeros
+    groups_of bytes_of encode over last_group read_from number_read_from start column_of gather lists R parent t children is_under subtree_of
+    top_update front_room room_at entries_after rooms peak_of column_at_step sibling_key_of alone arranged steps_of order_of order_peak gaps_of
+    list_numbers lists_numbers lists_of key_numbers key_of plan_for plan_of step_numbers plan_numbers bytes_of_plan then onto within_field field
+    step_read_from steps_read_from rows_read_from list_read_from lists_read_from at_end plan_read_from first refused_if refused_at fault_test
+    outcome falls_at_place fault_of_row fault_of_rows column_fault job_refusals all_zero some_short early_refusals holding_plan analysis_early
+    analysis_late analysis_done analysed plan_early plan_late plan_done plan_zero plan_written differs_at plan_read read_test repeated_at scattered
+    true_peak_of judge_refusals plan_test plan_refusals check_early check_late check_done checked rooms_of is_decimal_digit starting_with cut
+    after_lines on_word words_of is_decimal_number all_decimal value_of numbers_of numbers_at head_of rows_of_line is_row_line head_of_text
+    text_lists text_job line_fault text_refusals digits_of decimal_of printed refusal_line step_lines listing_of buffers job_printed program_prints
 holds (number x bytes) = same (bytes_of x) bytes
 holds (analysis job a) = same_answer (analysed job (lent_for job.n)).answered a
 holds (order job columns) = same (analysed job (lent_for job.n)).lent.order columns

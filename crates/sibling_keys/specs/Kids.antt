@@ -16,7 +16,8 @@ key_at mark factor rooms j c = sibling_key_of mark (row_count_in factor j) (row_
 -- computes the W of column j from its children's, done in this order: each is above the updates of the earlier ones, and the front is over
 -- the update of the last
 abbrev pub need_at : List ℕ → List ℕ → List ℕ → ℕ → ℕ
-need_at factor rooms kids j = max (in_turn (row_count_in factor) (λ c. get_or rooms c 0) 0 kids) (update_but_last (row_count_in factor) kids + t (suc (row_count_in factor j)))
+need_at factor rooms kids j = max (in_turn (row_count_in factor) (λ c. get_or rooms c 0) 0 kids)
+    (update_but_last (row_count_in factor) kids + t (suc (row_count_in factor j)))
 
 -- column j and its children, whose W rooms holds; no W exceeds so many largest fronts
 pub record Kids (factor rooms kids : List ℕ) (j : ℕ) : Type 0 where

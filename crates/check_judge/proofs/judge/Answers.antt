@@ -21,13 +21,15 @@ use Rattle.check_judge.proofs.judge.Goals.{Else-column-ne0, Else-step-ne0}
 unrepeated : (c : Else-step-ne0) (plan : Plan)
     → PlanAtStart c.args.head.n plan c.args.peak c.args.order.now c.args.pops.now c.args.fstarts.now c.args.frows.now
     → column_repeated.test (plan_from (job_of c.args.head c.args.starts.now c.args.rows.now) plan) ≡ passed
-unrepeated c plan at-start = passes-16 (job_of c.args.head c.args.starts.now c.args.rows.now) plan at-start.stored c.first_repeat-step.ensures c.if-step-ne0.false
+unrepeated c plan at-start = passes-16 (job_of c.args.head c.args.starts.now c.args.rows.now) plan at-start.stored c.first_repeat-step.ensures
+    c.if-step-ne0.false
 
 right : (c : Else-column-ne0) (plan : Plan)
     → PlanAtStart c.args.head.n plan c.args.peak c.args.order.now c.args.pops.now c.args.fstarts.now c.args.frows.now
     → list_wrong.test (plan_from (job_of c.args.head c.args.starts.now c.args.rows.now) plan) ≡ passed
 right c plan at-start =
-    passes-17 (job_of c.args.head c.args.starts.now c.args.rows.now) c.requires.valid plan at-start (passes-16 (job_of c.args.head c.args.starts.now c.args.rows.now) plan at-start.stored c.first_repeat-step.ensures c.if-step-ne0.false)
+    passes-17 (job_of c.args.head c.args.starts.now c.args.rows.now) c.requires.valid plan at-start
+    (passes-16 (job_of c.args.head c.args.starts.now c.args.rows.now) plan at-start.stored c.first_repeat-step.ensures c.if-step-ne0.false)
     c.first_wrong_list-column.ensures.answers c.if-column-ne0.false
 
 pub slice_bounds-steps-end : goal.slice_bounds-steps-end
@@ -77,7 +79,8 @@ pub judge_tree-requires : goal.judge_tree-requires
 judge_tree-requires c =
     let pre = c.requires in
     let at-start = pre.plan.at-start in
-    tree-given _ pre.valid _ at-start (unrepeated (goal.at.judge_tree-requires c).Else-step-ne0 _ at-start) (right (goal.at.judge_tree-requires c).Else-column-ne0 _ at-start) c.args.parents.now refl
+    tree-given _ pre.valid _ at-start (unrepeated (goal.at.judge_tree-requires c).Else-step-ne0 _ at-start)
+    (right (goal.at.judge_tree-requires c).Else-column-ne0 _ at-start) c.args.parents.now refl
     (omega (arith, pre.long)) (c.first_wrong_list-column.ensures.stores c.if-column-ne0.false)
     (omega (arith, pre.long))
 
@@ -86,7 +89,8 @@ returns c =
     let pre = c.requires in
     let stored = c.first_wrong_list-column.ensures.stores c.if-column-ne0.false in
     record {
-      answers = λ plan at-start. left-to-tree _ pre.valid plan at-start (unrepeated (goal.at.returns c).Else-step-ne0 plan at-start) (right (goal.at.returns c).Else-column-ne0 plan at-start)
+      answers = λ plan at-start. left-to-tree _ pre.valid plan at-start (unrepeated (goal.at.returns c).Else-step-ne0 plan at-start)
+          (right (goal.at.returns c).Else-column-ne0 plan at-start)
           c.args.parents.now refl (omega (arith, pre.long)) stored c.judge_tree.ensures;
       stores = λ z. stored;
     }

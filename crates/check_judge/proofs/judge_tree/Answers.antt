@@ -46,12 +46,16 @@ first_wrong_pops-step-requires c =
 
 pub returns-then-step-ne0 : goal.returns-then-step-ne0
 returns-then-step-ne0 c =
-    λ job plan on. refuses-19 on (whole (goal.at.returns-then-step-ne0 c).Else-top-ne0 on) c.first_wrong_pops-step.ensures c.if-step-ne0.true c.answered-then-step-ne0.ensures
+    λ job plan on. refuses-19 on (whole (goal.at.returns-then-step-ne0 c).Else-top-ne0 on) c.first_wrong_pops-step.ensures c.if-step-ne0.true
+    c.answered-then-step-ne0.ensures
 
 pub peak-true_peak-requires : goal.peak-true_peak-requires
 peak-true_peak-requires c =
     let on = c.requires.plan.on in
-    record { stepped = stepped on (whole (goal.at.peak-true_peak-requires c).Else-top-ne0 on) (popped (goal.at.peak-true_peak-requires c).Else-step-ne0 on); room = omega (arith, as_long on) }
+    record {
+      stepped = stepped on (whole (goal.at.peak-true_peak-requires c).Else-top-ne0 on) (popped (goal.at.peak-true_peak-requires c).Else-step-ne0 on);
+      room = omega (arith, as_long on);
+    }
 
 pub returns-then-true_peak-peak : goal.returns-then-true_peak-peak
 returns-then-true_peak-peak c = λ job plan on.

@@ -55,11 +55,13 @@ pub returns-then-head-gt-MAX_COLUMNS : goal.returns-then-head-gt-MAX_COLUMNS
 returns-then-head-gt-MAX_COLUMNS c = answer-refused (columns-refuses _ c.if-head-gt-MAX_COLUMNS.true) c.answered.ensures
 
 pub returns-then-head-gt-MAX_MARK : goal.returns-then-head-gt-MAX_MARK
-returns-then-head-gt-MAX_MARK c = answer-refused (mark-refuses _ c.if-head-gt-MAX_COLUMNS.false c.if-head-gt-MAX_MARK.true) c.answered-then-head-gt-MAX_MARK.ensures
+returns-then-head-gt-MAX_MARK c = answer-refused (mark-refuses _ c.if-head-gt-MAX_COLUMNS.false c.if-head-gt-MAX_MARK.true)
+    c.answered-then-head-gt-MAX_MARK.ensures
 
 pub returns-then-head-gt-MAX_LIMIT : goal.returns-then-head-gt-MAX_LIMIT
 returns-then-head-gt-MAX_LIMIT c =
-    answer-refused (limit-refuses _ c.if-head-gt-MAX_COLUMNS.false c.if-head-gt-MAX_MARK.false c.if-head-gt-MAX_LIMIT.true) c.answered-then-head-gt-MAX_LIMIT.ensures
+    answer-refused (limit-refuses _ c.if-head-gt-MAX_COLUMNS.false c.if-head-gt-MAX_MARK.false c.if-head-gt-MAX_LIMIT.true)
+    c.answered-then-head-gt-MAX_LIMIT.ensures
 
 pub returns-then-fault-ne0 : goal.returns-then-fault-ne0
 returns-then-fault-ne0 c =

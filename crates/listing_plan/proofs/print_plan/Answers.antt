@@ -19,7 +19,8 @@ lines c =
     lines_to c.args.order.now c.args.pops.now c.args.fstarts.now c.args.frows.now (length c.args.order.now)
 
 pub write_header-first-requires : goal.write_header-first-requires
-write_header-first-requires c = first_fits (header (goal.at.write_header-first-requires c).Start) (lines (goal.at.write_header-first-requires c).Start) c.requires.fits
+write_header-first-requires c = first_fits (header (goal.at.write_header-first-requires c).Start)
+    (lines (goal.at.write_header-first-requires c).Start) c.requires.fits
 
 pub write_steps-requires : goal.write_steps-requires
 write_steps-requires c =

@@ -16,11 +16,13 @@ returns-then-not-is_decimal c =
 
 pub returns-then-text-end-eq32 : goal.returns-then-text-end-eq32
 returns-then-text-end-eq32 c =
-    before-space _ _ refl (number-here _ _ c.read_digits-digits.ensures (sym c.is_decimal.ensures ∙ c.if-not-is_decimal.false) c.if-text-end.false c.if-text-end-eq32.true)
+    before-space _ _ refl (number-here _ _ c.read_digits-digits.ensures (sym c.is_decimal.ensures ∙ c.if-not-is_decimal.false) c.if-text-end.false
+    c.if-text-end-eq32.true)
 
 pub returns-then-text-end-eq10 : goal.returns-then-text-end-eq10
 returns-then-text-end-eq10 c =
-    before-newline _ _ refl (number-here _ _ c.read_digits-digits.ensures (sym c.is_decimal.ensures ∙ c.if-not-is_decimal.false) c.if-text-end.false c.if-text-end-eq10.true)
+    before-newline _ _ refl (number-here _ _ c.read_digits-digits.ensures (sym c.is_decimal.ensures ∙ c.if-not-is_decimal.false) c.if-text-end.false
+    c.if-text-end-eq10.true)
 
 pub returns : goal.returns
 returns c =
