@@ -7,6 +7,14 @@ ghost use Rattle.papers.specs.Job.{job_of, job_refusals};
 
 use papers::{Answer, JobHead};
 
+// A job as code hands it on: its three numbers, and its starts and rows, which stay where they were lent.
+#[derive(Clone, Copy)]
+pub struct Job<'a> {
+    pub head: JobHead,
+    pub starts: &'a [u64],
+    pub rows: &'a [u32],
+}
+
 // Answers the first of 1 to 6 that refuses. Computes nothing from n before n is known to be within its bound.
 pub fn first_fault(head: JobHead, starts: &[u64], rows: &[u32]) -> Answer
     ensures { result ≡ answer_of (first job_refusals (job_of head starts.now rows.now)) }
