@@ -11,9 +11,9 @@ use lib.ListN.{length, drop, length-append, drop_of_length-le}
 use lib.Seq.{drop_at, drop-length}
 use borrow.Author.Tests.{ltb-false, le-ltb}
 use Rattle.papers.specs.Bounds.{max_groups}
-use Rattle.papers.specs.Numbers.{bytes_of, number_read_from, Read, got, bad, then, onto, within_field, field, Bytes}
-use Rattle.papers.specs.declared.Number.{Number}
-use Rattle.papers.specs.declared.Number.TheVariants.{Value, Ended, TooLong, NotShortest}
+use Rattle.papers.specs.Numbers.{bytes_of, number_read_from, Read, got, bad, then, onto, within_field, field, Bytes, Number}
+use Rattle.papers.specs.declared.NumberFault.TheVariants.{Ended, TooLong, NotShortest}
+use Rattle.std.specs.Prelude.{Ok, Err}
 use Rattle.bytes_laws.proofs.NumberReading.{stands-behind, read_back}
 use Rattle.bytes_laws.proofs.ShortestForm.{reads-inside, reads-shortest}
 
@@ -92,19 +92,19 @@ spans-to-end {s} w a h = a.form ∙ ap (λ (l : List ℕ). w ++ l) (drop_of_leng
 
 -- a field that was read: its number is in its range
 pub record Found (lo hi : ℕ) (s : List ℕ) (at v next : ℕ) : Type 0 where
-  pub number : number_read_from s at ≡ Value v next
+  pub number : number_read_from s at ≡ Ok (v, next)
   pub low : lo ≤ v
   pub high : v ≤ hi
   pub on : at < next
   pub inside : next ≤ length s
 
-in_field : (lo hi at : ℕ) (x : Number) (v next : ℕ) → within_field lo hi at x ≡ got v next → (x ≡ Value v next) × (lo ≤ v) × (v ≤ hi)
+in_field : (lo hi at : ℕ) (x : Number) (v next : ℕ) → within_field lo hi at x ≡ got v next → (x ≡ Ok (v, next)) × (lo ≤ v) × (v ≤ hi)
 unfolding within_field
-in_field lo hi at (Value w to) v next e = go (ltb w lo) (ltb hi w) refl refl e
+in_field lo hi at (Ok (w, to)) v next e = go (ltb w lo) (ltb hi w) refl refl e
   where
     go : (p q : Bool) → ltb w lo ≡ p → ltb hi w ≡ q
         → ◌≡◌ {A = Read ℕ} (elim p [ true ↦ bad 14 (at + 1) | false ↦ elim q [ true ↦ bad 14 (at + 1) | false ↦ got w to ] ]) (got v next)
-        → (Value w to ≡ Value v next) × (lo ≤ v) × (v ≤ hi)
+        → (◌≡◌ {A = Number} (Ok (w, to)) (Ok (v, next))) × (lo ≤ v) × (v ≤ hi)
     go true q a b f = absurd (got-bad f refl)
     go false true a b f = absurd (got-bad f refl)
     go false false a b f =
@@ -112,9 +112,9 @@ in_field lo hi at (Value w to) v next e = go (ltb w lo) (ltb hi w) refl refl e
         let l = ltb-false w lo a in
         let h = ltb-false hi w b in
         (cc, omega arith, omega arith)
-in_field lo hi at Ended v next e = absurd (got-bad e refl)
-in_field lo hi at TooLong v next e = absurd (got-bad e refl)
-in_field lo hi at NotShortest v next e = absurd (got-bad e refl)
+in_field lo hi at (Err Ended) v next e = absurd (got-bad e refl)
+in_field lo hi at (Err TooLong) v next e = absurd (got-bad e refl)
+in_field lo hi at (Err NotShortest) v next e = absurd (got-bad e refl)
 
 -- a field that was read is a number of its range, and its bytes do not go past the end
 pub field-got : (lo hi : ℕ) (s : List ℕ) (at v next : ℕ) → field lo hi s at ≡ got v next → Found lo hi s at v next

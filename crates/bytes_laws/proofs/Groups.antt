@@ -8,9 +8,9 @@ use mathlib.Core.Bool.{Bool, true, false}
 use mathlib.Core.List.{List}
 use native.Mathlib.Omega.{arith}
 use lib.ListN.{length, get_or, get_or-eq_default}
-use Rattle.papers.specs.Numbers.{over, last_group, Continues, groups_value}
-use Rattle.papers.specs.declared.Number.{Number}
-use Rattle.papers.specs.declared.Number.TheVariants.{Value, Ended, TooLong, NotShortest}
+use Rattle.papers.specs.Numbers.{over, last_group, Continues, groups_value, Number}
+use Rattle.papers.specs.declared.NumberFault.TheVariants.{Ended, TooLong, NotShortest}
+use Rattle.std.specs.Prelude.{Ok, Err}
 use Rattle.list_laws.proofs.Tests.{below_or}
 use Rattle.bytes_laws.proofs.NumberReading.{Shown, shown-some, last-shown}
 
@@ -25,17 +25,17 @@ later (suc k) = refl
 
 -- the number whose groups begin at `at`: at most m may still come, and the flag says whether the next is the first
 pub data Standing (m : ℕ) (first : Bool) (s : List ℕ) (at : ℕ) : Number → Type 0 where
-  ends : {k : ℕ} → k ≤ m → length s ≤ at + k → Continues s at k → Standing m first s at Ended
-  goes_on : at + m < length s → Continues s at m → Standing m first s at TooLong
+  ends : {k : ℕ} → k ≤ m → length s ≤ at + k → Continues s at k → Standing m first s at (Err Ended)
+  goes_on : at + m < length s → Continues s at m → Standing m first s at (Err TooLong)
   zero-last : {k : ℕ} → first_at first k ≡ false → k < m → at + k < length s → Continues s at k → get_or s (at + k) 0 ≡ 0
-      → Standing m first s at NotShortest
+      → Standing m first s at (Err NotShortest)
   last : {k : ℕ} → k < m → at + k < length s → Continues s at k → get_or s (at + k) 0 < 128 → Shown (first_at first k) (get_or s (at + k) 0)
-      → Standing m first s at (Value (groups_value s at k) (at + k + 1))
+      → Standing m first s at (Ok (groups_value s at k, at + k + 1))
 
 -- the same, by its first group
 pub data ByGroup (first : Bool) (s : List ℕ) (at : ℕ) : ℕ → Number → Type 0 where
-  no-group : {m : ℕ} → length s ≤ at → ByGroup first s at m Ended
-  too_many : at < length s → ByGroup first s at 0 TooLong
+  no-group : {m : ℕ} → length s ≤ at → ByGroup first s at m (Err Ended)
+  too_many : at < length s → ByGroup first s at 0 (Err TooLong)
   last-group : {m : ℕ} → at < length s → get_or s at 0 < 128 → ByGroup first s at (suc m) (last_group first (get_or s at 0) at)
   more-groups : {m : ℕ} {x : Number} → at < length s → 128 ≤ get_or s at 0 → Standing m false s (at + 1) x
       → ByGroup first s at (suc m) (over (get_or s at 0 - 128) x)
@@ -64,21 +64,21 @@ module _ (s : List ℕ) (at : ℕ) where
 
   -- ---- from all groups to the first and the rest
 
-  split-end : (m k : ℕ) {first : Bool} → k ≤ m → length s ≤ at + k → Continues s at k → ByGroup first s at m Ended
+  split-end : (m k : ℕ) {first : Bool} → k ≤ m → length s ≤ at + k → Continues s at k → ByGroup first s at m (Err Ended)
   unfolding over
   split-end m zero l h c = no-group (omega arith)
   split-end zero (suc k) l h c = absurd (omega arith)
   split-end (suc m) (suc k) l h c =
       let b = first-continues k c in
-      more-groups {m = m} {x = Ended} (there b) b (ends {k = k} (omega arith) (omega arith) (rest-continue k c))
+      more-groups {m = m} {x = Err Ended} (there b) b (ends {k = k} (omega arith) (omega arith) (rest-continue k c))
 
-  split-long : (m : ℕ) {first : Bool} → at + m < length s → Continues s at m → ByGroup first s at m TooLong
+  split-long : (m : ℕ) {first : Bool} → at + m < length s → Continues s at m → ByGroup first s at m (Err TooLong)
   unfolding over
   split-long zero h c = too_many (omega arith)
-  split-long (suc m) h c = let b = first-continues m c in more-groups {m = m} {x = TooLong} (there b) b (goes_on (omega arith) (rest-continue m c))
+  split-long (suc m) h c = let b = first-continues m c in more-groups {m = m} {x = Err TooLong} (there b) b (goes_on (omega arith) (rest-continue m c))
 
   split-zero : (m k : ℕ) {first : Bool} → first_at first k ≡ false → k < m → at + k < length s → Continues s at k → get_or s (at + k) 0 ≡ 0
-      → ByGroup first s at m NotShortest
+      → ByGroup first s at m (Err NotShortest)
   unfolding over last_group
   split-zero zero k o l h c e = absurd (omega arith)
   split-zero (suc m) zero o l h c e =
@@ -89,11 +89,11 @@ module _ (s : List ℕ) (at : ℕ) where
   split-zero (suc m) (suc k) o l h c e =
       let b = first-continues k c in
       let q : at + suc k ≡ at + 1 + k = omega arith in
-      more-groups {m = m} {x = NotShortest} (there b) b (zero-last {k = k} (later k) (omega arith) (omega arith) (rest-continue k c) (rw q at e))
+      more-groups {m = m} {x = Err NotShortest} (there b) b (zero-last {k = k} (later k) (omega arith) (omega arith) (rest-continue k c) (rw q at e))
 
   split-last : (m k : ℕ) {first : Bool} → k < m → at + k < length s → Continues s at k → get_or s (at + k) 0 < 128
       → Shown (first_at first k) (get_or s (at + k) 0)
-      → ByGroup first s at m (Value (groups_value s at k) (at + k + 1))
+      → ByGroup first s at m (Ok (groups_value s at k, at + k + 1))
   unfolding over groups_value
   split-last zero k l h c b o = absurd (omega arith)
   split-last (suc m) zero {first} l h c b o =
@@ -103,7 +103,7 @@ module _ (s : List ℕ) (at : ℕ) where
   split-last (suc m) (suc k) {first} l h c b o =
       let d = first-continues k c in
       let q : at + suc k ≡ at + 1 + k = omega arith in
-      rw q (more-groups {m = m} {x = Value (groups_value s (at + 1) k) (at + 1 + k + 1)} (there d) d (last {k = k} (omega arith) (omega arith)
+      rw q (more-groups {m = m} {x = Ok (groups_value s (at + 1) k, at + 1 + k + 1)} (there d) d (last {k = k} (omega arith) (omega arith)
       (rest-continue k c) (rw q at b) (shown-some (first_at false k) _ (rw q at o))))
 
   pub split : {m : ℕ} {first : Bool} {x : Number} → Standing m first s at x → ByGroup first s at m x
@@ -115,11 +115,11 @@ module _ (s : List ℕ) (at : ℕ) where
   -- ---- and back
 
   one-group : (first : Bool) (m : ℕ) → at < length s → get_or s at 0 < 128 → Shown first (get_or s at 0)
-      → Standing (suc m) first s at (Value (get_or s at 0) (at + 1))
+      → Standing (suc m) first s at (Ok (get_or s at 0, at + 1))
   unfolding groups_value
   one-group first m h l o =
       let q : at + 0 ≡ at = omega arith in
-      let g : Standing (suc m) first s at (Value (groups_value s at 0) (at + 0 + 1)) = last {k = 0} (omega arith) (omega arith) none-continue (rw q l)
+      let g : Standing (suc m) first s at (Ok (groups_value s at 0, at + 0 + 1)) = last {k = 0} (omega arith) (omega arith) none-continue (rw q l)
       (rw q o) in
       rw q at g
 
@@ -139,7 +139,7 @@ module _ (s : List ℕ) (at : ℕ) where
       zero-last {k = suc k} refl (omega arith) (omega arith) (continue-both k b c) (rw q e)
   join_more m {first} b (last {k = k} l h c d o) =
       let q : at + suc k ≡ at + 1 + k = omega arith in
-      let g : Standing (suc m) first s at (Value (groups_value s at (suc k)) (at + suc k + 1)) =
+      let g : Standing (suc m) first s at (Ok (groups_value s at (suc k), at + suc k + 1)) =
       last {k = suc k} (omega arith) (omega arith) (continue-both k b c) (rw q d) (rw q (rw (later k) at o)) in
       rw q at g
 

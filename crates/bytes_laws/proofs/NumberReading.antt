@@ -9,19 +9,20 @@ use lib.ListN.{length, get_or, drop, length-drop}
 use lib.Seq.{get_or-drop, drop-drop, drop_at}
 use borrow.Author.Tests.{lt-ltb, le-ltb}
 use Rattle.papers.specs.Bounds.{max_groups}
-use Rattle.papers.specs.Numbers.{groups_of, bytes_of, over, last_group, read_from, number_read_from}
-use Rattle.papers.specs.declared.Number.TheVariants.{Value, Ended, TooLong}
+use Rattle.papers.specs.Numbers.{groups_of, bytes_of, over, last_group, read_from, number_read_from, Number}
+use Rattle.papers.specs.declared.NumberFault.TheVariants.{Ended, TooLong}
+use Rattle.std.specs.Prelude.{Ok, Err}
 use Rattle.bytes_laws.proofs.Numbers.{Grouped, last, more, grouped, groups-small, groups-large}
 
 -- ---- what is found at each kind of byte
 
-pub read-end : (k : ℕ) (first : Bool) (s : List ℕ) (at : ℕ) → length s ≤ at → read_from k first s at ≡ Ended
+pub read-end : (k : ℕ) (first : Bool) (s : List ℕ) (at : ℕ) → length s ≤ at → read_from k first s at ≡ Err Ended
 unfolding read_from
 read-end zero first s at h = rw (le-ltb at (length s) h, read_from)
 read-end (suc k) first s at h = rw (le-ltb at (length s) h, read_from)
 
 module _ (first : Bool) (s : List ℕ) (at : ℕ) (there : at < length s) where
-  pub read-long : read_from 0 first s at ≡ TooLong
+  pub read-long : read_from 0 first s at ≡ Err TooLong
   unfolding read_from
   read-long = rw (lt-ltb at (length s) there, read_from)
 
@@ -42,7 +43,7 @@ pub shown-some : (first : Bool) (b : ℕ) → 0 < b → Shown first b
 shown-some true b h = tt
 shown-some false b h = h
 
-pub last-shown : (first : Bool) (b at : ℕ) → Shown first b → last_group first b at ≡ Value b (at + 1)
+pub last-shown : (first : Bool) (b at : ℕ) → Shown first b → last_group first b at ≡ Ok (b, at + 1)
 unfolding last_group
 last-shown true zero at h = refl
 last-shown false zero at h = absurd (omega arith)
@@ -71,7 +72,7 @@ pub stands-behind : (s : List ℕ) (at : ℕ) (a rest : List ℕ) → drop at s 
 stands-behind s at a rest e = sym (drop-drop (length a) at s) ∙ ap (drop (length a)) e ∙ drop_at a rest (length a) refl
 
 groups-back : {f x : ℕ} (first : Bool) (s : List ℕ) (at : ℕ) (rest : List ℕ) → Grouped f x → Shown first x → drop at s ≡ groups_of f x ++ rest
-    → read_from (suc f) first s at ≡ Value x (at + length (groups_of f x))
+    → read_from (suc f) first s at ≡ Ok (x, at + length (groups_of f x))
 unfolding over
 groups-back {f} {x} first s at rest (last l) h e =
     let g = groups-small f x l in
@@ -89,10 +90,18 @@ groups-back {x = x} first s at rest (more {f = f} l r) h e =
 
 -- if the bytes at a place are those of a number, it is read, up to their end
 pub read_back : (s : List ℕ) (at x : ℕ) (rest : List ℕ) → x < 2 ^ (7 * max_groups) → drop at s ≡ bytes_of x ++ rest
-    → number_read_from s at ≡ Value x (at + length (bytes_of x))
+    → number_read_from s at ≡ Ok (x, at + length (bytes_of x))
 unfolding number_read_from bytes_of
 read_back s at x rest h e = groups-back true s at rest (grouped (max_groups - 1) x h) tt e
 
+abbrev value_in : Number → ℕ
+value_in (Ok found) = found.0
+value_in (Err _) = 0
+
+abbrev place_behind : Number → ℕ
+place_behind (Ok found) = found.1
+place_behind (Err _) = 0
+
 -- equal readings have equal values and places
-pub value_inj : {x y m n : ℕ} → Value x m ≡ Value y n → (x ≡ y) × (m ≡ n)
-value_inj e = (cc, cc)
+pub value_inj : {x y m n : ℕ} → ◌≡◌ {A = Number} (Ok (x, m)) (Ok (y, n)) → (x ≡ y) × (m ≡ n)
+value_inj e = (ap value_in e, ap place_behind e)

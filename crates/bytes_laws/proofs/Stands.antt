@@ -8,8 +8,7 @@ use mathlib.Core.List.{List}
 use native.Mathlib.Omega.{arith}
 use lib.ListN.{length, get_or}
 use Rattle.papers.specs.Bounds.{max_groups}
-use Rattle.papers.specs.Numbers.{over, read_from, number_read_from, Stands, ended, too_long, not-shortest, value}
-use Rattle.papers.specs.declared.Number.{Number}
+use Rattle.papers.specs.Numbers.{over, read_from, number_read_from, Stands, ended, too_long, not-shortest, value, Number}
 use Rattle.list_laws.proofs.Tests.{true-false, below_or}
 use Rattle.bytes_laws.proofs.NumberReading.{read-end, read-long, read-last, read_more, Shown}
 use Rattle.bytes_laws.proofs.Groups.{first_at, Standing, ends, goes_on, zero-last, last, ByGroup, no-group, too_many, last-group}

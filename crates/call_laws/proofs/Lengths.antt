@@ -9,12 +9,12 @@ use native.Mathlib.Omega.{arith}
 use lib.Dec.{ltb}
 use lib.ListN.{length, length-append}
 use borrow.Author.Tests.{ltb-true}
-use Rattle.papers.specs.declared.Number.{Number}
-use Rattle.papers.specs.declared.Number.TheVariants.{Value, Ended, TooLong, NotShortest}
+use Rattle.papers.specs.Numbers.{Number, Stands, ended, too_long, not-shortest, value}
+use Rattle.papers.specs.declared.NumberFault.TheVariants.{Ended, TooLong, NotShortest}
+use Rattle.std.specs.Prelude.{Ok, Err}
 use Rattle.papers.specs.Bounds.{max_groups}
 use Rattle.papers.specs.Lists.{flat}
 use Rattle.papers.specs.Job.{Job, pattern}
-use Rattle.papers.specs.Numbers.{Stands, ended, too_long, not-shortest, value}
 use Rattle.papers.specs.Key.{list_numbers, lists_numbers, lists_of, key_numbers, key_of}
 use Rattle.papers.specs.Plan.{Field, column, pops, count, gap, declared, nothing, next_list, next_row_of, next_step, following, Reaches, begin, next}
 use Rattle.papers.specs.Plan.{range}
@@ -102,10 +102,10 @@ module _ (n : ℕ) where
 
   -- a number ends at most six bytes behind its start
   abbrev Ends : ℕ → Number → Type 0
-  Ends at (Value v to) = to ≤ at + max_groups
-  Ends at Ended = Unit {0}
-  Ends at TooLong = Unit {0}
-  Ends at NotShortest = Unit {0}
+  Ends at (Ok (v, to)) = to ≤ at + max_groups
+  Ends at (Err Ended) = Unit {0}
+  Ends at (Err TooLong) = Unit {0}
+  Ends at (Err NotShortest) = Unit {0}
 
   ends : {s : List ℕ} {at : ℕ} {r : Number} → Stands s at r → Ends at r
   ends (ended l h c) = tt

@@ -8,11 +8,11 @@ use mathlib.Core.List.{List}
 use native.Mathlib.Omega.{arith}
 use lib.ListN.{length}
 use Rattle.papers.specs.Refusals.{answer}
-use Rattle.papers.specs.Numbers.{number_read_from, Read, got, bad, field, Stands}
+use Rattle.papers.specs.Numbers.{number_read_from, Read, got, bad, field, Stands, Number}
 use Rattle.papers.specs.Plan.{Field, nothing, next_step, following, Reaches, begin, next, PlanFault, twelve, thirteen, fourteen, fifteen, range}
 use Rattle.papers.specs.declared.Answer.{Answer}
-use Rattle.papers.specs.declared.Number.{Number}
-use Rattle.papers.specs.declared.Number.TheVariants.{Value, Ended, TooLong, NotShortest}
+use Rattle.papers.specs.declared.NumberFault.TheVariants.{Ended, TooLong, NotShortest}
+use Rattle.std.specs.Prelude.{Ok, Err}
 use Rattle.list_laws.proofs.Tests.{below_or}
 use Rattle.bytes_laws.proofs.Stands.{number-stands-iff}
 use Rattle.bytes_laws.proofs.Fields.{got-inj, got-bad, field-got}
@@ -98,17 +98,17 @@ module _ (n : ℕ) (s : List ℕ) where
         same : (m : ℕ) → number_at y to ≡ bad m (to + 1) → answer number place 0 ≡ answer m (to + 1) 0
         same m f = let (a, b) = bad-inj (sym e ∙ f) in cc
 
-        out : (v end : ℕ) → number_read_from s to ≡ Value v end → (v < (range n y).0) ⊎ ((range n y).0 ≤ v) → ((range n y).1 < v) ⊎ (v ≤ (range n y).1)
+        out : (v end : ℕ) → number_read_from s to ≡ Ok (v, end) → (v < (range n y).0) ⊎ ((range n y).0 ≤ v) → ((range n y).1 < v) ⊎ (v ≤ (range n y).1)
             → PlanFault n s from (answer number place 0)
         out v end q (inl l) u = rw (same 14 (out_of_range _ _ s to v end q (inl l))) (fourteen r h (standing _ _ q) (inl l))
         out v end q (inr l) (inl u) = rw (same 14 (out_of_range _ _ s to v end q (inr u))) (fourteen r h (standing _ _ q) (inr u))
         out v end q (inr l) (inr u) = absurd (got-bad (in-range _ _ s to v end q l u) e)
 
         go : (m : Number) → number_read_from s to ≡ m → PlanFault n s from (answer number place 0)
-        go (Value v end) q = out v end q (below_or v (range n y).0) (below_or (range n y).1 v)
-        go Ended q = rw (same 12 (ended _ _ s to q)) (twelve r h (standing _ _ q))
-        go TooLong q = rw (same 13 (not-shortest _ _ s to (inl q))) (thirteen r h (inl (standing _ _ q)))
-        go NotShortest q = rw (same 13 (not-shortest _ _ s to (inr q))) (thirteen r h (inr (standing _ _ q)))
+        go (Ok (v, end)) q = out v end q (below_or v (range n y).0) (below_or (range n y).1 v)
+        go (Err Ended) q = rw (same 12 (ended _ _ s to q)) (twelve r h (standing _ _ q))
+        go (Err TooLong) q = rw (same 13 (not-shortest _ _ s to (inl q))) (thirteen r h (inl (standing _ _ q)))
+        go (Err NotShortest) q = rw (same 13 (not-shortest _ _ s to (inr q))) (thirteen r h (inr (standing _ _ q)))
 
     -- reading fails exactly as the conditions say
     pub fails-iff : (number place : ℕ) → Fails (next_step n n) from number place ↔ PlanFault n s from (answer number place 0)
@@ -118,12 +118,12 @@ module _ (n : ℕ) (s : List ℕ) where
         there r (at-number h e) = bad-number r h e
         there r (behind e l) = fifteen (rw e at r) l
 
-        either : {at : ℕ} → Stands s at TooLong ⊎ Stands s at NotShortest → (number_read_from s at ≡ TooLong) ⊎ (number_read_from s at ≡ NotShortest)
+        either : {at : ℕ} → Stands s at (Err TooLong) ⊎ Stands s at (Err NotShortest) → (number_read_from s at ≡ Err TooLong) ⊎ (number_read_from s at ≡ Err NotShortest)
         either (inl e) = inl ((number-stands-iff s _ _).1 e)
         either (inr e) = inr ((number-stands-iff s _ _).1 e)
 
         back : (a : Answer) → PlanFault n s from a → Fails (next_step n n) from a.number a.place
-        back a (twelve {x = x} {at = at} r h e) = (x, at, leads r, at-number h (ended _ _ s at ((number-stands-iff s at Ended).1 e)))
+        back a (twelve {x = x} {at = at} r h e) = (x, at, leads r, at-number h (ended _ _ s at ((number-stands-iff s at (Err Ended)).1 e)))
         back a (thirteen {x = x} {at = at} r h e) = (x, at, leads r, at-number h (not-shortest _ _ s at (either e)))
         back a (fourteen {x = x} {at = at} r h e o) = (x, at, leads r, at-number h (out_of_range _ _ s at _ _ ((number-stands-iff s at _).1 e) o))
         back a (fifteen {at = at} r l) = (nothing, at, leads r, behind refl l)

@@ -1,11 +1,11 @@
 -- Defines how a number is written and read: seven bits to a byte, the lowest first; a byte of 128 or more says that another follows. Then
 -- a number as a field with a range, and where two byte strings agree.
 -- Assumes nothing.
-use Rattle.std.specs.Prelude.{ℕ, zero, suc, ◌+◌, ◌-◌, ◌*◌, ◌/◌, ◌%◌, ◌<◌, ◌≤◌, ◌≡◌, ◌⊎◌, Bool, true, false, not, List, [], ◌∷◌, ◌++◌, ltb, leb, eqb, length, get_or}
+use Rattle.std.specs.Prelude.{ℕ, zero, suc, ◌+◌, ◌-◌, ◌*◌, ◌/◌, ◌%◌, ◌<◌, ◌≤◌, ◌≡◌, ◌⊎◌, Bool, true, false, not, List, [], ◌∷◌, ◌++◌, Result, Ok, Err, ltb, leb, eqb, length, get_or}
 use Rattle.papers.specs.Bounds.{max_groups}
 use Rattle.papers.specs.Lists.{nth}
-use Rattle.papers.specs.declared.Number.{Number}
-use Rattle.papers.specs.declared.Number.TheVariants.{Value, Ended, TooLong, NotShortest}
+use Rattle.papers.specs.declared.NumberFault.{NumberFault}
+use Rattle.papers.specs.declared.NumberFault.TheVariants.{Ended, TooLong, NotShortest}
 
 -- the shortest form of x, with at most f groups after the first. No number that is written needs more than f: each is below 2^42.
 unfoldable pub groups_of : ℕ → ℕ → List ℕ
@@ -23,21 +23,23 @@ encode (x ∷ xs) = bytes_of x ++ encode xs
 
 -- ---- reading, by index in the whole list of bytes, each below 256; an index counts from 0
 
+-- what reading a number finds: its value and the index behind it, or what is wrong with it
+abbrev pub Number : Type 0
+Number = Result (ℕ × ℕ) NumberFault
+
 -- the number whose first group is low, and whose other groups gave this number
 unfoldable pub over : ℕ → Number → Number
-over low (Value v next) = Value (low + 128 * v) next
-over low Ended = Ended
-over low TooLong = TooLong
-over low NotShortest = NotShortest
+over low (Ok (v, next)) = Ok (low + 128 * v, next)
+over low (Err fault) = Err fault
 
 -- the number that ends with the group b at `at`: a last group of 0 is not shortest, unless it is the first group
 unfoldable pub last_group : Bool → ℕ → ℕ → Number
-last_group is_first zero at = elim is_first [ true ↦ Value 0 (at + 1) | false ↦ NotShortest ]
-last_group is_first (suc b) at = Value (suc b) (at + 1)
+last_group is_first zero at = elim is_first [ true ↦ Ok (0, at + 1) | false ↦ Err NotShortest ]
+last_group is_first (suc b) at = Ok (suc b, at + 1)
 
 -- the number whose groups begin at `at`: at most k more may come, and the flag says whether the next is the first
 unfoldable pub read_from : ℕ → Bool → List ℕ → ℕ → Number
-read_from zero is_first s at = elim (ltb at (length s)) [ true ↦ TooLong | false ↦ Ended ]
+read_from zero is_first s at = elim (ltb at (length s)) [ true ↦ Err TooLong | false ↦ Err Ended ]
 read_from (suc k) is_first s at =
     elim (ltb at (length s)) [
       | true ↦ elim (ltb (get_or s at 0) 128) [
@@ -45,7 +47,7 @@ read_from (suc k) is_first s at =
         | false ↦ over (get_or s at 0 - 128)
             (read_from k false s (at + 1))
       ]
-      | false ↦ Ended
+      | false ↦ Err Ended
     ]
 
 -- the number that starts at `at`
@@ -64,11 +66,11 @@ groups_value s at (suc k) = get_or s at 0 - 128 + 128 * groups_value s (at + 1) 
 -- what `number_read_from` finds, as a proposition: the bytes end inside the number; or it has too many groups; or the last of its several groups
 -- is 0, so it is not shortest; or it has this value
 pub data Stands (s : List ℕ) (at : ℕ) : Number → Type 0 where
-  ended : {k : ℕ} → k ≤ max_groups → length s ≤ at + k → Continues s at k → Stands s at Ended
-  too_long : at + max_groups < length s → Continues s at max_groups → Stands s at TooLong
-  not-shortest : {k : ℕ} → 0 < k → k < max_groups → at + k < length s → Continues s at k → get_or s (at + k) 0 ≡ 0 → Stands s at NotShortest
+  ended : {k : ℕ} → k ≤ max_groups → length s ≤ at + k → Continues s at k → Stands s at (Err Ended)
+  too_long : at + max_groups < length s → Continues s at max_groups → Stands s at (Err TooLong)
+  not-shortest : {k : ℕ} → 0 < k → k < max_groups → at + k < length s → Continues s at k → get_or s (at + k) 0 ≡ 0 → Stands s at (Err NotShortest)
   value : {k : ℕ} → k < max_groups → at + k < length s → Continues s at k → get_or s (at + k) 0 < 128
-      → (k ≡ 0) ⊎ (0 < get_or s (at + k) 0) → Stands s at (Value (groups_value s at k) (at + k + 1))
+      → (k ≡ 0) ⊎ (0 < get_or s (at + k) 0) → Stands s at (Ok (groups_value s at k, at + k + 1))
 
 -- ---- reading on: an index `at` counts from 0, a refusal's place from 1
 
@@ -90,10 +92,10 @@ onto xs (bad number place) = bad number place
 -- a field from lo to hi whose number starts at `at`: 12 if the bytes end inside it, 13 if it is too long or not shortest, 14 if it is
 -- outside its range
 unfoldable pub within_field : ℕ → ℕ → ℕ → Number → Read ℕ
-within_field lo hi at (Value v next) = elim (ltb v lo) [ true ↦ bad 14 (at + 1) | false ↦ elim (ltb hi v) [ true ↦ bad 14 (at + 1) | false ↦ got v next ] ]
-within_field lo hi at Ended = bad 12 (at + 1)
-within_field lo hi at TooLong = bad 13 (at + 1)
-within_field lo hi at NotShortest = bad 13 (at + 1)
+within_field lo hi at (Ok (v, next)) = elim (ltb v lo) [ true ↦ bad 14 (at + 1) | false ↦ elim (ltb hi v) [ true ↦ bad 14 (at + 1) | false ↦ got v next ] ]
+within_field lo hi at (Err Ended) = bad 12 (at + 1)
+within_field lo hi at (Err TooLong) = bad 13 (at + 1)
+within_field lo hi at (Err NotShortest) = bad 13 (at + 1)
 
 -- reads the number that starts at `at` as a field from lo to hi
 unfoldable pub field : ℕ → ℕ → List ℕ → ℕ → Read ℕ

@@ -1,6 +1,6 @@
 -- Defines a plan, the plan of a job, what a sound plan is, a plan's bytes, and how they are read.
 -- Assumes nothing.
-use Rattle.std.specs.Prelude.{ℕ, zero, suc, ◌+◌, ◌-◌, ◌<◌, ◌≤◌, ◌≡◌, ◌⊎◌, ◌≢◌, true, false, List, [], ◌∷◌, ◌++◌, map, ltb, length}
+use Rattle.std.specs.Prelude.{ℕ, zero, suc, ◌+◌, ◌-◌, ◌<◌, ◌≤◌, ◌≡◌, ◌⊎◌, ◌≢◌, true, false, List, [], ◌∷◌, ◌++◌, Ok, Err, map, ltb, length}
 use Rattle.papers.specs.Bounds.{max_peak}
 use Rattle.papers.specs.Lists.{◌∈◌, Asc}
 use Rattle.papers.specs.Refusals.{answer}
@@ -11,7 +11,7 @@ use Rattle.papers.specs.Order.{Ordered, pops_of, order_of, order_peak}
 use Rattle.papers.specs.Numbers.{encode, Stands, Read, got, then, onto, field, at_end}
 use Rattle.papers.specs.Key.{lists_numbers, lists_of, key_of, lists_read_from}
 use Rattle.papers.specs.declared.Answer.{Answer}
-use Rattle.papers.specs.declared.Number.TheVariants.{Value, Ended, TooLong, NotShortest}
+use Rattle.papers.specs.declared.NumberFault.TheVariants.{Ended, TooLong, NotShortest}
 
 -- a plan: its steps, each a column with its pops; the list of each column; the peak
 pub record Plan : Type 0 where
@@ -158,14 +158,14 @@ following n nothing v = nothing
 pub data Reaches (n : ℕ) (s : List ℕ) (from : ℕ) : Field → ℕ → Type 0 where
   begin : Reaches n s from (next_step n n) from
   next : {x : Field} {at v to : ℕ} → Reaches n s from x at → x ≢ nothing
-      → Stands s at (Value v to) → (range n x).0 ≤ v → v ≤ (range n x).1 → Reaches n s from (following n x v) to
+      → Stands s at (Ok (v, to)) → (range n x).0 ≤ v → v ≤ (range n x).1 → Reaches n s from (following n x v) to
 
 -- the faults of a plan's bytes: of 12, 13 and 14 the first number at fault decides, and the place is the byte where it starts; of 15 the
 -- place is the first byte after the peak
 pub data PlanFault (n : ℕ) (s : List ℕ) (from : ℕ) : Answer → Type 0 where
-  twelve : {x : Field} {at : ℕ} → Reaches n s from x at → x ≢ nothing → Stands s at Ended → PlanFault n s from (answer 12 (at + 1) 0)
-  thirteen : {x : Field} {at : ℕ} → Reaches n s from x at → x ≢ nothing → Stands s at TooLong ⊎ Stands s at NotShortest
+  twelve : {x : Field} {at : ℕ} → Reaches n s from x at → x ≢ nothing → Stands s at (Err Ended) → PlanFault n s from (answer 12 (at + 1) 0)
+  thirteen : {x : Field} {at : ℕ} → Reaches n s from x at → x ≢ nothing → Stands s at (Err TooLong) ⊎ Stands s at (Err NotShortest)
       → PlanFault n s from (answer 13 (at + 1) 0)
-  fourteen : {x : Field} {at v to : ℕ} → Reaches n s from x at → x ≢ nothing → Stands s at (Value v to)
+  fourteen : {x : Field} {at v to : ℕ} → Reaches n s from x at → x ≢ nothing → Stands s at (Ok (v, to))
       → (v < (range n x).0) ⊎ ((range n x).1 < v) → PlanFault n s from (answer 14 (at + 1) 0)
   fifteen : {at : ℕ} → Reaches n s from nothing at → at < length s → PlanFault n s from (answer 15 (at + 1) 0)

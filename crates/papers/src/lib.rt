@@ -17,11 +17,9 @@ pub struct JobHead {
     pub limit: u64,
 }
 
-// What reading a number finds: its value and the place behind it; or the bytes end inside it, or it has too many groups, or a shorter form
-// of it exists.
-#[derive(Clone, Copy, Drop)]
-pub enum Number {
-    Value { value: u64, next: usize },
+// What is wrong with a number that is read: the bytes end inside it, or it has too many groups, or a shorter form of it exists.
+#[derive(Clone, Copy, Debug, PartialEq, Eq)]
+pub enum NumberFault {
     Ended,
     TooLong,
     NotShortest,
