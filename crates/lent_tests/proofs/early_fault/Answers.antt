@@ -1,6 +1,6 @@
 -- Proves that `early_fault` answers 1 to 7 in their order: the fault of the job; or 7 for a short slice; or none.
 -- Assumes nothing.
-use Rattle.std.proofs.Common.{sym, ◌∙◌}
+use Rattle.std.proofs.Common.{sym, ◌∙◌, arith}
 use Rattle.refusals.proofs.Passed.{handed-on}
 use Rattle.job_laws.proofs.Passed.{passes-iff}
 use Rattle.lent_tests.proofs.Early.{early-job, early-short, early-none}
@@ -14,7 +14,9 @@ pub too_short-requires : goal.too_short-requires
 too_short-requires c = ((passes-iff _).0 (sym c.in_ok-first_fault.ensures)).few
 
 pub returns-then-too_short : goal.returns-then-too_short
-returns-then-too_short c = rw c.refuse.ensures (early-short _ c.in_ok-first_fault.ensures (sym c.too_short.ensures ∙ c.if-too_short.true))
+returns-then-too_short c =
+    let short = early-short _ c.in_ok-first_fault.ensures (sym c.too_short.ensures ∙ c.if-too_short.true) in
+    grind arith
 
 pub returns : goal.returns
 returns c = early-none _ c.in_ok-first_fault.ensures (sym c.too_short.ensures ∙ c.if-too_short.false)
