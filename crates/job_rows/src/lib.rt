@@ -2,7 +2,7 @@
 #![tactic(auto)]
 
 ghost use Rattle.std.specs.Prelude.{◌≡◌};
-ghost use Rattle.papers.specs.Job.{fault_of_row, fault_of_rows};
+ghost use Rattle.papers.specs.Job.{fault_of_row};
 ghost use Rattle.refusals.specs.Answers.{verdict_from, fault_from};
 ghost use Rattle.job_laws.specs.Passed.{rows_test};
 ghost use Rattle.job_rows.specs.Started.{Started};
@@ -22,30 +22,26 @@ fn row_fault(n: u64, j: u64, before: u64, row: u64) -> Result<(), Refusal>
     Ok(())
 }
 
-// The first fault of the rows of column j. In the loop the rows passed have none; `before` is the last of them, or j if there is none yet.
-fn column_fault(n: u64, j: u64, rows: &[u32]) -> Result<(), Refusal>
-    ensures { fault_from result ≡ fault_of_rows n j j rows.now }
-{
-    let mut before = j;
-    for row in rows {
-        let row = u64::from(*row);
-        row_fault(n, j, before, row)?;
-        before = row;
-    }
-    Ok(())
-}
-
-// Tests 5 and 6: finds the first row at fault in reading order, and answers its column. In the loop the first `done` columns have no fault.
+// Tests 5 and 6: finds the first row at fault in reading order, and answers its column. The first fault leaves both loops. In the loops the
+// first `done` columns have no fault, nor have the rows of column j before this one; `before` is the last of these rows, or j if there is
+// none yet.
 pub fn rows_fault(n: u64, starts: &[u64], rows: &[u32]) -> Result<(), Refused>
     requires { Started n starts.now rows.now }
     ensures { verdict_from result ≡ rows_test n starts.now rows.now }
 {
-    for done in 0..n as usize {
-        let column = &rows[starts[done] as usize..starts[done + 1] as usize];
+    let mut verdict = Ok(());
+    'columns: for done in 0..n as usize {
         let j = done as u64 + 1;
-        if let Err(fault) = column_fault(n, j, column) {
-            return refuse(fault, j, 0);
+        let column = &rows[starts[done] as usize..starts[done + 1] as usize];
+        let mut before = j;
+        for row in column {
+            let row = u64::from(*row);
+            if let Err(refusal) = row_fault(n, j, before, row) {
+                verdict = refuse(refusal, j, 0);
+                break 'columns;
+            }
+            before = row;
         }
     }
-    Ok(())
+    verdict
 }
