@@ -1,5 +1,4 @@
--- Proves that `steps` runs the steps: after `done` steps without a fault the stack list and the record hold the state. Each turn leaves one step
--- less.
+-- Proves that `steps` runs the steps: after `done` steps without a fault the stack list and the record hold the state.
 -- Assumes nothing.
 use mathlib.Core.Path.{refl, ◌∙◌}
 use native.Mathlib.Omega.{arith}
@@ -26,15 +25,15 @@ shape_of-stack-in-Err c = c.loop-done.invariant.long
 
 pub returns-in-Err : goal.returns-in-Err
 returns-in-Err c =
-    (rw c.refuse.ensures) ∙ answers-fault _ _ _ _ _ _ _ c.loop-done.invariant c.loop-done-test.true c.in-Err.ensures (numbered c.in-Err.refusal)
+    (rw c.refuse.ensures) ∙ answers-fault _ _ _ _ _ _ _ c.loop-done.invariant (omega arith) c.in-Err.ensures (numbered c.in-Err.refusal)
 
 pub take_step-held-requires : goal.take_step-held-requires
 take_step-held-requires c =
-    ready _ _ _ _ _ _ _ c.loop-done.invariant c.loop-done-test.true c.in-Ok.ensures c.requires refl
+    ready _ _ _ _ _ _ _ c.loop-done.invariant (omega arith) c.in-Ok.ensures c.requires refl
 
 pub loop-done-preserved : goal.loop-done-preserved
 loop-done-preserved c =
-    running-next _ _ _ _ _ _ _ c.loop-done.invariant c.loop-done-test.true c.in-Ok.ensures refl (omega arith) c.take_step-held.ensures
+    running-next _ _ _ _ _ _ _ c.loop-done.invariant (omega arith) c.in-Ok.ensures refl (omega arith) c.take_step-held.ensures
 
 pub shape_of-stack-then-held-ne0 : goal.shape_of-stack-then-held-ne0
 shape_of-stack-then-held-ne0 c = c.loop-done.invariant.long
