@@ -20,15 +20,13 @@ fn low_bytes(rows: &[u32], from: usize, to: usize, b: u32, bytes: &mut [u8], at:
     let mut widest: u32 = 0;
     let mut before = b;
     let mut next = at;
-    let mut i = from;
-    while i < to {
+    for i in from..to {
         let row = rows[i];
         let gap = row - before;
         bytes[next] = (gap % 256) as u8;
-        widest = basics::greater32(widest, gap);
+        widest = widest.max(gap);
         before = row;
         next += 1;
-        i += 1;
     }
     widest
 }
@@ -41,12 +39,10 @@ fn write_gaps(rows: &[u32], from: usize, to: usize, b: u32, bytes: &mut [u8], at
 {
     let mut next = at;
     let mut before = b;
-    let mut i = from;
-    while i < to {
+    for i in from..to {
         let row = rows[i];
         next = write_number::put(bytes, next, (row - before) as u64);
         before = row;
-        i += 1;
     }
     next
 }

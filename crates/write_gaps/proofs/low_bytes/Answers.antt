@@ -1,5 +1,4 @@
--- Proves that `low_bytes` stores the low byte of each gap: those before i are stored up to next, and widest is the greatest of these gaps. Each turn
--- leaves one row less.
+-- Proves that `low_bytes` stores the low byte of each gap: those before i are stored up to next, and widest is the greatest of these gaps.
 -- Assumes nothing.
 use mathlib.Core.Path.{refl}
 use native.Mathlib.Omega.{arith}
@@ -14,7 +13,7 @@ pub overflow_sub-gap : goal.overflow_sub-gap
 overflow_sub-gap c = omega (arith, row-above c.loop-i.invariant.rows_left c.loop-i-test.true refl)
 
 pub loop-i-preserved : goal.loop-i-preserved
-loop-i-preserved c = lows-turn c.loop-i.invariant c.loop-i-test.true refl c.greater32-widest.ensures
+loop-i-preserved c = lows-turn c.loop-i.invariant c.loop-i-test.true refl c.max-widest.ensures
 
 pub returns : goal.returns
 returns c = lows-stop c.loop-i.invariant c.loop-i-test.false

@@ -1,5 +1,4 @@
--- Proves that `write_gaps` stores all gaps, since storing the gaps from i on at next leaves what storing all of them leaves. Each turn leaves one row
--- less.
+-- Proves that `write_gaps` stores all gaps, since storing the gaps from i on at next leaves what storing all of them leaves.
 -- Assumes nothing.
 use mathlib.Core.Path.{refl}
 use native.Mathlib.Omega.{arith}

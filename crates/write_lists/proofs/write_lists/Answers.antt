@@ -1,5 +1,4 @@
--- Proves that `write_lists` stores all lists, since storing those behind the first `done` at next leaves what storing all of them leaves. Each turn
--- leaves one column less.
+-- Proves that `write_lists` stores all lists, since storing those behind the first `done` at next leaves what storing all of them leaves.
 -- Assumes nothing.
 use native.Mathlib.Omega.{arith}
 use Rattle.list_laws.proofs.Writing.{writes-all}
