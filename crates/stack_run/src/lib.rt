@@ -1,14 +1,17 @@
 // The entry point of the run of a plan's steps on a stack of updates.
 #![tactic(auto)]
 
-ghost use Rattle.std.specs.Prelude.{◌≡◌};
-ghost use Rattle.papers.specs.Refusals.{EndsAs};
+ghost use Rattle.std.specs.Prelude.{◌≡◌, ℕ};
+ghost use Rattle.papers.specs.Refusals.{first, EndsAs};
 ghost use Rattle.papers.specs.Analysis.{some_short};
-ghost use Rattle.papers.specs.Run.{run_fixed, ran};
+ghost use Rattle.papers.specs.Run.{run_fixed, run_early, ran};
+ghost use Rattle.refusals.specs.Answers.{verdict_from};
+ghost use Rattle.run_updates.specs.Kept.{run_of};
 
 use papers::Answer;
+use refusals::{Refusal, Refused, refuse};
 
-// Test 7: whether columns, pops or stack list have fewer than n places.
+// Test 7: whether columns, pops or stack list have fewer than n places. Ifs, not `||`: each test that holds is a way out with a law of its own.
 fn too_short(n: u64, columns: &[u32], pops: &[u32], stack: &[u32]) -> bool
     ensures { result ≡ some_short (run_fixed n columns.now pops.now stack.now) }
 {
@@ -19,6 +22,29 @@ fn too_short(n: u64, columns: &[u32], pops: &[u32], stack: &[u32]) -> bool
         return true;
     }
     (stack.len() as u64) < n
+}
+
+// Tests 1, 4, 5, 6 and 7, which come before the first step, whatever room the run is given.
+fn early_fault(
+    n: u64,
+    starts: &[u64],
+    rows: &[u32],
+    columns: &[u32],
+    pops: &[u32],
+    stack: &[u32],
+) -> Result<(), Refused>
+    ensures { (room : ℕ) → verdict_from result ≡ first run_early (run_of n starts.now rows.now columns.now pops.now room
+        stack.now) }
+{
+    if papers::MAX_COLUMNS < n {
+        return refuse(Refusal::TooManyColumns, 0, 0);
+    }
+    job_starts::starts_fault(n, starts, rows)?;
+    job_rows::rows_fault(n, starts, rows)?;
+    if too_short(n, columns, pops, stack) {
+        return refuse(Refusal::SliceTooShort, 0, 0);
+    }
+    Ok(())
 }
 
 // Runs n steps, each a column and its pops, on a factor's lists within a room. Tests 1, 4, 5, 6 and 7 before the first step; these leave
@@ -43,21 +69,10 @@ pub fn run(
           stack = stack.old;
         })) }
 {
-    if papers::MAX_COLUMNS < n {
-        return basics::answered(1, 0, 0);
+    if let Err(refused) = early_fault(n, starts, rows, columns, pops, stack) {
+        return Answer::from(refused);
     }
-    let of_starts = job_starts::starts_fault(n, starts, rows);
-    if of_starts.number != 0 {
-        return of_starts;
-    }
-    let of_rows = job_rows::rows_fault(n, starts, rows);
-    if of_rows.number != 0 {
-        return of_rows;
-    }
-    if too_short(n, columns, pops, stack) {
-        return basics::answered(7, 0, 0);
-    }
-    let answer = run_steps::steps(n, starts, rows, columns, pops, room, stack);
-    slices::clear32(stack);
-    answer
+    let outcome = run_steps::steps(n, starts, rows, columns, pops, room, stack);
+    stack.fill(0);
+    refusals::answer(outcome)
 }
