@@ -1,4 +1,4 @@
--- Proves how readings and answers correspond: a field's number and range decide its answer, and an answer tells what was read.
+-- Proves that a field's number and range decide what reading the field finds.
 -- Assumes nothing.
 use Prim.Native.Nat.{ℕ, ◌+◌, ◌-◌, ◌*◌, ◌<◌, ◌≤◌}
 use mathlib.Core.Bool.{true, false}
@@ -14,46 +14,43 @@ use Rattle.papers.specs.declared.Number.TheVariants.{Value, Ended, TooLong, NotS
 use Rattle.papers.specs.declared.Number.{Number}
 use Rattle.bytes_laws.proofs.Fields as fields
 use Rattle.bytes_laws.proofs.NumberReading.{read-last, read_more, shown-some, last-shown}
-use Rattle.read_fields.specs.Reading.{reading, Told, finds, meets-fault}
-use Rattle.read_fields.specs.declared.Reading.TheVariants.{Found, Refused}
-use Rattle.read_fields.specs.declared.Reading.{Reading}
 
 -- ---- a field, by its number
 
 module _ (low high at v next : ℕ) where
   -- a number outside its range is 14, at its first place
-  pub below-range : v < low → Refused 14 (at + 1) ≡ reading (within_field low high at (Value v next))
-  unfolding within_field reading
+  pub below-range : v < low → bad 14 (at + 1) ≡ within_field low high at (Value v next)
+  unfolding within_field
   below-range h = rw (lt-ltb v low h, within_field)
 
   module _ (l : low ≤ v) where
-    pub above-range : high < v → Refused 14 (at + 1) ≡ reading (within_field low high at (Value v next))
-    unfolding within_field reading
+    pub above-range : high < v → bad 14 (at + 1) ≡ within_field low high at (Value v next)
+    unfolding within_field
     above-range h = rw (le-ltb v low l, lt-ltb high v h, within_field)
 
-    pub in-range : v ≤ high → Found v next ≡ reading (within_field low high at (Value v next))
-    unfolding within_field reading
+    pub in-range : v ≤ high → got v next ≡ within_field low high at (Value v next)
+    unfolding within_field
     in-range h = rw (le-ltb v low l, le-ltb high v h, within_field)
 
 -- bytes that end within a number are 12; a number that is too long or not shortest is 13
 module _ (low high at : ℕ) where
-  pub ended-is-12 : Refused 12 (at + 1) ≡ reading (within_field low high at Ended)
-  unfolding within_field reading
+  pub ended-is-12 : bad 12 (at + 1) ≡ within_field low high at Ended
+  unfolding within_field
   ended-is-12 = refl
 
-  pub too-long-is-13 : Refused 13 (at + 1) ≡ reading (within_field low high at TooLong)
-  unfolding within_field reading
+  pub too-long-is-13 : bad 13 (at + 1) ≡ within_field low high at TooLong
+  unfolding within_field
   too-long-is-13 = refl
 
-  pub not-shortest-is-13 : Refused 13 (at + 1) ≡ reading (within_field low high at NotShortest)
-  unfolding within_field reading
+  pub not-shortest-is-13 : bad 13 (at + 1) ≡ within_field low high at NotShortest
+  unfolding within_field
   not-shortest-is-13 = refl
 
--- the number read at a place gives the field's answer
-pub field-by-number : (low high : ℕ) (s : List ℕ) (at : ℕ) {x : Number} {r : Reading} → x ≡ number_read_from s at → r ≡ reading (within_field low high at x)
-    → r ≡ reading (field low high s at)
+-- the number read at a place gives the field
+pub field-by-number : (low high : ℕ) (s : List ℕ) (at : ℕ) {x : Number} {r : Read ℕ} → x ≡ number_read_from s at → r ≡ within_field low high at x
+    → r ≡ field low high s at
 unfolding field
-field-by-number low high s at e f = f ∙ ap (λ (x : Number). reading (within_field low high at x)) e
+field-by-number low high s at e f = f ∙ ap (within_field low high at) e
 
 -- a byte below 128 is a number
 pub one-group : (s : List ℕ) (at : ℕ) {b : ℕ} → at < length s → b ≡ get_or s at 0 → b < 128 → Value b (at + 1) ≡ number_read_from s at
@@ -74,55 +71,13 @@ two-groups s at {low} {next} h e l f z u =
     let place : at + 1 + 1 ≡ at + 2 = omega arith in
     sym (first ∙ ap (over (get_or s at 0 - 128)) last ∙ rw (place, ← e, ← f))
 
--- ---- from an answer to the reading
-
-reading-found : (f : Read ℕ) {r : Reading} {v next : ℕ} → r ≡ reading f → r ≡ Found v next → f ≡ got v next
-unfolding reading
-reading-found (got w m) {v = v} {next = next} e g = let x : w ≡ v = cc in let y : m ≡ next = cc in rw (x, y)
-reading-found (bad c p) e g = absurd (let z : ◌≡◌ {A = ℕ} 0 1 = cc in omega arith)
-
-reading-refused : (f : Read ℕ) {r : Reading} {number place : ℕ} → r ≡ reading f → r ≡ Refused number place → f ≡ bad number place
-unfolding reading
-reading-refused (got w m) e g = absurd (let z : ◌≡◌ {A = ℕ} 0 1 = cc in omega arith)
-reading-refused (bad c p) {number = number} {place = place} e g = let x : c ≡ number = cc in let y : p ≡ place = cc in rw (x, y)
-
-module _ (low high : ℕ) (s : List ℕ) (at : ℕ) {r : Reading} (e : r ≡ reading (field low high s at)) where
-  -- a field that is refused
-  pub field-refused : {number place : ℕ} → r ≡ Refused number place → field low high s at ≡ bad number place
-  field-refused g = reading-refused (field low high s at) e g
-
-  -- a field that is found
-  pub field-read : {v next : ℕ} → r ≡ Found v next → field low high s at ≡ got v next
-  field-read g = reading-found (field low high s at) e g
-
-  -- the field is in its range, and ends within the bytes
-  pub field_found : {v next : ℕ} → r ≡ Found v next → fields.Found low high s at v next
-  field_found {v} {next} g = fields.field-got low high s at v next (field-read g)
+-- ---- a field that is found
 
 -- finds a field from a number in its range
 pub field_is : (low high : ℕ) (s : List ℕ) (at : ℕ) {v next : ℕ} → Value v next ≡ number_read_from s at → low ≤ v → v ≤ high
     → field low high s at ≡ got v next
-field_is low high s at {v} {next} e l h = field-read low high s at (field-by-number low high s at e (in-range low high at v next l h)) refl
+field_is low high s at {v} {next} e l h = sym (field-by-number low high s at e (in-range low high at v next l h))
 
--- a part is found, and kept
-pub record PartFound {A : Type 0} (f : A → ℕ) (Kept : A → Type 0) (found : Read A) (v next : ℕ) : Type 0 where
-  pub part : A
-  pub read : found ≡ got part next
-  pub value : v ≡ f part
-  pub kept : Kept part
-
-module _ {A : Type 0} {f : A → ℕ} {Kept : A → Type 0} {found : Read A} where
-  pub told-found : {r : Reading} {v next : ℕ} → Told f Kept found r → r ≡ Found v next → PartFound f Kept found v next
-  told-found {next = next} (finds a m e g k) h = let y : m ≡ next = cc in record { part = a; read = e ∙ ap (got a) y; value = cc; kept = k }
-  told-found (meets-fault c p e g) h = absurd (let z : ◌≡◌ {A = ℕ} 0 1 = cc in omega arith)
-
-  -- a part is refused
-  pub told-refused : {r : Reading} {number place : ℕ} → Told f Kept found r → r ≡ Refused number place → found ≡ bad number place
-  told-refused (finds a m e g k) h = absurd (let z : ◌≡◌ {A = ℕ} 0 1 = cc in omega arith)
-  told-refused {number = number} {place = place} (meets-fault c p e g) h = let x : c ≡ number = cc in let y : p ≡ place = cc in rw (← x, ← y) e
-
--- what is told of one reading is told of any equal reading
-pub told_of : {A : Type 0} {f : A → ℕ} {Kept : A → Type 0} {found same : Read A} {r : Reading} → same ≡ found → Told f Kept found r
-    → Told f Kept same r
-told_of e (finds a next g h k) = finds a next (e ∙ g) h k
-told_of e (meets-fault number place g h) = meets-fault number place (e ∙ g) h
+-- the field is in its range, and ends within the bytes
+pub field_found : {low high : ℕ} {s : List ℕ} {at v next : ℕ} → got v next ≡ field low high s at → fields.Found low high s at v next
+field_found {low} {high} {s} {at} {v} {next} e = fields.field-got low high s at v next (sym e)

@@ -1,86 +1,77 @@
-// Reads a field from any bytes: a number of its range, or the refusal's number and place. Believes nothing of the bytes before testing its
-// range.
+// Reads a field from any bytes: a number of its range, or its fault. Believes nothing of the bytes before testing its range.
 #![tactic(auto)]
 
-ghost use Rattle.std.specs.Prelude.{◌≡◌, ◌≢◌, ◌+◌, ◌^◌, ◌≤◌, ◌<◌, length};
+ghost use Rattle.std.specs.Prelude.{◌≡◌, ◌≢◌, ◌+◌, ◌^◌, ◌≤◌, ◌<◌, length, Err, IfSome};
 ghost use Rattle.papers.specs.Numbers.{number_read_from, within_field, field};
 ghost use Rattle.papers.specs.declared.Number.TheVariants.{Value};
-ghost use Rattle.read_fields.specs.Reading.{reading};
+ghost use Rattle.read_fields.specs.Reading.{read_from_result};
 
 use papers::Number;
+use refusals::{Fault, Refusal};
 
-// What reading a part of a plan answers: a value and the place behind it; or a refusal's number and place.
-#[derive(Clone, Copy, Drop)]
-pub enum Reading {
-    Found { value: u64, next: usize },
-    Refused { number: u64, place: u64 },
+// Refuses at the byte of index `at`; its place counts from 1.
+pub fn fault_at<T>(refusal: Refusal, at: usize) -> Result<T, Fault>
+    requires { at + 1 < 2 ^ 64 }
+    ensures { result ≡ Err (record { refusal = refusal; place = at + 1 }) }
+{
+    Err(Fault {
+        refusal,
+        place: at as u64 + 1,
+    })
 }
 
-// Answers the value that was read from `at` up to next as a field from low to high, or 14 if it is outside.
-fn in_range(at: usize, low: u64, high: u64, value: u64, next: usize) -> Reading
+// Answers the value that was read from `at` up to next as a field from low to high, and the place behind it; or that it is outside.
+fn in_range(at: usize, low: u64, high: u64, value: u64, next: usize) -> Result<(u64, usize), Fault>
     requires { at + 1 < 2 ^ 64 }
-    ensures { result ≡ reading (within_field low high at (Value value next)) }
+    ensures { read_from_result result ≡ within_field low high at (Value value next) }
 {
     if value < low || high < value {
-        return Reading::Refused {
-            number: 14,
-            place: at as u64 + 1,
-        };
+        return fault_at(Refusal::ValueOutOfRange, at);
     }
-    Reading::Found { value, next }
+    Ok((value, next))
 }
 
-// The number that starts at `at` if it has two groups, else 0.
-pub fn two_groups(plan: &[u8], at: usize) -> u64
+// The number that starts at `at`, if it has two groups.
+pub fn two_groups(plan: &[u8], at: usize) -> Option<u64>
     requires { at ≤ length plan.now }
-    ensures { result ≢ 0 → Value result (at + 2) ≡ number_read_from plan.now at }
+    ensures { IfSome result (λ value. (value ≢ 0) × (Value value (at + 2) ≡ number_read_from plan.now at)) }
 {
     if plan.len() - at < 2 {
-        return 0;
+        return None;
     }
-    let low = basics::wide8(plan[at]);
-    let next = basics::wide8(plan[at + 1]);
+    let low = u64::from(plan[at]);
+    let next = u64::from(plan[at + 1]);
     if low < 128 || next == 0 || 127 < next {
-        return 0;
+        return None;
     }
-    low - 128 + 128 * next
+    Some(low - 128 + 128 * next)
 }
 
-// Reads a field from low to high whose number starts at `at` and has any length.
-pub fn read_long(plan: &[u8], at: usize, low: u64, high: u64) -> Reading
+// Reads a field from low to high whose number starts at `at` and has any length. Answers its value and the place behind it.
+pub fn read_long(plan: &[u8], at: usize, low: u64, high: u64) -> Result<(u64, usize), Fault>
     requires { at ≤ length plan.now }
-    ensures { result ≡ reading (field low high plan.now at) }
+    ensures { read_from_result result ≡ field low high plan.now at }
 {
-    let place = at as u64 + 1;
     match read_number::read_number(plan, at) {
-        Number::Value { value, next } => {
-            return in_range(at, low, high, value, next);
-        }
-        Number::Ended => {
-            return Reading::Refused { number: 12, place };
-        }
-        Number::TooLong => {
-            return Reading::Refused { number: 13, place };
-        }
-        Number::NotShortest => {
-            return Reading::Refused { number: 13, place };
-        }
+        Number::Value { value, next } => in_range(at, low, high, value, next),
+        Number::Ended => fault_at(Refusal::BytesEnd, at),
+        Number::TooLong => fault_at(Refusal::NumberTooLong, at),
+        Number::NotShortest => fault_at(Refusal::NumberTooLong, at),
     }
 }
 
 // The same. Most numbers have one group or two; these are read without the loop.
-pub fn read_field(plan: &[u8], at: usize, low: u64, high: u64) -> Reading
+pub fn read_field(plan: &[u8], at: usize, low: u64, high: u64) -> Result<(u64, usize), Fault>
     requires { at ≤ length plan.now }
-    ensures { result ≡ reading (field low high plan.now at) }
+    ensures { read_from_result result ≡ field low high plan.now at }
 {
     if at < plan.len() {
-        let b = basics::wide8(plan[at]);
+        let b = u64::from(plan[at]);
         if b < 128 {
             return in_range(at, low, high, b, at + 1);
         }
     }
-    let value = two_groups(plan, at);
-    if value != 0 {
+    if let Some(value) = two_groups(plan, at) {
         return in_range(at, low, high, value, at + 2);
     }
     read_long(plan, at, low, high)

@@ -2,67 +2,42 @@
 -- ranges make the head.
 -- Assumes nothing.
 use Prim.Native.Nat.{ℕ}
-use mathlib.Core.Path.{◌≡◌, refl, sym, ap, ◌∙◌}
+use mathlib.Core.Path.{◌≡◌, ◌∙◌}
 use mathlib.Core.List.{List}
-use native.Mathlib.Omega.{arith}
 use Rattle.papers.specs.Bounds.{edition, max_columns, max_mark, max_limit}
-use Rattle.papers.specs.Numbers.{Read, got, bad, field}
+use Rattle.papers.specs.Numbers.{got, bad, field}
 use Rattle.papers.specs.declared.JobHead.{JobHead}
 use Rattle.bytes_laws.proofs.Fields.{got-inj, then-got, then-bad, then-only, field-got}
-use Rattle.read_key.specs.Keys.{mark_read_from, head_read_from, head_reading, CountAsked}
-use Rattle.read_key.specs.declared.HeadReading.{HeadReading}
-use Rattle.read_key.specs.declared.HeadReading.TheVariants.{Head, Faulty}
-
--- ---- to the answer
-
-faulty : {found : Read JobHead} {number place : ℕ} → found ≡ bad number place → Faulty ≡ head_reading found
-unfolding head_reading
-faulty e = rw e
+use Rattle.read_key.specs.Keys.{mark_read_from, head_read_from, CountAsked}
 
 module _ (n : ℕ) (s : List ℕ) (at : ℕ) where
-  pub no-mark : {number place : ℕ} → field 0 max_mark s at ≡ bad number place → Faulty ≡ head_reading (mark_read_from n s at)
+  pub no-mark : {number place : ℕ} → field 0 max_mark s at ≡ bad number place → mark_read_from n s at ≡ bad number place
   unfolding mark_read_from
-  no-mark e = faulty (then-bad _ e)
+  no-mark e = then-bad _ e
 
   module _ {mark m : ℕ} (e : field 0 max_mark s at ≡ got mark m) where
-    pub no-limit : {number place : ℕ} → field 0 max_limit s m ≡ bad number place → Faulty ≡ head_reading (mark_read_from n s at)
+    pub no-limit : {number place : ℕ} → field 0 max_limit s m ≡ bad number place → mark_read_from n s at ≡ bad number place
     unfolding mark_read_from
-    no-limit f = faulty (then-got _ e ∙ then-bad _ f)
+    no-limit f = then-got _ e ∙ then-bad _ f
 
     pub mark-limit : {limit next : ℕ} → field 0 max_limit s m ≡ got limit next
-        → Head (record { n = n; mark = mark; limit = limit }) next ≡ head_reading (mark_read_from n s at)
-    unfolding mark_read_from head_reading
-    mark-limit f = ap head_reading (sym (then-got _ e ∙ then-got _ f))
+        → mark_read_from n s at ≡ got (record { n = n; mark = mark; limit = limit }) next
+    unfolding mark_read_from
+    mark-limit f = then-got _ e ∙ then-got _ f
 
 module _ (s : List ℕ) where
-  pub no-edition : {number place : ℕ} → field edition edition s 0 ≡ bad number place → Faulty ≡ head_reading (head_read_from s)
+  pub no-edition : {number place : ℕ} → field edition edition s 0 ≡ bad number place → head_read_from s ≡ bad number place
   unfolding head_read_from
-  no-edition e = faulty (then-bad _ e)
+  no-edition e = then-bad _ e
 
   module _ {e m : ℕ} (f : field edition edition s 0 ≡ got e m) where
-    pub no-columns : {number place : ℕ} → field 0 max_columns s m ≡ bad number place → Faulty ≡ head_reading (head_read_from s)
+    pub no-columns : {number place : ℕ} → field 0 max_columns s m ≡ bad number place → head_read_from s ≡ bad number place
     unfolding head_read_from
-    no-columns g = faulty (then-got _ f ∙ then-bad _ g)
+    no-columns g = then-got _ f ∙ then-bad _ g
 
-    pub columns-mark : {n next : ℕ} {r : HeadReading} → field 0 max_columns s m ≡ got n next → r ≡ head_reading (mark_read_from n s next)
-        → r ≡ head_reading (head_read_from s)
+    pub columns-mark : {n next : ℕ} → field 0 max_columns s m ≡ got n next → head_read_from s ≡ mark_read_from n s next
     unfolding head_read_from
-    columns-mark g h = h ∙ ap head_reading (sym (then-got _ f ∙ then-got _ g))
-
--- ---- from the answer
-
--- the head that is answered is the one that is read
-pub head-found : (found : Read JobHead) {r : HeadReading} {head : JobHead} {next : ℕ} → r ≡ head_reading found → r ≡ Head head next
-    → found ≡ got head next
-unfolding head_reading
-head-found (got h m) {head = head} {next = next} e g = let x : h ≡ head = cc in let y : m ≡ next = cc in rw (x, y)
-head-found (bad c p) e g = absurd (let z : ◌≡◌ {A = ℕ} 0 1 = cc in omega arith)
-
-pub head-faulty : (found : Read JobHead) {r : HeadReading} → r ≡ head_reading found → r ≡ Faulty
-    → (number : ℕ) × (place : ℕ) × (found ≡ bad number place)
-unfolding head_reading
-head-faulty (got h m) e g = absurd (let z : ◌≡◌ {A = ℕ} 0 1 = cc in omega arith)
-head-faulty (bad c p) e g = (c, p, refl)
+    columns-mark g = then-got _ f ∙ then-got _ g
 
 -- the head's size is within its bound, and it ends within the bytes, so its lists can be counted
 pub head-fits : (s : List ℕ) (head : JobHead) (at : ℕ) → head_read_from s ≡ got head at → CountAsked s at head.n

@@ -3,8 +3,10 @@
 -- Assumes nothing.
 use Prim.Native.Nat.{ℕ, ◌+◌, ◌<◌, ◌≤◌}
 use mathlib.Core.Path.{◌≡◌, refl, sym, ap, ◌∙◌}
+use Rattle.std.specs.Prelude.{Some, None, Result, Ok, Err}
+use Rattle.std.specs.Result.{result_ok}
+use Rattle.std.proofs.lemmas.Option.{none-some}
 use mathlib.Core.List.{List}
-use native.Mathlib.Omega.{arith}
 use lib.ListN.{length}
 use borrow.Author.Tests.{lt-ltb, le-ltb}
 use Rattle.papers.specs.Bounds.{edition, max_columns, max_mark, max_limit}
@@ -14,11 +16,8 @@ use Rattle.papers.specs.Numbers.{Read, got, bad, then, field, at_end}
 use Rattle.papers.specs.Key.{lists_read_from, key_read_from}
 use Rattle.papers.specs.declared.JobHead.{JobHead}
 use Rattle.bytes_laws.proofs.Fields.{then-got, then-bad}
-use Rattle.read_fields.specs.Reading.{Told, finds, meets-fault}
-use Rattle.read_fields.specs.declared.Reading.{Reading}
-use Rattle.read_key.specs.Keys.{mark_read_from, head_read_from, KeyParts, KeyTold, reads, not-read}
-use Rattle.read_key.specs.declared.KeyReading.{KeyReading}
-use Rattle.read_key.specs.declared.KeyReading.TheVariants.{Whole, Unreadable}
+use Rattle.read_fields.specs.Reading.{PartFound}
+use Rattle.read_key.specs.Keys.{mark_read_from, head_read_from, KeyParts, KeyTold}
 use Rattle.read_key.proofs.Heads.{head-fits}
 
 -- reading behind two parts is reading behind the first, then behind the second
@@ -59,58 +58,54 @@ module _ (s : List ℕ) where
       from-columns at =
           then-then (field 0 max_columns s at) (λ n at. mark_read_from n s at) rest ∙ ap (then (field 0 max_columns s at)) (λ i n at. from-mark n at i)
 
-  pub no-head : {number place : ℕ} → head_read_from s ≡ bad number place → KeyTold s Unreadable
-  no-head e = not-read (key-by-head ∙ then-bad _ e) refl
+  pub no-head : {number place : ℕ} → head_read_from s ≡ bad number place → KeyTold s None
+  no-head e = (_, _, key-by-head ∙ then-bad _ e)
 
   module _ {head : JobHead} {at : ℕ} (e : head_read_from s ≡ got head at) where
     behind-head : key_read_from s ≡ rest head at
     behind-head = key-by-head ∙ then-got _ e
 
-    pub no-lists : {number place : ℕ} → lists_read_from head.n 1 head.n s at ≡ bad number place → KeyTold s Unreadable
+    pub no-lists : {number place : ℕ} → lists_read_from head.n 1 head.n s at ≡ bad number place → KeyTold s None
     unfolding rest
-    no-lists f = not-read (behind-head ∙ then-bad _ f) refl
+    no-lists f = (_, _, behind-head ∙ then-bad _ f)
 
-    module _ {lists : List (List ℕ)} {end : ℕ} (f : lists_read_from head.n 1 head.n s at ≡ got lists end) where
-      at-end : key_read_from s ≡ at_end (job_of head (starts_counted_from 0 lists) (flat lists)) s end
+    module _ {Kept : List (List ℕ) → Type 0} {rows end : ℕ}
+        (f : PartFound (λ lists. length (flat lists)) Kept (lists_read_from head.n 1 head.n s at) rows end) where
+      at-end : key_read_from s ≡ at_end (job_of head (starts_counted_from 0 f.part) (flat f.part)) s end
       unfolding rest
-      at-end = behind-head ∙ then-got _ f
+      at-end = behind-head ∙ then-got _ f.read
 
       -- bytes after the lists
-      pub bytes_after : end < length s → KeyTold s Unreadable
+      pub bytes_after : end < length s → KeyTold s None
       unfolding at_end
-      bytes_after h = not-read {number = 15} {place = end + 1} (at-end ∙ rw (lt-ltb end (length s) h, at_end)) refl
+      bytes_after h = (15, end + 1, at-end ∙ rw (lt-ltb end (length s) h, at_end))
 
-      pub key-whole : {rows : ℕ} → rows ≡ length (flat lists) → length s ≤ end → KeyTold s (Whole head rows at)
+      pub key-whole : length s ≤ end → KeyParts s head rows at
       unfolding at_end
-      key-whole c h =
+      key-whole h =
           let fits = head-fits s head at e in
-          reads {head = head} (record {
-            lists = lists;
+          record {
+            lists = f.part;
             end = end;
             whole = at-end ∙ rw (le-ltb end (length s) h, at_end);
-            stand = f;
-            counted = c;
+            stand = f.read;
+            counted = f.value;
             few = fits.few;
             inside = fits.inside;
-          }) refl
+          }
 
--- what is told of a part that is kept is told of it without keeping
-pub told-alone : {A : Type 0} {f : A → ℕ} {Kept : A → Type 0} {found : Read A} {r : Reading} → Told f Kept found r → Told f (λ a. Unit {0}) found r
-told-alone (finds a next e g k) = finds a next e g tt
-told-alone (meets-fault number place e g) = meets-fault number place e g
+-- ---- where `ok` finds a value, the Result was Ok; where it finds none, it was Err
 
--- ---- what a caller has of the answer
+module _ {T E : Type 0} where
+  pub ok-found : (r : Result T E) {x : T} → Some x ≡ result_ok r → r ≡ Ok x
+  ok-found (Ok y) e = cc
+  ok-found (Err y) e = absurd (none-some _ (sym e))
 
--- a key that is answered as whole has these parts
-pub told-whole : {s : List ℕ} {r : KeyReading} {head : JobHead} {rows at : ℕ} → KeyTold s r → r ≡ Whole head rows at → KeyParts s head rows at
-told-whole {s} {head = head} {rows = rows} {at = at} (reads {head = h} {rows = c} {at = p} parts e) g =
-    let x : h ≡ head = cc in
-    let y : c ≡ rows = cc in
-    let z : p ≡ at = cc in
-    rw (← x, ← y, ← z) parts
-told-whole (not-read e f) g = absurd (let z : ◌≡◌ {A = ℕ} 0 1 = cc in omega arith)
+  pub ok-none : (r : Result T E) → None ≡ result_ok r → (y : E) × (r ≡ Err y)
+  ok-none (Ok y) e = absurd (none-some y e)
+  ok-none (Err y) e = (y, refl)
 
--- any other key does not read through
-pub told-unreadable : {s : List ℕ} {r : KeyReading} → KeyTold s r → r ≡ Unreadable → (number : ℕ) × (place : ℕ) × (key_read_from s ≡ bad number place)
-told-unreadable (reads parts e) g = absurd (let z : ◌≡◌ {A = ℕ} 0 1 = cc in omega arith)
-told-unreadable (not-read {number = number} {place = place} e f) g = (number, place, e)
+-- a part that is found and kept is found without keeping
+pub found-alone : {A : Type 0} {f : A → ℕ} {Kept : A → Type 0} {found : Read A} {v next : ℕ} → PartFound f Kept found v next
+    → PartFound f (λ a. Unit {0}) found v next
+found-alone p = record { part = p.part; read = p.read; value = p.value; kept = tt }

@@ -1,16 +1,15 @@
 -- Defines what the reader of a key answers. A key with any fault is unreadable, so the answer tells neither the number nor the place of the fault.
 -- Assumes nothing.
-use Rattle.std.specs.Prelude.{ℕ, ◌≤◌, ◌≡◌, List, length}
+use Rattle.std.specs.Prelude.{ℕ, ◌≤◌, ◌≡◌, List, length, Option, Some, None, Result, Ok, Err}
 use Rattle.papers.specs.Bounds.{edition, max_columns, max_mark, max_limit}
 use Rattle.papers.specs.Lists.{flat, starts_counted_from}
 use Rattle.papers.specs.Job.{job_of}
 use Rattle.papers.specs.Numbers.{Read, got, bad, then, field}
 use Rattle.papers.specs.Key.{lists_read_from, key_read_from}
 use Rattle.papers.specs.declared.JobHead.{JobHead}
-use Rattle.read_key.specs.declared.HeadReading.{HeadReading}
-use Rattle.read_key.specs.declared.HeadReading.TheVariants.{Head, Faulty}
-use Rattle.read_key.specs.declared.KeyReading.{KeyReading}
-use Rattle.read_key.specs.declared.KeyReading.TheVariants.{Whole, Unreadable}
+use Rattle.refusals.specs.declared.Fault.{Fault}
+use Rattle.read_fields.specs.Reading.{bad_from_fault}
+use Rattle.read_key.specs.declared.KeyFound.{KeyFound}
 
 -- ---- the numbers before the lists
 
@@ -23,9 +22,10 @@ mark_read_from n s at =
 unfoldable pub head_read_from : List ℕ → Read JobHead
 head_read_from s = then (field edition edition s 0) λ e at. then (field 0 max_columns s at) λ n at. mark_read_from n s at
 
-unfoldable pub head_reading : Read JobHead → HeadReading
-head_reading (got head next) = Head head next
-head_reading (bad number place) = Faulty
+-- the answer for them: the head and the place behind it, or the fault
+abbrev pub HeadTold : Read JobHead → Result (JobHead × ℕ) Fault → Type 0
+HeadTold found (Ok answered) = found ≡ got answered.0 answered.1
+HeadTold found (Err fault) = found ≡ bad_from_fault fault
 
 -- ---- the lists
 
@@ -46,7 +46,7 @@ pub record KeyParts (key : List ℕ) (head : JobHead) (rows at : ℕ) : Type 0 w
   pub few : head.n ≤ max_columns
   pub inside : at ≤ length key
 
--- the answer for a key
-pub data KeyTold (key : List ℕ) (r : KeyReading) : Type 0 where
-  reads : {head : JobHead} {rows at : ℕ} → KeyParts key head rows at → r ≡ Whole head rows at → KeyTold key r
-  not-read : {number place : ℕ} → key_read_from key ≡ bad number place → r ≡ Unreadable → KeyTold key r
+-- the answer for a key: the parts that it reads through as, or None for any fault
+abbrev pub KeyTold : List ℕ → Option KeyFound → Type 0
+KeyTold key (Some found) = KeyParts key found.head found.rows found.lists
+KeyTold key None = (number : ℕ) × (place : ℕ) × (key_read_from key ≡ bad number place)

@@ -2,148 +2,68 @@
 // Keeps nothing of the lists, so it judges a key of any size. A caller with room for the lists reads them again from where they begin.
 #![tactic(auto)]
 
-ghost use Rattle.std.specs.Prelude.{◌≡◌, ◌≤◌, length};
+ghost use Rattle.std.specs.Prelude.{◌≤◌, length};
 ghost use Rattle.papers.specs.Lists.{flat};
 ghost use Rattle.papers.specs.Key.{lists_read_from};
 ghost use Rattle.read_fields.specs.Reading.{Told};
-ghost use Rattle.read_key.specs.Keys.{mark_read_from, head_read_from, head_reading, CountAsked, KeyTold};
+ghost use Rattle.read_key.specs.Keys.{mark_read_from, head_read_from, HeadTold, CountAsked, KeyTold};
 
 use papers::JobHead;
-use read_fields::Reading;
+use refusals::Fault;
 
-// What the numbers before the lists say, and the place behind them; or that they are at fault.
+// What is found in a key that was read to its end: the numbers of its job, how many rows its lists have, and where they begin.
 #[derive(Clone, Copy, Drop)]
-pub enum HeadReading {
-    Head { head: JobHead, next: usize },
-    Faulty,
+pub struct KeyFound {
+    pub head: JobHead,
+    pub rows: u64,
+    pub lists: usize,
 }
 
-// What reading a whole key answers: the numbers of its job, how many rows its lists have, and where they begin; or that it is not readable.
-#[derive(Clone, Copy, Drop)]
-pub enum KeyReading {
-    Whole {
-        head: JobHead,
-        rows: u64,
-        lists: usize,
-    },
-    Unreadable,
-}
-
-// Reads mark and limit from `at` on, for a job of n columns.
-fn read_mark(key: &[u8], at: usize, n: u64) -> HeadReading
+// Reads mark and limit from `at` on, for a job of n columns. Answers the numbers before the lists, and the place behind them.
+fn read_mark(key: &[u8], at: usize, n: u64) -> Result<(JobHead, usize), Fault>
     requires { at ≤ length key.now }
-    ensures { result ≡ head_reading (mark_read_from n key.now at) }
+    ensures { HeadTold (mark_read_from n key.now at) result }
 {
-    match read_fields::read_field(key, at, 0, papers::MAX_MARK) {
-        Reading::Refused {
-            number: _,
-            place: _,
-        } => {
-            return HeadReading::Faulty;
-        }
-        Reading::Found {
-            value: mark,
-            next: middle,
-        } => {
-            match read_fields::read_field(key, middle, 0, papers::MAX_LIMIT) {
-                Reading::Refused {
-                    number: _,
-                    place: _,
-                } => {
-                    return HeadReading::Faulty;
-                }
-                Reading::Found { value: limit, next } => {
-                    return HeadReading::Head {
-                        head: JobHead { n, mark, limit },
-                        next,
-                    };
-                }
-            }
-        }
-    }
+    let (mark, middle) = read_fields::read_field(key, at, 0, papers::MAX_MARK)?;
+    let (limit, next) = read_fields::read_field(key, middle, 0, papers::MAX_LIMIT)?;
+    Ok((JobHead { n, mark, limit }, next))
 }
 
-// Reads edition, n, mark and limit.
-fn read_head(key: &[u8]) -> HeadReading
-    ensures { result ≡ head_reading (head_read_from key.now) }
+// Reads edition, n, mark and limit, and answers as read_mark does.
+fn read_head(key: &[u8]) -> Result<(JobHead, usize), Fault>
+    ensures { HeadTold (head_read_from key.now) result }
 {
-    match read_fields::read_field(key, 0, papers::EDITION, papers::EDITION) {
-        Reading::Refused {
-            number: _,
-            place: _,
-        } => {
-            return HeadReading::Faulty;
-        }
-        Reading::Found {
-            value: _,
-            next: middle,
-        } => {
-            match read_fields::read_field(key, middle, 0, papers::MAX_COLUMNS) {
-                Reading::Refused {
-                    number: _,
-                    place: _,
-                } => {
-                    return HeadReading::Faulty;
-                }
-                Reading::Found { value: n, next } => {
-                    return read_mark(key, next, n);
-                }
-            }
-        }
-    }
+    let (_edition, middle) = read_fields::read_field(key, 0, papers::EDITION, papers::EDITION)?;
+    let (n, next) = read_fields::read_field(key, middle, 0, papers::MAX_COLUMNS)?;
+    read_mark(key, next, n)
 }
 
-// Reads the lists of all columns from `at` on, keeps nothing, and answers how many rows they have. In the loop the lists of the columns
-// before j are read, with `total` rows, and the next starts at k.
-fn count_rows(key: &[u8], at: usize, n: u64) -> Reading
+// Reads the lists of all columns from `at` on, keeps nothing, and answers how many rows they have, and the place behind them. In the loop
+// the lists of the columns before j are read, with `total` rows, and the next starts at k.
+fn count_rows(key: &[u8], at: usize, n: u64) -> Result<(u64, usize), Fault>
     requires { CountAsked key.now at n }
     ensures { Told (λ lists. length (flat lists)) (λ lists. Unit {0}) (lists_read_from n 1 n key.now at) result }
 {
     let mut none = [0u32; 0];
     let mut k = at;
-    let mut j = 1;
     let mut total: u64 = 0;
-    while j <= n {
-        match read_lists::read_list(key, k, n, j, total as usize, &mut none) {
-            Reading::Refused { number, place } => {
-                return Reading::Refused { number, place };
-            }
-            Reading::Found { value, next } => {
-                total = value;
-                k = next;
-                j += 1;
-            }
-        }
+    for j in 1..=n {
+        let (counted, next) = read_lists::read_list(key, k, n, j, total as usize, &mut none)?;
+        total = counted;
+        k = next;
     }
-    Reading::Found {
-        value: total,
-        next: k,
-    }
+    Ok((total, k))
 }
 
-// Reads the whole key: its numbers, its lists, and the end.
-pub fn read_key(key: &[u8]) -> KeyReading
+// Reads the whole key: its numbers, its lists, and the end. Answers what is found in it, or None if it is not readable: a caller asks for
+// neither the number nor the place of a fault.
+pub fn read_key(key: &[u8]) -> Option<KeyFound>
     ensures { KeyTold key.now result }
 {
-    match read_head(key) {
-        HeadReading::Faulty => {
-            return KeyReading::Unreadable;
-        }
-        HeadReading::Head { head, next: lists } => {
-            match count_rows(key, lists, head.n) {
-                Reading::Refused {
-                    number: _,
-                    place: _,
-                } => {
-                    return KeyReading::Unreadable;
-                }
-                Reading::Found { value: rows, next } => {
-                    if next < key.len() {
-                        return KeyReading::Unreadable;
-                    }
-                    return KeyReading::Whole { head, rows, lists };
-                }
-            }
-        }
+    let (head, lists) = read_head(key).ok()?;
+    let (rows, next) = count_rows(key, lists, head.n).ok()?;
+    if next < key.len() {
+        return None;
     }
+    Some(KeyFound { head, rows, lists })
 }

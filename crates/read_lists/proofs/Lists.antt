@@ -4,13 +4,13 @@
 use Prim.Native.Nat.{zero, suc, ℕ, ◌+◌, ◌-◌, ◌*◌, ◌^◌, ◌<◌}
 use mathlib.Core.List.{List}
 use mathlib.Core.Path.{◌≡◌, sym, ap, ◌∙◌}
-use mathlib.Core.Logic.{◌≢◌}
 use native.Mathlib.Omega.{arith}
 use lib.ListN.{length}
 use lib.Seq.{sets}
 use mir.Facts.{Fits-of_lt}
 use mir.Syntax.{w64}
 use mir.Val.{Fits}
+use Rattle.std.specs.Prelude.{Option, Some, Result, Ok, Err}
 use Rattle.papers.specs.Numbers.{got, bad, field}
 use Rattle.papers.specs.Key.{list_read_from, rows_read_from}
 use Rattle.list_laws.proofs.Stores.{sets_over}
@@ -18,9 +18,8 @@ use Rattle.bytes_laws.proofs.Fields as fields
 use Rattle.bytes_laws.proofs.Fields.{then-got, then-bad}
 use Rattle.bytes_laws.proofs.Reaches.{rows-reach}
 use Rattle.read_fields.proofs.Onto.{fails, ends}
-use Rattle.read_fields.specs.Reading.{Told, finds, meets-fault}
-use Rattle.read_fields.specs.declared.Reading.{Reading}
-use Rattle.read_fields.specs.declared.Reading.TheVariants.{Found}
+use Rattle.read_fields.specs.Reading.{Told, PartFound}
+use Rattle.refusals.specs.declared.Fault.{Fault}
 use Rattle.read_rows.specs.Rows.{ListAsked, RowsAsked, RowsRead, QuickRead}
 use Rattle.read_rows.proofs.Rows.{rows_none}
 use Rattle.read_lists.specs.Lists.{RowsKept}
@@ -71,21 +70,28 @@ module _ {n : ℕ} {s : List ℕ} {j count at t : ℕ} {rows₀ rows : List ℕ}
   pub rows-fault : {number place : ℕ} → 0 < left → field 1 (n - last) s k ≡ bad number place → rows_read_from n j count s at ≡ bad number place
   rows-fault h e = fails x.list x.whole (rows-bad n last s k left h e)
 
-  pub rows-stop : left ≡ 0 → Told (λ list. t + length list) (RowsKept t rows₀ rows) (rows_read_from n j count s at) (Found total k)
-  rows-stop z = finds x.list k (ends x.list x.whole (rows_none n last s k left z)) (ap (λ (v : ℕ). Found v k) x.placed) x.kept
+  pub rows-stop : left ≡ 0 → PartFound (λ list. t + length list) (RowsKept t rows₀ rows) (rows_read_from n j count s at) total k
+  rows-stop z = record { part = x.list; read = ends x.list x.whole (rows_none n last s k left z); value = x.placed; kept = x.kept }
 
 -- ---- rows read quickly
 
-module _ {n : ℕ} {s : List ℕ} {j count at t : ℕ} {rows₀ rows : List ℕ} {r : ℕ} (q : QuickRead n s j count at t rows₀ rows r) where
-  pub quick-told : r ≢ 0 → Told (λ list. t + length list) (RowsKept t rows₀ rows) (rows_read_from n j count s at) (Found (t + count) r)
-  quick-told h =
-      finds q.list r (q.whole h) (ap (λ (v : ℕ). Found (t + v) r) (sym (q.many h))) q.kept
+module _ {n : ℕ} {s : List ℕ} {j count at t : ℕ} {rows₀ rows : List ℕ} where
+  pub quick-told : {next : ℕ} → QuickRead n s j count at t rows₀ rows (Some next)
+      → PartFound (λ list. t + length list) (RowsKept t rows₀ rows) (rows_read_from n j count s at) (t + count) next
+  quick-told q = record { part = q.list; read = q.whole; value = ap (λ (v : ℕ). t + v) (sym q.many); kept = q.kept }
 
   -- the other reader's rows overwrite those kept before
-  pub quick-again : {rows' : List ℕ} {a : Reading} → Told (λ list. t + length list) (RowsKept t rows rows') (rows_read_from n j count s at) a
+  pub quick-again : {q : Option ℕ} (rows' : List ℕ) (a : Result (ℕ × ℕ) Fault) → QuickRead n s j count at t rows₀ rows q
+      → Told (λ list. t + length list) (RowsKept t rows rows') (rows_read_from n j count s at) a
       → Told (λ list. t + length list) (RowsKept t rows₀ rows') (rows_read_from n j count s at) a
-  quick-again (meets-fault number place e g) = meets-fault number place e g
-  quick-again (finds list next e g k) =
-      let l = (rows-reach n s j count at list next e).0 in
+  quick-again rows' (Err fault) q e = e
+  quick-again rows' (Ok found) q e =
+      let list = e.part in
+      let l = (rows-reach n s j count at list found.1 e.read).0 in
       let f = q.few in
-      finds list next e g (k ∙ ap (λ (m : List ℕ). sets m t list) q.kept ∙ sets_over q.list list rows₀ t (omega arith))
+      record {
+        part = list;
+        read = e.read;
+        value = e.value;
+        kept = e.kept ∙ ap (λ (m : List ℕ). sets m t list) q.kept ∙ sets_over q.list list rows₀ t (omega arith);
+      }

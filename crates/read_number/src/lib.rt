@@ -11,30 +11,26 @@ use papers::Number;
 pub fn read_number(s: &[u8], at: usize) -> Number
     ensures { result ≡ number_read_from s.now at }
 {
-    let mut i = at;
     let mut low: u64 = 0;
     let mut w: u64 = 1;
     let mut k = papers::MAX_GROUPS;
-    while i < s.len() {
+    for i in at..s.len() {
         if k == 0 {
             return Number::TooLong;
         }
-        let b = basics::wide8(s[i]);
+        let b = u64::from(s[i]);
         if b < 128 {
-            if b == 0 {
-                if at < i {
-                    return Number::NotShortest;
-                }
+            if b == 0 && at < i {
+                return Number::NotShortest;
             }
             return Number::Value {
                 value: low + w * b,
                 next: i + 1,
             };
         }
-        low = low + w * (b - 128);
-        w = w * 128;
+        low += w * (b - 128);
+        w *= 128;
         k -= 1;
-        i += 1;
     }
     Number::Ended
 }

@@ -13,12 +13,9 @@ use Rattle.papers.specs.Key.{list_read_from, lists_read_from}
 use Rattle.list_laws.proofs.Stores.{sets-append, sets_more, starts_more, length-starts, flat-more, starts-again}
 use Rattle.bytes_laws.proofs.Fields.{then-got, then-bad}
 use Rattle.bytes_laws.proofs.Reaches.{list-reach}
-use Rattle.read_fields.proofs.Answers.{told-found, told-refused}
 use Rattle.read_fields.proofs.Onto.{onto-nil, more, fails, ends, length_more}
-use Rattle.read_fields.specs.Reading.{Told, finds}
+use Rattle.read_fields.specs.Reading.{PartFound}
 use Rattle.read_lists.specs.Lists.{RowsKept}
-use Rattle.read_fields.specs.declared.Reading.TheVariants.{Found, Refused}
-use Rattle.read_fields.specs.declared.Reading.{Reading}
 use Rattle.read_plan.specs.Plans.{ListsKept}
 
 -- ---- a list and the lists behind it
@@ -79,11 +76,11 @@ module _ {n at k j total : ℕ} {s starts₀ rows₀ starts rows : List ℕ} (l 
   pub rows_long : length rows ≡ length rows₀
   rows_long = ap length l.listed ∙ length-sets rows₀ 0 (flat l.done)
 
-  module _ {rows' : List ℕ} {r : Reading} (h : j ≤ n) (t : Told (λ list. total + length list) (RowsKept total rows rows') (list_read_from n j s k) r) where
-    pub lists-turn : {starts' : List ℕ} {v m : ℕ} → r ≡ Found v m → starts' ≡ set starts j v → Lists n s at starts₀ rows₀ starts' rows' m (j + 1) v
-    lists-turn {v = v} {m = m} e y =
+  module _ (h : j ≤ n) where
+    pub lists-turn : {starts' rows' : List ℕ} {v m : ℕ} → PartFound (λ list. total + length list) (RowsKept total rows rows') (list_read_from n j s k) v m
+        → starts' ≡ set starts j v → Lists n s at starts₀ rows₀ starts' rows' m (j + 1) v
+    lists-turn {v = v} {m = m} found y =
         let d = l.done in
-        let found = told-found t e in
         let list = found.part in
         let g = found.value in
         let q = l.count in
@@ -106,12 +103,16 @@ module _ {n at k j total : ℕ} {s starts₀ rows₀ starts rows : List ℕ} (l 
               (omega arith));
         }
 
-    pub lists-fault : {number place : ℕ} → r ≡ Refused number place → lists_read_from n 1 n s at ≡ bad number place
-    lists-fault e = fails l.done l.whole (lists-bad n j s k (n + 1 - j) (omega arith) (told-refused t e))
+    pub lists-fault : {number place : ℕ} → list_read_from n j s k ≡ bad number place → lists_read_from n 1 n s at ≡ bad number place
+    lists-fault e = fails l.done l.whole (lists-bad n j s k (n + 1 - j) (omega arith) e)
 
   pub lists-stop : (z : List ℕ) → starts₀ ≡ set z 0 0 → n < j
-      → Told (λ lists. length (flat lists)) (ListsKept z starts rows₀ rows) (lists_read_from n 1 n s at) (Found total k)
+      → PartFound (λ lists. length (flat lists)) (ListsKept z starts rows₀ rows) (lists_read_from n 1 n s at) total k
   lists-stop z e h =
       let u : starts ≡ sets (set z 0 0) 0 (starts_counted_from 0 l.done) = rw (← e) l.begins in
-      finds l.done k (ends l.done l.whole (lists-none n j s k (n + 1 - j) (omega arith))) (ap (λ (x : ℕ). Found x k) l.counted)
-      (record { begins = u ∙ starts-again z l.done; listed = l.listed })
+      record {
+        part = l.done;
+        read = ends l.done l.whole (lists-none n j s k (n + 1 - j) (omega arith));
+        value = l.counted;
+        kept = record { begins = u ∙ starts-again z l.done; listed = l.listed };
+      }

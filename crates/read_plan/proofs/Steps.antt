@@ -12,12 +12,8 @@ use Rattle.papers.specs.Plan.{columns_in, pops_in, step_read_from, steps_read_fr
 use Rattle.list_laws.proofs.Stores.{sets_more}
 use Rattle.bytes_laws.proofs.Fields.{then-got, then-bad}
 use Rattle.bytes_laws.proofs.Reaches.{step-reach}
-use Rattle.read_fields.proofs.Answers.{told-found, told-refused}
 use Rattle.read_fields.proofs.Onto.{onto-nil, more, fails, ends, length_more}
-use Rattle.read_fields.specs.Reading.{Told, finds}
-use Rattle.read_fields.specs.declared.Reading.TheVariants.{Found, Refused}
-use Rattle.read_fields.specs.declared.Reading.{Reading}
-use Rattle.read_plan.specs.Plans.{StepKept, StepsKept}
+use Rattle.read_plan.specs.Plans.{PartKept, StepKept, StepsKept}
 
 -- ---- a column and its pops are numbers of 32 bits
 
@@ -83,11 +79,11 @@ module _ {n at k i : ℕ} {s order₀ pops₀ order pops : List ℕ} (l : Steps 
   pub pops-long : length pops ≡ length pops₀
   pops-long = ap length l.popped ∙ length-sets pops₀ 0 (pops_in l.done)
 
-  module _ {order' pops' : List ℕ} {r : Reading} (h : i < n) (t : Told (λ step. step.0) (StepKept i order order' pops pops') (step_read_from n s k) r) where
-    pub steps-turn : {v m : ℕ} → r ≡ Found v m → Steps n s at order₀ pops₀ order' pops' m (i + 1)
-    steps-turn {m = m} e =
+  module _ (h : i < n) where
+    pub steps-turn : {order' pops' : List ℕ} {m : ℕ} → PartKept (StepKept i order order' pops pops') (step_read_from n s k) m
+        → Steps n s at order₀ pops₀ order' pops' m (i + 1)
+    steps-turn {m = m} found =
         let d = l.done in
-        let found = told-found t e in
         let x = found.part in
         let q = l.count in
         let w : n - i - 1 ≡ n - (i + 1) = omega arith in
@@ -103,13 +99,13 @@ module _ {n at k i : ℕ} {s order₀ pops₀ order pops : List ℕ} (l : Steps 
               (omega (arith, length-map d (λ (step : ℕ × ℕ). step.1))));
         }
 
-    pub steps-fault : {number place : ℕ} → r ≡ Refused number place → steps_read_from n n s at ≡ bad number place
-    steps-fault e = fails l.done l.whole (steps-bad n s k (n - i) (omega arith) (told-refused t e))
+    pub steps-fault : {number place : ℕ} → step_read_from n s k ≡ bad number place → steps_read_from n n s at ≡ bad number place
+    steps-fault e = fails l.done l.whole (steps-bad n s k (n - i) (omega arith) e)
 
-  pub steps-stop : n ≤ i → Told length (StepsKept order₀ order pops₀ pops) (steps_read_from n n s at) (Found n k)
+  pub steps-stop : n ≤ i → PartKept (StepsKept order₀ order pops₀ pops) (steps_read_from n n s at) k
   steps-stop h =
-      let q = l.count in
-      let f = l.few in
-      let z : n ≡ length l.done = omega arith in
-      finds l.done k (ends l.done l.whole (steps-none n s k (n - i) (omega arith))) (ap (λ (x : ℕ). Found x k) z)
-      (record { columns = l.columns; popped = l.popped })
+      record {
+        part = l.done;
+        read = ends l.done l.whole (steps-none n s k (n - i) (omega arith));
+        kept = record { columns = l.columns; popped = l.popped };
+      }

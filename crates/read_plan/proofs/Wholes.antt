@@ -4,7 +4,7 @@
 use Prim.Native.Nat.{ℕ, ◌+◌, ◌<◌, ◌≤◌}
 use mathlib.Core.Bool.{Bool, true, false}
 use mathlib.Core.List.{List}
-use mathlib.Core.Path.{◌≡◌, refl, sym, ap, ◌∙◌}
+use mathlib.Core.Path.{◌≡◌, refl, ap, ◌∙◌}
 use lib.Dec.{ltb}
 use lib.ListN.{length}
 use borrow.Author.Tests.{lt-ltb, le-ltb}
@@ -13,30 +13,27 @@ use Rattle.papers.specs.Lists.{flat}
 use Rattle.papers.specs.Numbers.{Read, got, bad, then, field, at_end}
 use Rattle.papers.specs.Key.{lists_read_from}
 use Rattle.papers.specs.Plan.{Plan, steps_read_from, plan_read_from}
-use Rattle.bytes_laws.proofs.Fields.{got-bad, then-got, then-bad, then-only}
-use Rattle.bytes_laws.proofs.Plans.{end-only}
+use Rattle.bytes_laws.proofs.Fields.{then-got, then-bad}
 use Rattle.bytes_laws.proofs.Reaches.{steps-reach, lists-reach}
-use Rattle.read_fields.proofs.Answers.{PartFound}
-use Rattle.read_plan.specs.Plans.{StepsKept, ListsKept, plan_reading, peak_read_from, peak_reading, PlanKept, PlanTold}
-use Rattle.read_plan.specs.declared.PlanReading.TheVariants.{Whole, Faulty}
-use Rattle.read_plan.specs.declared.PlanReading.{PlanReading}
+use Rattle.read_fields.specs.Reading.{PartFound}
+use Rattle.read_plan.specs.Plans.{PartKept, StepsKept, ListsKept, peak_read_from, PlanRead}
 
 -- ---- the peak and the end
 
-module _ (rows : ℕ) (s : List ℕ) (at : ℕ) where
-  pub no-peak : {number place : ℕ} → field 0 max_peak s at ≡ bad number place → Faulty number place ≡ peak_reading rows (peak_read_from s at)
-  unfolding peak_read_from peak_reading
-  no-peak e = ap (peak_reading rows) (sym (then-bad _ e))
+module _ (s : List ℕ) (at : ℕ) where
+  pub no-peak : {number place : ℕ} → field 0 max_peak s at ≡ bad number place → peak_read_from s at ≡ bad number place
+  unfolding peak_read_from
+  no-peak e = then-bad _ e
 
   module _ {peak end : ℕ} (e : field 0 max_peak s at ≡ got peak end) where
     -- bytes after it are 15
-    pub bytes_after : end < length s → Faulty 15 (end + 1) ≡ peak_reading rows (peak_read_from s at)
-    unfolding peak_read_from peak_reading at_end
-    bytes_after h = rw (then-got _ e, lt-ltb end (length s) h, at_end)
+    pub bytes_after : end < length s → peak_read_from s at ≡ bad 15 (end + 1)
+    unfolding peak_read_from at_end
+    bytes_after h = then-got _ e ∙ rw (lt-ltb end (length s) h, at_end)
 
-    pub at-the-end : length s ≤ end → Whole (record { peak = peak; rows = rows }) ≡ peak_reading rows (peak_read_from s at)
-    unfolding peak_read_from peak_reading at_end
-    at-the-end h = rw (then-got _ e, le-ltb end (length s) h, at_end)
+    pub at-the-end : length s ≤ end → peak_read_from s at ≡ got peak end
+    unfolding peak_read_from at_end
+    at-the-end h = then-got _ e ∙ rw (le-ltb end (length s) h, at_end)
 
 -- ---- the parts
 
@@ -52,68 +49,57 @@ module _ (n : ℕ) (s : List ℕ) (at : ℕ) where
 
 -- parts that are read end inside the bytes
 module _ (n : ℕ) (s : List ℕ) (at : ℕ) where
-  pub steps-inside : {Kept : List (ℕ × ℕ) → Type 0} {count k : ℕ} → PartFound length Kept (steps_read_from n n s at) count k
-      → at ≤ length s → k ≤ length s
+  pub steps-inside : {Kept : List (ℕ × ℕ) → Type 0} {k : ℕ} → PartKept Kept (steps_read_from n n s at) k → at ≤ length s → k ≤ length s
   steps-inside {k = k} steps h = (steps-reach n s n at steps.part k steps.read).1.inside h
 
   pub lists-inside : {Kept : List (List ℕ) → Type 0} {total m : ℕ}
       → PartFound (λ lists. length (flat lists)) Kept (lists_read_from n 1 n s at) total m → at ≤ length s → m ≤ length s
   lists-inside {m = m} lists h = (lists-reach n s 1 n at lists.part m lists.read).1.inside h
 
--- what is answered and kept of a plan at fault
-pub plan-faulty : {found : Read Plan} {order₀ order pops₀ pops starts₀ starts rows₀ rows : List ℕ} {number place : ℕ} → found ≡ bad number place
-    → PlanTold found order₀ order pops₀ pops starts₀ starts rows₀ rows (Faulty number place)
-unfolding plan_reading
-plan-faulty e = record { answers = rw e; keeps = λ plan next f. absurd (got-bad f e) }
-
 -- ---- steps and lists are read
 
-module _ (s : List ℕ) (steps : List (ℕ × ℕ)) (lists : List (List ℕ)) where
-  -- the rest of the plan after these
-  rest : Read ℕ → Read Plan
-  rest found = then found λ peak at. at_end (record { steps = steps; lists = lists; peak = peak }) s at
-
-  rest-answer : (found : Read ℕ) → peak_reading (length (flat lists)) (then found λ peak at. at_end peak s at) ≡ plan_reading (rest found)
-  unfolding rest then at_end peak_reading plan_reading
-  rest-answer (got peak at) = go (ltb at (length s))
-    where
-      go : (t : Bool) → peak_reading (length (flat lists)) (elim t [ true ↦ bad 15 (at + 1) | false ↦ got peak at ])
-          ≡ plan_reading (elim t [ true ↦ bad 15 (at + 1) | false ↦ got (record { steps = steps; lists = lists; peak = peak }) at ])
-      go true = refl
-      go false = refl
-  rest-answer (bad number place) = refl
-
-  rest-kept : (found : Read ℕ) {plan : Plan} {next : ℕ} → rest found ≡ got plan next → (steps ≡ plan.steps) × (lists ≡ plan.lists)
-  unfolding rest
-  rest-kept found {plan} {next} e =
-      let (peak, at, f, g) = then-only _ found e in
-      let same = (end-only (record { steps = steps; lists = lists; peak = peak }) plan s at next g).0 in
-      (ap (λ (p : Plan). p.steps) same, ap (λ (p : Plan). p.lists) same)
-
 -- what is answered, and kept, of a plan whose steps and lists are read
-module _ (n : ℕ) (s : List ℕ) (at : ℕ) {order₀ order pops₀ pops starts₀ starts rows₀ rows : List ℕ} {count k total m : ℕ}
-    (steps : PartFound length (StepsKept order₀ order pops₀ pops) (steps_read_from n n s at) count k)
+module _ (n : ℕ) (s : List ℕ) (at : ℕ) {order₀ order pops₀ pops starts₀ starts rows₀ rows : List ℕ} {k total m : ℕ}
+    (steps : PartKept (StepsKept order₀ order pops₀ pops) (steps_read_from n n s at) k)
     (lists : PartFound (λ lists. length (flat lists)) (ListsKept starts₀ starts rows₀ rows) (lists_read_from n 1 n s k) total m) where
-  -- the rest is the peak
-  peak-left : plan_read_from n s at ≡ rest s steps.part lists.part (field 0 max_peak s m)
+  -- the rest is the peak, and the end
+  rest : ℕ → ℕ → Read Plan
+  rest peak end = at_end (record { steps = steps.part; lists = lists.part; peak = peak }) s end
+
+  peak-left : plan_read_from n s at ≡ then (field 0 max_peak s m) rest
   unfolding plan_read_from rest
   peak-left = then-got _ steps.read ∙ then-got _ lists.read
 
-  parts-kept : (plan : Plan) → (steps.part ≡ plan.steps) × (lists.part ≡ plan.lists)
-      → PlanKept plan order₀ order pops₀ pops starts₀ starts rows₀ rows
-  parts-kept plan (p, q) =
-      record {
-        columns = rw (← p) steps.kept.columns;
-        popped = rw (← p) steps.kept.popped;
-        begins = rw (← q) lists.kept.begins;
-        listed = rw (← q) lists.kept.listed;
-      }
+  with-peak : Read ℕ → Read Plan
+  with-peak (got peak end) = got (record { steps = steps.part; lists = lists.part; peak = peak }) end
+  with-peak (bad number place) = bad number place
 
-  pub plan-whole : {r : PlanReading} → r ≡ peak_reading total (peak_read_from s m)
-      → PlanTold (plan_read_from n s at) order₀ order pops₀ pops starts₀ starts rows₀ rows r
+  by-peak : (found : Read ℕ) → then found rest ≡ with-peak (then found λ peak at. at_end peak s at)
+  unfolding rest then at_end with-peak
+  by-peak (got peak at) = go (ltb at (length s))
+    where
+      go : (t : Bool) → elim t [ true ↦ bad 15 (at + 1) | false ↦ got (record { steps = steps.part; lists = lists.part; peak = peak }) at ]
+          ≡ with-peak (elim t [ true ↦ bad 15 (at + 1) | false ↦ got peak at ])
+      go true = refl
+      go false = refl
+  by-peak (bad number place) = refl
+
+  left-is : {found : Read ℕ} → peak_read_from s m ≡ found → plan_read_from n s at ≡ with-peak found
   unfolding peak_read_from
-  plan-whole a = record {
-    answers = a ∙ ap (λ (x : ℕ). peak_reading x (peak_read_from s m)) lists.value
-        ∙ rest-answer s steps.part lists.part (field 0 max_peak s m) ∙ ap plan_reading (sym peak-left);
-    keeps = λ plan next g. parts-kept plan (rest-kept s steps.part lists.part (field 0 max_peak s m) (sym peak-left ∙ g));
+  left-is e = peak-left ∙ by-peak (field 0 max_peak s m) ∙ ap with-peak e
+
+  pub peak-fault : {number place : ℕ} → peak_read_from s m ≡ bad number place → plan_read_from n s at ≡ bad number place
+  unfolding with-peak
+  peak-fault e = left-is e
+
+  pub plan-whole : {peak end : ℕ} → peak_read_from s m ≡ got peak end
+      → PlanRead (plan_read_from n s at) (record { peak = peak; rows = total }) order₀ order pops₀ pops starts₀ starts rows₀ rows
+  unfolding with-peak
+  plan-whole {peak} {end} e = record {
+    plan = record { steps = steps.part; lists = lists.part; peak = peak };
+    end = end;
+    read = left-is e;
+    declared = refl;
+    counted = lists.value;
+    kept = record { columns = steps.kept.columns; popped = steps.kept.popped; begins = lists.kept.begins; listed = lists.kept.listed };
   }

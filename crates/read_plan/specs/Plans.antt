@@ -1,14 +1,15 @@
 -- Defines what the reader of a plan answers, and what it keeps of the plan in the lent slices. For a plan at fault it promises nothing of what is
 -- kept.
 -- Assumes nothing.
-use Rattle.std.specs.Prelude.{ℕ, ◌+◌, ◌<◌, ◌≤◌, ◌≡◌, List, length, set}
+use Rattle.std.specs.Prelude.{ℕ, ◌+◌, ◌<◌, ◌≤◌, ◌≡◌, List, length, set, Result, Ok, Err}
 use Rattle.std.proofs.lemmas.List.Edits.{sets}
 use Rattle.papers.specs.Bounds.{max_columns, max_peak}
 use Rattle.papers.specs.Lists.{flat, starts_counted_from}
-use Rattle.papers.specs.Numbers.{Read, got, bad, then, field, at_end}
+use Rattle.papers.specs.Numbers.{Read, got, then, field, at_end}
 use Rattle.papers.specs.Plan.{Plan, columns_in, pops_in}
-use Rattle.read_plan.specs.declared.PlanReading.{PlanReading}
-use Rattle.read_plan.specs.declared.PlanReading.TheVariants.{Whole, Faulty}
+use Rattle.refusals.specs.declared.Fault.{Fault}
+use Rattle.read_fields.specs.Reading.{bad_from_fault}
+use Rattle.read_plan.specs.declared.PlanFound.{PlanFound}
 
 -- ---- what the readers require
 
@@ -57,20 +58,27 @@ pub record ListsKept (starts₀ starts rows₀ rows : List ℕ) (lists : List (L
   pub begins : starts ≡ sets starts₀ 0 (starts_counted_from 0 lists)
   pub listed : rows ≡ sets rows₀ 0 (flat lists)
 
+-- a part is read, up to next, and kept
+pub record PartKept {A : Type 0} (Kept : A → Type 0) (found : Read A) (next : ℕ) : Type 0 where
+  pub part : A
+  pub read : found ≡ got part next
+  pub kept : Kept part
+
+-- the answer for a part that is kept, by a reader that tells only the place behind it, or its fault
+abbrev pub ToldPlace : {A : Type 0} → (A → Type 0) → Read A → Result ℕ Fault → Type 0
+ToldPlace Kept found (Ok next) = PartKept Kept found next
+ToldPlace Kept found (Err fault) = found ≡ bad_from_fault fault
+
 -- ---- the whole plan
 
--- the answer: the declared peak and the number of rows; or the refusal
-unfoldable pub plan_reading : Read Plan → PlanReading
-plan_reading (got plan next) = Whole (record { peak = plan.peak; rows = length (flat plan.lists) })
-plan_reading (bad number place) = Faulty number place
-
--- reads the last part: the peak, with nothing after it; then the answer for it, of a plan whose lists have so many rows
+-- reads the last part: the peak, with nothing after it
 unfoldable pub peak_read_from : List ℕ → ℕ → Read ℕ
 peak_read_from s at = then (field 0 max_peak s at) λ peak at. at_end peak s at
 
-unfoldable pub peak_reading : ℕ → Read ℕ → PlanReading
-peak_reading rows (got peak next) = Whole (record { peak = peak; rows = rows })
-peak_reading rows (bad number place) = Faulty number place
+-- the answer for it: the peak, or the fault
+abbrev pub PeakTold : Read ℕ → Result ℕ Fault → Type 0
+PeakTold found (Ok peak) = (end : ℕ) × (found ≡ got peak end)
+PeakTold found (Err fault) = found ≡ bad_from_fault fault
 
 -- what the slices keep of a plan that is read to its end
 pub record PlanKept (plan : Plan) (order₀ order pops₀ pops starts₀ starts rows₀ rows : List ℕ) : Type 0 where
@@ -79,12 +87,17 @@ pub record PlanKept (plan : Plan) (order₀ order pops₀ pops starts₀ starts 
   pub begins : starts ≡ sets starts₀ 0 (starts_counted_from 0 plan.lists)
   pub listed : rows ≡ sets rows₀ 0 (flat plan.lists)
 
--- if the bytes hold a plan, the slices keep it
-abbrev pub Keeps : Read Plan → List ℕ → List ℕ → List ℕ → List ℕ → List ℕ → List ℕ → List ℕ → List ℕ → Type 0
-Keeps found order₀ order pops₀ pops starts₀ starts rows₀ rows =
-    (plan : Plan) (next : ℕ) → found ≡ got plan next → PlanKept plan order₀ order pops₀ pops starts₀ starts rows₀ rows
+-- a plan is read to its end, and kept, and this is found in it: its declared peak and the number of its rows
+pub record PlanRead (read-plan : Read Plan) (found : PlanFound) (order₀ order pops₀ pops starts₀ starts rows₀ rows : List ℕ) : Type 0 where
+  pub plan : Plan
+  pub end : ℕ
+  pub read : read-plan ≡ got plan end
+  pub declared : found.peak ≡ plan.peak
+  pub counted : found.rows ≡ length (flat plan.lists)
+  pub kept : PlanKept plan order₀ order pops₀ pops starts₀ starts rows₀ rows
 
--- what is answered of the bytes behind a key, and what is kept of them
-pub record PlanTold (found : Read Plan) (order₀ order pops₀ pops starts₀ starts rows₀ rows : List ℕ) (r : PlanReading) : Type 0 where
-  pub answers : r ≡ plan_reading found
-  pub keeps : Keeps found order₀ order pops₀ pops starts₀ starts rows₀ rows
+-- the answer for the bytes behind a key: what is found in a plan that is kept, or the fault
+abbrev pub PlanTold : Read Plan → List ℕ → List ℕ → List ℕ → List ℕ → List ℕ → List ℕ → List ℕ → List ℕ → Result PlanFound Fault → Type 0
+PlanTold read-plan order₀ order pops₀ pops starts₀ starts rows₀ rows (Ok found) =
+    PlanRead read-plan found order₀ order pops₀ pops starts₀ starts rows₀ rows
+PlanTold read-plan order₀ order pops₀ pops starts₀ starts rows₀ rows (Err fault) = read-plan ≡ bad_from_fault fault

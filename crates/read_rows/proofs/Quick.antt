@@ -3,7 +3,8 @@
 -- Assumes nothing.
 use Prim.Native.Nat.{ℕ, ◌+◌, ◌-◌, ◌<◌, ◌≤◌}
 use mathlib.Core.List.{List, ◌++◌}
-use mathlib.Core.Path.{◌≡◌, refl, ap}
+use Rattle.std.specs.Prelude.{Some, None}
+use mathlib.Core.Path.{◌≡◌, ap}
 use mathlib.Core.Logic.{◌≢◌}
 use native.Mathlib.Omega.{arith}
 use lib.ListN.{length, set, length-append}
@@ -22,9 +23,9 @@ module _ {n : ℕ} {s : List ℕ} {j count at t : ℕ} {rows₀ rows : List ℕ}
   quick-room e = let l = rows_long x in omega arith
 
   -- reads one more row, whose gap has two groups
-  module _ {gap : ℕ} (some : gap ≢ 0) (two : gap ≢ 0 → Value gap (k + 2) ≡ number_read_from s k) (most : gap ≤ n - last) where
+  module _ {gap : ℕ} (two : (gap ≢ 0) × (Value gap (k + 2) ≡ number_read_from s k)) (most : gap ≤ n - last) where
     read : field 1 (n - last) s k ≡ got gap (k + 2)
-    read = field_is 1 (n - last) s k (two some) (omega arith) most
+    read = let some = two.0 in field_is 1 (n - last) s k two.1 (omega arith) most
 
     pub quick-found : fields.Found 1 (n - last) s k gap (k + 2)
     quick-found = fields.field-got 1 (n - last) s k gap (k + 2) read
@@ -34,7 +35,7 @@ module _ {n : ℕ} {s : List ℕ} {j count at t : ℕ} {rows₀ rows : List ℕ}
     quick-turn h e = rows_both x (rows-one n s last left k total rows h x.high read (ap (set rows total) e))
 
   -- the rows that follow are out of their range
-  pub quick-over : {rows' : List ℕ} {more row : ℕ} → ShortRead s last left k total rows rows' more row → QuickRead n s j count at t rows₀ rows' 0
+  pub quick-over : {rows' : List ℕ} {more row : ℕ} → ShortRead s last left k total rows rows' more row → QuickRead n s j count at t rows₀ rows' None
   quick-over y =
       let a = x.counted in
       let b = y.many in
@@ -43,24 +44,24 @@ module _ {n : ℕ} {s : List ℕ} {j count at t : ℕ} {rows₀ rows : List ℕ}
         list = x.list ++ y.list;
         few = omega (arith, length-append x.list y.list);
         kept = rw (sets-append x.list rows₀ t y.list, ← x.kept, ← x.placed) y.kept;
-        whole = λ h. absurd (h refl);
-        many = λ h. absurd (h refl);
+        whole = tt;
+        many = tt;
       }
 
   -- all rows are read
-  pub quick-stop : left ≡ 0 → QuickRead n s j count at t rows₀ rows k
+  pub quick-stop : left ≡ 0 → QuickRead n s j count at t rows₀ rows (Some k)
   quick-stop z =
       let a = x.counted in
       record {
         list = x.list;
         few = omega arith;
         kept = x.kept;
-        whole = λ h. ends x.list x.whole (rows_none n last s k left z);
-        many = λ h. omega arith;
+        whole = ends x.list x.whole (rows_none n last s k left z);
+        many = omega arith;
       }
 
   -- leaves the rest to the other reader
-  pub quick-part : QuickRead n s j count at t rows₀ rows 0
+  pub quick-part : QuickRead n s j count at t rows₀ rows None
   quick-part =
       let a = x.counted in
-      record { list = x.list; few = omega arith; kept = x.kept; whole = λ h. absurd (h refl); many = λ h. absurd (h refl) }
+      record { list = x.list; few = omega arith; kept = x.kept; whole = tt; many = tt }

@@ -1,7 +1,7 @@
 -- Defines what is read and kept of a column's rows. A store past the end of a slice stores nothing, so what is kept does not depend on whether all
 -- rows fit.
 -- Assumes nothing.
-use Rattle.std.specs.Prelude.{ℕ, ◌+◌, ◌-◌, ◌*◌, ◌≤◌, ◌≡◌, ◌≢◌, List, length}
+use Rattle.std.specs.Prelude.{ℕ, ◌+◌, ◌-◌, ◌*◌, ◌≤◌, ◌≡◌, List, length, Option, IfSome}
 use Rattle.std.proofs.lemmas.List.Edits.{sets}
 use Rattle.papers.specs.Bounds.{max_columns}
 use Rattle.papers.specs.Numbers.{got, onto}
@@ -60,11 +60,11 @@ pub record ShortRead (s : List ℕ) (b left at t : ℕ) (rows₀ rows : List ℕ
   pub grows : last ≤ b + 128 * count
   pub read : (n : ℕ) → last ≤ n → RowsRead n s b left at t rows₀ rows (at + count) last (left - count) (t + count)
 
--- Rows read quickly: the rows kept are no more than the list has, and if r is not 0 they are the whole list, and r is the place behind
--- it.
-pub record QuickRead (n : ℕ) (s : List ℕ) (j count at t : ℕ) (rows₀ rows : List ℕ) (r : ℕ) : Type 0 where
+-- Rows read quickly: the rows kept are no more than the list has, and if a place is answered they are the whole list, and it is the place
+-- behind it.
+pub record QuickRead (n : ℕ) (s : List ℕ) (j count at t : ℕ) (rows₀ rows : List ℕ) (r : Option ℕ) : Type 0 where
   pub list : List ℕ
   pub few : length list ≤ count
   pub kept : rows ≡ sets rows₀ t list
-  pub whole : r ≢ 0 → rows_read_from n j count s at ≡ got list r
-  pub many : r ≢ 0 → length list ≡ count
+  pub whole : IfSome r (λ next. rows_read_from n j count s at ≡ got list next)
+  pub many : IfSome r (λ next. length list ≡ count)

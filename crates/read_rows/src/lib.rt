@@ -3,48 +3,36 @@
 
 ghost use Rattle.read_rows.specs.Rows.{ShortAsked, RowsAsked, MostShort, ShortRead, QuickRead};
 
-// Rows read in one go: how many, and the last of them.
-#[derive(Clone, Copy, Drop)]
-pub struct ShortRows {
-    pub count: usize,
-    pub last: u64,
-}
-
 // How many gaps of one byte can be read and kept without testing for an end: no more than those left, the bytes that follow, and the room
 // behind place t.
 fn most_short(left: usize, bytes: usize, t: usize, room: usize) -> usize
     ensures { MostShort left bytes t room result }
 {
-    if room <= t {
-        return 0;
-    }
-    basics::lesser(left, basics::lesser(bytes, room - t))
+    left.min(bytes).min(room.saturating_sub(t))
 }
 
 // Reads the rows behind row b whose gaps have one group, up to the first gap that is 0 or longer, or for which there is no room. Keeps them
-// from place t on. Most rows are read here. In the loop the first i of `left` are kept, and `last` is the last of them, or b. Rows only
-// rise, so if the last is in its range, all are.
-fn short_rows(plan: &[u8], at: usize, b: u64, left: u64, t: usize, rows: &mut [u32]) -> ShortRows
+// from place t on, and answers how many they are, and the last of them, or b. Most rows are read here. In the loop the first i of `left` are
+// kept, and `last` is the last of them, or b. Rows only rise, so if the last is in its range, all are.
+fn short_rows(plan: &[u8], at: usize, b: u64, left: u64, t: usize, rows: &mut [u32]) -> (usize, u64)
     requires { ShortAsked plan.now at b left }
-    ensures { ShortRead plan.now b left at t rows.old rows.new result.count result.last }
+    ensures { ShortRead plan.now b left at t rows.old rows.new result.0 result.1 }
 {
     let most = most_short(left as usize, plan.len() - at, t, rows.len());
-    let mut i = 0;
     let mut last = b;
-    while i < most {
-        let gap = basics::wide8(plan[at + i]);
+    for i in 0..most {
+        let gap = u64::from(plan[at + i]);
         if gap == 0 || 127 < gap {
-            return ShortRows { count: i, last };
+            return (i, last);
         }
         last += gap;
-        rows[t + i] = basics::narrow32(last);
-        i += 1;
+        rows[t + i] = last as u32;
     }
-    ShortRows { count: i, last }
+    (most, last)
 }
 
 // Reads the rows of column j as read_rows does, if each gap has one group or two and there is room for all, and answers the place behind
-// them. Else answers 0; what it has kept is where read_rows will keep its own rows. All calls in the loop are put in line, so its counters
+// them. What it has kept of any other list is where read_rows will keep its own rows. All calls in the loop are put in line, so its counters
 // stay in registers.
 pub fn quick_rows(
     plan: &[u8],
@@ -54,7 +42,7 @@ pub fn quick_rows(
     count: u64,
     t: usize,
     rows: &mut [u32],
-) -> usize
+) -> Option<usize>
     requires { RowsAsked plan.now at n j count t }
     ensures { QuickRead n plan.now j count at t rows.old rows.new result }
 {
@@ -62,27 +50,28 @@ pub fn quick_rows(
     let mut row = j;
     let mut rest = count;
     let mut total = t;
+    // A while: each turn reads as many rows as have short gaps, and one more.
     while 0 < rest {
-        let short = short_rows(plan, k, row, rest, total, rows);
-        if n < short.last {
-            return 0;
+        let (read, last) = short_rows(plan, k, row, rest, total, rows);
+        if n < last {
+            return None;
         }
-        row = short.last;
-        k += short.count;
-        total += short.count;
-        rest -= short.count as u64;
+        row = last;
+        k += read;
+        total += read;
+        rest -= read as u64;
         if rest == 0 {
             break;
         }
-        let gap = read_fields::two_groups(plan, k);
-        if gap == 0 || n - row < gap || rows.len() <= total {
-            return 0;
+        let gap = read_fields::two_groups(plan, k)?;
+        if n - row < gap || rows.len() <= total {
+            return None;
         }
         row += gap;
-        rows[total] = basics::narrow32(row);
+        rows[total] = row as u32;
         total += 1;
         k += 2;
         rest -= 1;
     }
-    k
+    Some(k)
 }

@@ -6,10 +6,11 @@ use Rattle.read_fields.proofs.in_range.Goals.{then-value-low-via-then-value-low,
 
 pub returns-then-value-low : goal.returns-then-value-low
 returns-then-value-low c =
-    elim c.then-value-low.branch [
+    rw c.fault_at.ensures
+    (elim c.then-value-low.branch [
       | then-value-low-via-then-value-low w ↦ below-range _ _ _ _ _ w.if-value-low.true
       | then-value-low-via-else-value-low+then-high-value w ↦ above-range _ _ _ _ _ w.if-value-low.false w.if-high-value.true
-    ]
+    ])
 
 pub returns : goal.returns
 returns c = in-range _ _ _ _ _ c.if-value-low.false c.if-high-value.false

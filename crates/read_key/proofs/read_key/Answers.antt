@@ -1,32 +1,36 @@
 -- Proves that `read_key` reads the head, the lists and the end; the first part at fault makes the key unreadable.
 -- Assumes nothing.
-use borrow.Author.Rules.{rules}
-use Rattle.read_fields.proofs.Answers.{told-found, told-refused}
-use Rattle.read_key.proofs.Heads.{head-found, head-faulty, head-fits}
-use Rattle.read_key.proofs.Wholes.{no-head, no-lists, bytes_after, key-whole}
+use mathlib.Core.Path.{◌≡◌}
+use Rattle.papers.specs.Numbers.{got}
+use Rattle.read_key.specs.Keys.{head_read_from}
+use Rattle.read_key.proofs.Heads.{head-fits}
+use Rattle.read_key.proofs.Wholes.{no-head, no-lists, bytes_after, key-whole, ok-found, ok-none}
 use Rattle.read_key.proofs.read_key.Goals as goal
+use Rattle.read_key.proofs.read_key.Goals.{In_ok-head}
 
-pub enum_told-1 : goal.enum_told-1
-enum_told-1 c = search rules
+-- the head that is read
+head-is : (c : In_ok-head) → head_read_from c.args.key.now ≡ got c.in_ok-head.head c.in_ok-head.lists
+head-is c = rw (ok-found _ c.in_ok-head.ensures.value) at c.read_head.ensures
 
-pub returns-in-Faulty : goal.returns-in-Faulty
-returns-in-Faulty c = let (number, place, e) = head-faulty _ c.read_head.ensures c.in-Faulty.is in no-head _ e
+pub returns-in_err-head : goal.returns-in_err-head
+returns-in_err-head c =
+    let (fault, e) = ok-none _ c.in_err-head.ensures.value in
+    rw c.from_residual.ensures (no-head _ (rw e at c.read_head.ensures))
 
 pub count_rows-requires : goal.count_rows-requires
-count_rows-requires c =
-    head-fits _ _ _ (head-found _ c.read_head.ensures c.in-Head.is)
+count_rows-requires c = head-fits _ _ _ (head-is (goal.at.count_rows-requires c).In_ok-head)
 
-pub returns-in-Refused : goal.returns-in-Refused
-returns-in-Refused c =
-    no-lists _ (head-found _ c.read_head.ensures c.in-Head.is)
-    (told-refused c.count_rows.ensures c.in-Refused.is)
+pub returns-in_err-rows : goal.returns-in_err-rows
+returns-in_err-rows c =
+    let (fault, e) = ok-none _ c.in_err-rows.ensures.value in
+    rw c.from_residual-in_err-rows.ensures (no-lists _ (head-is (goal.at.returns-in_err-rows c).In_ok-head) (rw e at c.count_rows.ensures))
 
 pub returns-then-next-key : goal.returns-then-next-key
 returns-then-next-key c =
-    let lists = told-found c.count_rows.ensures c.in-Found.is in
-    bytes_after _ (head-found _ c.read_head.ensures c.in-Head.is) lists.read c.if-next-key.true
+    let lists = rw (ok-found _ c.in_ok-rows.ensures.value) at c.count_rows.ensures in
+    bytes_after _ (head-is (goal.at.returns-then-next-key c).In_ok-head) lists c.if-next-key.true
 
-pub returns-in-Found : goal.returns-in-Found
-returns-in-Found c =
-    let lists = told-found c.count_rows.ensures c.in-Found.is in
-    key-whole _ (head-found _ c.read_head.ensures c.in-Head.is) lists.read lists.value c.if-next-key.false
+pub returns : goal.returns
+returns c =
+    let lists = rw (ok-found _ c.in_ok-rows.ensures.value) at c.count_rows.ensures in
+    key-whole _ (head-is (goal.at.returns c).In_ok-head) lists c.if-next-key.false

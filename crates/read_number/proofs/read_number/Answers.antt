@@ -6,7 +6,7 @@ use mathlib.Core.Logic.{inl, inr}
 use native.Mathlib.Omega.{arith}
 use Rattle.read_number.proofs.Carried.{carried-start, carried-below, stop-end, stop-long, stop-zero, stop-value, turn}
 use Rattle.read_number.proofs.read_number.Goals as goal
-use Rattle.read_number.proofs.read_number.Goals.{then-b-eq0+else-at-i, else-b-eq0}
+use Rattle.read_number.proofs.read_number.Goals.{else-b-eq0-via-then-b-eq0+else-at-i, else-b-eq0-via-else-b-eq0}
 
 pub loop-i-init : goal.loop-i-init
 loop-i-init c = carried-start _ _
@@ -18,26 +18,26 @@ pub returns-then-at-i : goal.returns-then-at-i
 returns-then-at-i c =
     let inv = c.loop-i.invariant in
     let there = c.loop-i-test.true in
-    stop-zero inv there _ c.wide8-b.ensures.same (omega arith) c.if-b-eq0.true c.if-at-i.true
+    stop-zero inv there _ c.from-b.ensures (omega arith) c.if-b-eq0.true c.if-at-i.true
 
 pub overflow_mul-result : goal.overflow_mul-result
-overflow_mul-result c = omega (arith, carried-below c.wide8-b.result c.loop-i.invariant c.if-b-lt128.true)
+overflow_mul-result c = omega (arith, carried-below c.from-b.result c.loop-i.invariant c.if-b-lt128.true)
 
 pub overflow_add-result : goal.overflow_add-result
-overflow_add-result c = omega (arith, carried-below c.wide8-b.result c.loop-i.invariant c.if-b-lt128.true)
+overflow_add-result c = omega (arith, carried-below c.from-b.result c.loop-i.invariant c.if-b-lt128.true)
 
 pub returns-then-b-lt128 : goal.returns-then-b-lt128
 returns-then-b-lt128 c =
     let inv = c.loop-i.invariant in
     let there = c.loop-i-test.true in
-    stop-value inv there _ c.wide8-b.ensures.same (omega arith) c.if-b-lt128.true
-    (elim c.if-b-eq0.branch [ then-b-eq0+else-at-i w ↦ inl (omega arith) | else-b-eq0 w ↦ inr (omega arith) ])
+    stop-value inv there _ c.from-b.ensures (omega arith) c.if-b-lt128.true
+    (elim c.else-b-eq0.branch [ else-b-eq0-via-then-b-eq0+else-at-i w ↦ inl (omega arith) | else-b-eq0-via-else-b-eq0 w ↦ inr (omega arith) ])
 
 pub overflow_mul-low : goal.overflow_mul-low
-overflow_mul-low c = omega (arith, carried-below (c.wide8-b.result - 128) c.loop-i.invariant (omega arith))
+overflow_mul-low c = omega (arith, carried-below (c.from-b.result - 128) c.loop-i.invariant (omega arith))
 
 pub overflow_add-low : goal.overflow_add-low
-overflow_add-low c = omega (arith, carried-below (c.wide8-b.result - 128) c.loop-i.invariant (omega arith))
+overflow_add-low c = omega (arith, carried-below (c.from-b.result - 128) c.loop-i.invariant (omega arith))
 
 pub overflow_mul-w : goal.overflow_mul-w
 overflow_mul-w c = omega (arith, carried-below 0 c.loop-i.invariant (omega arith))
@@ -46,7 +46,7 @@ pub loop-i-preserved : goal.loop-i-preserved
 loop-i-preserved c =
     let inv = c.loop-i.invariant in
     let there = c.loop-i-test.true in
-    turn inv there c.wide8-b.result c.wide8-b.ensures.same (omega arith) c.if-b-lt128.false c.wide8-b.ensures.below
+    turn inv there c.from-b.result c.from-b.ensures (omega arith) c.if-b-lt128.false (omega (arith, c.from-b.ensures, c.type_inv.s c.loop-i.i))
 
 pub returns : goal.returns
 returns c = stop-end c.loop-i.invariant c.loop-i-test.false

@@ -6,6 +6,3 @@ use Rattle.read_number.proofs.read_number.Given as goal
 
 abbrev pub invariant-loop-i : goal.invariant-loop-i
 invariant-loop-i l = Carried l.s l.at l.i l.low l.w l.k
-
-abbrev pub decreases-loop-i : goal.decreases-loop-i
-decreases-loop-i l = l.k

@@ -1,14 +1,17 @@
 -- Proves that `read_peak` reads the peak as a field, and answers 15 at the first byte behind it if the plan does not end there.
 -- Assumes nothing.
-use Rattle.read_fields.proofs.Answers.{field-refused, field-read}
+use mathlib.Core.Path.{sym}
+use Rattle.std.proofs.lemmas.Result.{err_from_is_err_and}
 use Rattle.read_plan.proofs.Wholes.{no-peak, bytes_after, at-the-end}
 use Rattle.read_plan.proofs.read_peak.Goals as goal
 
-pub returns-in-Refused : goal.returns-in-Refused
-returns-in-Refused c = no-peak _ _ _ (field-refused _ _ _ _ c.read_long.ensures c.in-Refused.is)
+pub returns-in_err-peak : goal.returns-in_err-peak
+returns-in_err-peak c =
+    let p = err_from_is_err_and c.from_residual.result c.from_residual.ensures.1 in
+    rw (p.1, p.2) (no-peak _ _ (sym c.in_err-peak.ensures))
 
 pub returns-then-next-plan : goal.returns-then-next-plan
-returns-then-next-plan c = bytes_after _ _ _ (field-read _ _ _ _ c.read_long.ensures c.in-Found.is) c.if-next-plan.true
+returns-then-next-plan c = rw c.fault_at.ensures (bytes_after _ _ (sym c.in_ok-peak.ensures) c.if-next-plan.true)
 
-pub returns-in-Found : goal.returns-in-Found
-returns-in-Found c = at-the-end _ _ _ (field-read _ _ _ _ c.read_long.ensures c.in-Found.is) c.if-next-plan.false
+pub returns : goal.returns
+returns c = (_, at-the-end _ _ (sym c.in_ok-peak.ensures) c.if-next-plan.false)

@@ -1,11 +1,7 @@
--- Proves that `read_steps` reads all steps: the first i are read and kept, and those left, put onto them, are all. Each turn leaves one step less.
+-- Proves that `read_steps` reads all steps: the first i are read and kept, and those left, put onto them, are all.
 -- Assumes nothing.
-use Prim.Native.Nat.{◌-◌}
 use Rattle.read_plan.proofs.Steps.{Steps}
 use Rattle.read_plan.proofs.read_steps.Given as goal
 
 abbrev pub invariant-loop-i : goal.invariant-loop-i
 invariant-loop-i l = Steps l.n l.plan l.at l.initial.order l.initial.pops l.order l.pops l.k l.i
-
-abbrev pub decreases-loop-i : goal.decreases-loop-i
-decreases-loop-i l = l.n - l.i

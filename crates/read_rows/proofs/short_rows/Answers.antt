@@ -1,12 +1,13 @@
 -- Proves that `short_rows` reads rows with gaps of one byte: i bytes give i rows, which are kept, and all are in range if the last is. Each turn
 -- reads one gap and leaves one less.
 -- Assumes nothing.
+use mathlib.Core.Path.{◌≡◌, refl}
 use native.Mathlib.Nat.{le_of_lt, lt_of_lt_of_le, pos_of_ne-zero}
 use borrow.Author.Count.{falls}
 use mir.Facts.{Fits-bits}
 use native.Mathlib.Omega.{arith}
-use Rattle.read_fields.proofs.Places.{before-end, bytes_fit, count_fits, inside-fits}
-use Rattle.read_rows.proofs.Short.{short-start, short-long, short-narrow, short-place, short-gap, short-turn}
+use Rattle.read_fields.proofs.Places.{before-end, bytes_fit, inside-fits}
+use Rattle.read_rows.proofs.Short.{short-start, short-narrow, short-place, short-gap, short-turn}
 use Rattle.read_rows.proofs.short_rows.Goals as goal
 
 pub overflow_sub-plan : goal.overflow_sub-plan
@@ -22,20 +23,13 @@ overflow_add-at c =
 pub bounds-plan-at : goal.bounds-plan-at
 bounds-plan-at c = before-end _ c.loop-i-test.true c.most_short-most.ensures.there
 
-pub shape_of-rows-then-gap-eq0 : goal.shape_of-rows-then-gap-eq0
-shape_of-rows-then-gap-eq0 c = short-long c.loop-i.invariant
-
 pub returns-then-gap-eq0 : goal.returns-then-gap-eq0
 returns-then-gap-eq0 c = c.loop-i.invariant
 
 pub overflow_add-last : goal.overflow_add-last
 overflow_add-last c =
     let p = c.requires in
-    Fits-bits 32 tt (short-narrow c.loop-i.invariant p.low p.few c.wide8-gap.ensures.below)
-
-pub narrow32-requires : goal.narrow32-requires
-narrow32-requires c =
-    let p = c.requires in short-narrow c.loop-i.invariant p.low p.few c.wide8-gap.ensures.below
+    Fits-bits 32 tt (short-narrow c.loop-i.invariant p.low p.few (omega (arith, c.if-gap-gt127.false)))
 
 pub overflow_add-rows : goal.overflow_add-rows
 overflow_add-rows c =
@@ -51,9 +45,6 @@ pub bounds-rows-t : goal.bounds-rows-t
 bounds-rows-t c =
     short-place c.loop-i.invariant c.loop-i-test.true c.most_short-most.ensures.kept
 
-pub overflow_add-i : goal.overflow_add-i
-overflow_add-i c = count_fits _ c.loop-i-test.true c.most_short-most.ensures.there (omega (arith, c.well_formed))
-
 pub loop-i-smaller : goal.loop-i-smaller
 loop-i-smaller c = falls _ _ c.loop-i-test.true
 
@@ -61,12 +52,11 @@ pub loop-i-preserved : goal.loop-i-preserved
 loop-i-preserved c =
     let most = c.most_short-most.ensures in
     let next = c.loop-i-test.true in
-    let gap = c.wide8-gap in
-    short-turn c.loop-i.invariant (lt_of_lt_of_le next most.wanted) (before-end _ next most.there) gap.ensures.same
-    (pos_of_ne-zero c.if-gap-eq0.false) (short-gap c.if-gap-gt127.false) c.narrow32.ensures
-
-pub shape_of-rows : goal.shape_of-rows
-shape_of-rows c = short-long c.loop-i.invariant
+    let gap = c.from-gap in
+    short-turn c.loop-i.invariant (lt_of_lt_of_le next most.wanted) (before-end _ next most.there) gap.ensures
+    (pos_of_ne-zero c.if-gap-eq0.false) (short-gap c.if-gap-gt127.false) refl
 
 pub returns : goal.returns
-returns c = c.loop-i.invariant
+returns c =
+    let all : c.most_short-most.result ≡ c.loop-i.i = omega (arith, c.loop-i.auto.i-end, c.loop-i-test.false) in
+    rw all c.loop-i.invariant
