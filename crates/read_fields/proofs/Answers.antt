@@ -9,9 +9,9 @@ use native.Mathlib.Omega.{arith}
 use lib.ListN.{length, get_or}
 use borrow.Author.Tests.{lt-ltb, le-ltb}
 use Rattle.papers.specs.Bounds.{max_groups}
-use Rattle.papers.specs.Numbers.{over, number_read_from, Read, got, bad, within_field, field}
-use Rattle.papers.specs.declared.Number.TheVariants.{Value, Ended, TooLong, NotShortest}
-use Rattle.papers.specs.declared.Number.{Number}
+use Rattle.papers.specs.Numbers.{over, number_read_from, Read, got, bad, within_field, field, Number}
+use Rattle.papers.specs.declared.NumberFault.TheVariants.{Ended, TooLong, NotShortest}
+use Rattle.std.specs.Prelude.{Ok, Err}
 use Rattle.bytes_laws.proofs.Fields as fields
 use Rattle.bytes_laws.proofs.NumberReading.{read-last, read_more, shown-some, last-shown}
 
@@ -19,30 +19,30 @@ use Rattle.bytes_laws.proofs.NumberReading.{read-last, read_more, shown-some, la
 
 module _ (low high at v next : ℕ) where
   -- a number outside its range is 14, at its first place
-  pub below-range : v < low → bad 14 (at + 1) ≡ within_field low high at (Value v next)
+  pub below-range : v < low → bad 14 (at + 1) ≡ within_field low high at (Ok (v, next))
   unfolding within_field
   below-range h = rw (lt-ltb v low h, within_field)
 
   module _ (l : low ≤ v) where
-    pub above-range : high < v → bad 14 (at + 1) ≡ within_field low high at (Value v next)
+    pub above-range : high < v → bad 14 (at + 1) ≡ within_field low high at (Ok (v, next))
     unfolding within_field
     above-range h = rw (le-ltb v low l, lt-ltb high v h, within_field)
 
-    pub in-range : v ≤ high → got v next ≡ within_field low high at (Value v next)
+    pub in-range : v ≤ high → got v next ≡ within_field low high at (Ok (v, next))
     unfolding within_field
     in-range h = rw (le-ltb v low l, le-ltb high v h, within_field)
 
 -- bytes that end within a number are 12; a number that is too long or not shortest is 13
 module _ (low high at : ℕ) where
-  pub ended-is-12 : bad 12 (at + 1) ≡ within_field low high at Ended
+  pub ended-is-12 : bad 12 (at + 1) ≡ within_field low high at (Err Ended)
   unfolding within_field
   ended-is-12 = refl
 
-  pub too-long-is-13 : bad 13 (at + 1) ≡ within_field low high at TooLong
+  pub too-long-is-13 : bad 13 (at + 1) ≡ within_field low high at (Err TooLong)
   unfolding within_field
   too-long-is-13 = refl
 
-  pub not-shortest-is-13 : bad 13 (at + 1) ≡ within_field low high at NotShortest
+  pub not-shortest-is-13 : bad 13 (at + 1) ≡ within_field low high at (Err NotShortest)
   unfolding within_field
   not-shortest-is-13 = refl
 
@@ -53,16 +53,16 @@ unfolding field
 field-by-number low high s at e f = f ∙ ap (within_field low high at) e
 
 -- a byte below 128 is a number
-pub one-group : (s : List ℕ) (at : ℕ) {b : ℕ} → at < length s → b ≡ get_or s at 0 → b < 128 → Value b (at + 1) ≡ number_read_from s at
+pub one-group : (s : List ℕ) (at : ℕ) {b : ℕ} → at < length s → b ≡ get_or s at 0 → b < 128 → Ok (b, at + 1) ≡ number_read_from s at
 unfolding number_read_from
 one-group s at {b} h e l =
     let last = read-last true s at h (max_groups - 1) (omega arith) ∙ last-shown true (get_or s at 0) at tt in
-    ap (λ (x : ℕ). Value x (at + 1)) e ∙ sym last
+    ap (λ (x : ℕ). Ok (x, at + 1)) e ∙ sym last
 
 -- a byte of 128 or more and a byte from 1 to 127 behind it are a number
 pub two-groups : (s : List ℕ) (at : ℕ) {low next : ℕ} → at + 1 < length s → low ≡ get_or s at 0 → 128 ≤ low → next ≡ get_or s (at + 1) 0 → next ≢ 0
     → next < 128
-    → Value (low - 128 + 128 * next) (at + 2) ≡ number_read_from s at
+    → Ok (low - 128 + 128 * next, at + 2) ≡ number_read_from s at
 unfolding number_read_from over
 two-groups s at {low} {next} h e l f z u =
     let first = read_more true s at (omega arith) (max_groups - 1) (omega arith) in
@@ -74,7 +74,7 @@ two-groups s at {low} {next} h e l f z u =
 -- ---- a field that is found
 
 -- finds a field from a number in its range
-pub field_is : (low high : ℕ) (s : List ℕ) (at : ℕ) {v next : ℕ} → Value v next ≡ number_read_from s at → low ≤ v → v ≤ high
+pub field_is : (low high : ℕ) (s : List ℕ) (at : ℕ) {v next : ℕ} → Ok (v, next) ≡ number_read_from s at → low ≤ v → v ≤ high
     → field low high s at ≡ got v next
 field_is low high s at {v} {next} e l h = sym (field-by-number low high s at e (in-range low high at v next l h))
 

@@ -1,12 +1,11 @@
 // Reads a field from any bytes: a number of its range, or its fault. Believes nothing of the bytes before testing its range.
 #![tactic(auto)]
 
-ghost use Rattle.std.specs.Prelude.{◌≡◌, ◌≢◌, ◌+◌, ◌^◌, ◌≤◌, ◌<◌, length, Err, IfSome};
+ghost use Rattle.std.specs.Prelude.{◌≡◌, ◌≢◌, ◌+◌, ◌^◌, ◌≤◌, ◌<◌, length, Ok, Err, IfSome};
 ghost use Rattle.papers.specs.Numbers.{number_read_from, within_field, field};
-ghost use Rattle.papers.specs.declared.Number.TheVariants.{Value};
 ghost use Rattle.read_fields.specs.Reading.{read_from_result};
 
-use papers::Number;
+use papers::NumberFault;
 use refusals::{Fault, Refusal};
 
 // Refuses at the byte of index `at`; its place counts from 1.
@@ -23,7 +22,7 @@ pub fn fault_at<T>(refusal: Refusal, at: usize) -> Result<T, Fault>
 // Answers the value that was read from `at` up to next as a field from low to high, and the place behind it; or that it is outside.
 fn in_range(at: usize, low: u64, high: u64, value: u64, next: usize) -> Result<(u64, usize), Fault>
     requires { at + 1 < 2 ^ 64 }
-    ensures { read_from_result result ≡ within_field low high at (Value value next) }
+    ensures { read_from_result result ≡ within_field low high at (Ok (value, next)) }
 {
     if value < low || high < value {
         return fault_at(Refusal::ValueOutOfRange, at);
@@ -34,7 +33,7 @@ fn in_range(at: usize, low: u64, high: u64, value: u64, next: usize) -> Result<(
 // The number that starts at `at`, if it has two groups.
 pub fn two_groups(plan: &[u8], at: usize) -> Option<u64>
     requires { at ≤ length plan.now }
-    ensures { IfSome result (λ value. (value ≢ 0) × (Value value (at + 2) ≡ number_read_from plan.now at)) }
+    ensures { IfSome result (λ value. (value ≢ 0) × (Ok (value, at + 2) ≡ number_read_from plan.now at)) }
 {
     if plan.len() - at < 2 {
         return None;
@@ -53,10 +52,10 @@ pub fn read_long(plan: &[u8], at: usize, low: u64, high: u64) -> Result<(u64, us
     ensures { read_from_result result ≡ field low high plan.now at }
 {
     match read_number::read_number(plan, at) {
-        Number::Value { value, next } => in_range(at, low, high, value, next),
-        Number::Ended => fault_at(Refusal::BytesEnd, at),
-        Number::TooLong => fault_at(Refusal::NumberTooLong, at),
-        Number::NotShortest => fault_at(Refusal::NumberTooLong, at),
+        Ok((value, next)) => in_range(at, low, high, value, next),
+        Err(NumberFault::Ended) => fault_at(Refusal::BytesEnd, at),
+        Err(NumberFault::TooLong) => fault_at(Refusal::NumberTooLong, at),
+        Err(NumberFault::NotShortest) => fault_at(Refusal::NumberTooLong, at),
     }
 }
 

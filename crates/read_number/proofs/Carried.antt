@@ -13,30 +13,24 @@ use lib.ListN.{length, get_or}
 use lib.Pow.{pow-add, pow_mono}
 use borrow.Author.Tests.{eq-eqb, ne_eqb}
 use Rattle.papers.specs.Bounds.{max_groups}
-use Rattle.papers.specs.Numbers.{over, last_group, read_from, number_read_from}
-use Rattle.papers.specs.declared.Number.{Number}
-use Rattle.papers.specs.declared.Number.TheVariants.{Value, Ended, TooLong, NotShortest}
+use Rattle.papers.specs.Numbers.{over, last_group, read_from, number_read_from, Number}
+use Rattle.papers.specs.declared.NumberFault.TheVariants.{Ended, TooLong, NotShortest}
+use Rattle.std.specs.Prelude.{Ok, Err}
 use Rattle.bytes_laws.proofs.NumberReading.{read-end, read-long, read-last, read_more, Shown, shown-some, last-shown}
 
 -- adds a number found at weight w on top of low
 abbrev pub carry : ℕ → ℕ → Number → Number
-carry low w (Value v next) = Value (low + w * v) next
-carry low w Ended = Ended
-carry low w TooLong = TooLong
-carry low w NotShortest = NotShortest
+carry low w (Ok (v, next)) = Ok (low + w * v, next)
+carry low w (Err fault) = Err fault
 
 carry_over : (low w group : ℕ) (r : Number) → carry low w (over group r) ≡ carry (low + w * group) (w * 128) r
 unfolding over
-carry_over low w group (Value v n) = ap (λ (x : ℕ). Value x n) (simp (mul-add, mul_assoc, add_assoc))
-carry_over low w group Ended = refl
-carry_over low w group TooLong = refl
-carry_over low w group NotShortest = refl
+carry_over low w group (Ok (v, n)) = ap (λ (x : ℕ). Ok (x, n)) (simp (mul-add, mul_assoc, add_assoc))
+carry_over low w group (Err fault) = refl
 
 carry-none : (r : Number) → carry 0 1 r ≡ r
-carry-none (Value v n) = ap (λ (x : ℕ). Value x n) (omega arith)
-carry-none Ended = refl
-carry-none TooLong = refl
-carry-none NotShortest = refl
+carry-none (Ok (v, n)) = ap (λ (x : ℕ). Ok (x, n)) (omega arith)
+carry-none (Err fault) = refl
 
 -- the groups before i of the number at `at` make low, the next has weight w, and k may still come
 pub record Carried (s : List ℕ) (at i low w k : ℕ) : Type 0 where
@@ -73,12 +67,12 @@ ends : {s : List ℕ} {at i low w k : ℕ} (n : Number) → Carried s at i low w
 ends {low = low} {w = w} n r e = ap (carry low w) (sym e) ∙ r.found
 
 module _ {s : List ℕ} {at i low w k : ℕ} (r : Carried s at i low w k) where
-  pub stop-end : length s ≤ i → Ended ≡ number_read_from s at
-  stop-end h = ends Ended r (read-end k (eqb i at) s i h)
+  pub stop-end : length s ≤ i → Err Ended ≡ number_read_from s at
+  stop-end h = ends (Err Ended) r (read-end k (eqb i at) s i h)
 
   module _ (there : i < length s) where
-    pub stop-long : k ≡ 0 → TooLong ≡ number_read_from s at
-    stop-long z = ends TooLong r (rw z (read-long (eqb i at) s i there))
+    pub stop-long : k ≡ 0 → Err TooLong ≡ number_read_from s at
+    stop-long z = ends (Err TooLong) r (rw z (read-long (eqb i at) s i there))
 
     module _ (b : ℕ) (byte : b ≡ get_or s i 0) (left : 0 < k) where
       one_less : k ≡ suc (k - 1)
@@ -87,12 +81,12 @@ module _ {s : List ℕ} {at i low w k : ℕ} (r : Carried s at i low w k) where
       last_of : b < 128 → read_from k (eqb i at) s i ≡ last_group (eqb i at) b i
       last_of h = rw (one_less, byte) (read-last (eqb i at) s i there (k - 1) (omega arith))
 
-      pub stop-zero : b ≡ 0 → at < i → NotShortest ≡ number_read_from s at
+      pub stop-zero : b ≡ 0 → at < i → Err NotShortest ≡ number_read_from s at
       unfolding last_group
-      stop-zero z l = ends NotShortest r (last_of (omega arith) ∙ rw (z, ne_eqb i at (λ e. omega arith)))
+      stop-zero z l = ends (Err NotShortest) r (last_of (omega arith) ∙ rw (z, ne_eqb i at (λ e. omega arith)))
 
-      pub stop-value : b < 128 → (i ≡ at) ⊎ (0 < b) → Value (low + w * b) (i + 1) ≡ number_read_from s at
-      stop-value h o = ends (Value b (i + 1)) r (last_of h ∙ last-shown (eqb i at) b i (shown o))
+      pub stop-value : b < 128 → (i ≡ at) ⊎ (0 < b) → Ok (low + w * b, i + 1) ≡ number_read_from s at
+      stop-value h o = ends (Ok (b, i + 1)) r (last_of h ∙ last-shown (eqb i at) b i (shown o))
         where
           shown : (i ≡ at) ⊎ (0 < b) → Shown (eqb i at) b
           shown (inl e) = rw (eq-eqb i at e) tt

@@ -3,13 +3,12 @@
 -- Assumes nothing.
 use Prim.Native.Nat.{ℕ, ◌+◌, ◌-◌, ◌<◌, ◌≤◌}
 use mathlib.Core.List.{List, ◌++◌}
-use Rattle.std.specs.Prelude.{Some, None}
+use Rattle.std.specs.Prelude.{Some, None, Ok, Err}
 use mathlib.Core.Path.{◌≡◌, ap}
 use mathlib.Core.Logic.{◌≢◌}
 use native.Mathlib.Omega.{arith}
 use lib.ListN.{length, set, length-append}
 use Rattle.papers.specs.Numbers.{number_read_from, got, field}
-use Rattle.papers.specs.declared.Number.TheVariants.{Value}
 use Rattle.list_laws.proofs.Stores.{sets-append}
 use Rattle.bytes_laws.proofs.Fields as fields
 use Rattle.read_fields.proofs.Answers.{field_is}
@@ -23,7 +22,7 @@ module _ {n : ℕ} {s : List ℕ} {j count at t : ℕ} {rows₀ rows : List ℕ}
   quick-room e = let l = rows_long x in omega arith
 
   -- reads one more row, whose gap has two groups
-  module _ {gap : ℕ} (two : (gap ≢ 0) × (Value gap (k + 2) ≡ number_read_from s k)) (most : gap ≤ n - last) where
+  module _ {gap : ℕ} (two : (gap ≢ 0) × (Ok (gap, k + 2) ≡ number_read_from s k)) (most : gap ≤ n - last) where
     read : field 1 (n - last) s k ≡ got gap (k + 2)
     read = let some = two.0 in field_is 1 (n - last) s k two.1 (omega arith) most
 
