@@ -1,8 +1,10 @@
--- Proves that `match_gaps` compares all gaps: those of the rows before i agree, so the others are compared from k on. Each turn leaves one row less.
+-- Proves that `match_gaps` compares all gaps: those of the rows before i agree, so the others are compared from k on.
 -- Assumes nothing.
+use mathlib.Core.Path.{◌∙◌}
 use native.Mathlib.Omega.{arith}
 use borrow.Author.Rules.{rules}
 use Rattle.write_gaps.proofs.Rows.{rows_all, gaps-next, row-above, rows_next, gaps-none}
+use Rattle.check_numbers.proofs.Bytes.{handed_on}
 use Rattle.check_numbers.proofs.Numbers.{left-all, left-number, differs-number, left-none}
 use Rattle.check_numbers.proofs.match_gaps.Goals as goal
 
@@ -14,25 +16,25 @@ bounds-rows-i c = let h = c.loop-i.invariant.left.inside in search rules
 
 pub overflow_sub-row : goal.overflow_sub-row
 overflow_sub-row c =
-    let h = row-above c.loop-i.invariant.left c.loop-i-test.true c.wide32-row.ensures.same in omega arith
+    let h = row-above c.loop-i.invariant.left c.loop-i-test.true c.from-row.ensures in omega arith
 
 pub match_number-requires : goal.match_number-requires
-match_number-requires c = let h = c.wide32-row.ensures.below in record { fits = omega arith; inside = c.loop-i.invariant.found.inside }
+match_number-requires c = let h = c.from-row.ensures in record { fits = omega arith; inside = c.loop-i.invariant.found.inside }
 
-pub returns-in-Differs : goal.returns-in-Differs
-returns-in-Differs c =
+pub returns-in_err-k : goal.returns-in_err-k
+returns-in_err-k c =
     let gaps = c.loop-i.invariant in
-    differs-number gaps.found (gaps-next gaps.left c.loop-i-test.true c.wide32-row.ensures.same)
-    c.match_number.ensures c.in-Differs.is
+    handed_on _ c.from_residual.ensures.1 ∙ differs-number gaps.found (gaps-next gaps.left c.loop-i-test.true c.from-row.ensures)
+    c.match_number.ensures c.in_err-k.was
 
 pub loop-i-preserved : goal.loop-i-preserved
 loop-i-preserved c =
     let gaps = c.loop-i.invariant in
     let next = c.loop-i-test.true in
-    let row = c.wide32-row.ensures.same in
+    let row = c.from-row.ensures in
     record {
       left = rows_next gaps.left next row;
-      found = left-number gaps.found (gaps-next gaps.left next row) c.match_number.ensures c.in-Begins.is;
+      found = left-number gaps.found (gaps-next gaps.left next row) c.match_number.ensures c.in_ok-k.was;
     }
 
 pub returns : goal.returns

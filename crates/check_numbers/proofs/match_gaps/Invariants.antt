@@ -1,6 +1,6 @@
--- Proves that `match_gaps` compares all gaps: those of the rows before i agree, so the others are compared from k on. Each turn leaves one row less.
+-- Proves that `match_gaps` compares all gaps: those of the rows before i agree, so the others are compared from k on.
 -- Assumes nothing.
-use Prim.Native.Nat.{ℕ, ◌-◌}
+use Prim.Native.Nat.{ℕ}
 use mathlib.Core.List.{List}
 use lib.Seq.{slice}
 use Rattle.papers.specs.Key.{gaps_of}
@@ -15,6 +15,3 @@ pub record Gaps (plan : List ℕ) (at : ℕ) (rows : List ℕ) (from to j k befo
 
 abbrev pub invariant-loop-i : goal.invariant-loop-i
 invariant-loop-i l = Gaps l.plan l.at l.rows l.from l.to l.j l.k l.before l.i
-
-abbrev pub decreases-loop-i : goal.decreases-loop-i
-decreases-loop-i l = l.to - l.i
