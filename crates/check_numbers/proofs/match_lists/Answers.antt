@@ -1,4 +1,4 @@
--- Proves that `match_lists` compares all lists: those of the first `done` columns agree, so the others are compared from k on.
+-- Proves that `match_lists` compares all lists: those of the first c columns agree, so the others are compared from k on.
 -- Assumes nothing.
 use mathlib.Core.Path.{◌∙◌}
 use Rattle.job_laws.proofs.Passed.{lists-iff}
