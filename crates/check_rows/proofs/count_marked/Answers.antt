@@ -9,7 +9,7 @@ use Rattle.check_rows.proofs.Comparing.{counts-begin, counts-one, counts-none, c
 use Rattle.check_rows.proofs.count_marked.Goals as goal
 use Rattle.check_rows.proofs.count_marked.Goals.{In-loop-row, then-work-n, else-work-n}
 
--- work has the place of the mark of the row at k
+-- work has the place of the mark of the row
 place : (c : In-loop-row) → c.args.n + c.args.n + get_or c.args.list.now c.loop-row.row-index 0
     < length c.args.work.now
 place c = mark-place c.requires _ c.loop-row-test.true
