@@ -6,7 +6,8 @@ ghost use Rattle.papers.specs.Numbers.{bytes_of};
 ghost use Rattle.groups.specs.Fits.{FitsGroups};
 ghost use Rattle.groups.specs.InArray.{InArray};
 
-// The bytes of a number in a little array: the first `count` of it, then zeros.
+// The bytes of a number in a little array: the first `count` of it, then zeros. An array and a count: memory is fixed, and who compares the
+// bytes reads them one by one.
 #[derive(Clone, Copy, Drop)]
 pub struct Groups {
     pub bytes: [u8; papers::MAX_GROUPS],
@@ -21,11 +22,11 @@ pub fn length(x: u64) -> usize
     if x < 128 {
         return 1;
     }
-    let bits = 64 - u64::leading_zeros(x);
+    let bits = 64 - x.leading_zeros();
     ((bits + 6) / 7) as usize
 }
 
-// Makes the bytes of x. In the loop the groups before count are stored, and v is what is left of x.
+// Makes the bytes of x. In the loop the groups before count are stored, and v is what is left of x. A while: what is left of x ends it.
 pub fn number(x: u64) -> Groups
     requires { FitsGroups x }
     ensures { InArray x result.bytes result.count }
@@ -35,7 +36,7 @@ pub fn number(x: u64) -> Groups
     let mut count = 0;
     while 128 <= v {
         bytes[count] = (v % 128 + 128) as u8;
-        v = v / 128;
+        v /= 128;
         count += 1;
     }
     bytes[count] = v as u8;

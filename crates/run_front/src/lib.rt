@@ -8,45 +8,43 @@ ghost use Rattle.papers.specs.Tree.{t};
 ghost use Rattle.run_front.specs.Column.{ColumnIn};
 ghost use Rattle.run_front.specs.Search.{Bracket, Sought, BothAscend, Alike};
 
+// A factor as code hands it on: its number of columns, and its starts and rows, which stay where they were lent.
+#[derive(Clone, Copy)]
+pub struct Factor<'a> {
+    pub n: u64,
+    pub starts: &'a [u64],
+    pub rows: &'a [u32],
+}
+
 // The rows of a column, as a part of the factor's rows.
-pub fn rows_of<'a>(n: u64, starts: &[u64], rows: &'a [u32], column: u64) -> &'a [u32]
-    requires { ColumnIn n starts.now rows.now column }
-    ensures { result.now ≡ column_of starts.now rows.now column }
+pub fn rows_of<'a>(factor: Factor<'a>, column: u64) -> &'a [u32]
+    requires { ColumnIn factor.n factor.starts.now factor.rows.now column }
+    ensures { result.now ≡ column_of factor.entry.starts.now factor.entry.rows.now column }
 {
     let c = column as usize;
-    let from = starts[c - 1] as usize;
-    let end = starts[c] as usize;
-    &rows[from..end]
+    let from = factor.starts[c - 1] as usize;
+    let end = factor.starts[c] as usize;
+    &factor.rows[from..end]
 }
 
 // The number of entries of a column's update.
-pub fn entries_of(n: u64, starts: &[u64], rows: &[u32], column: u64) -> u64
-    requires { ColumnIn n starts.now rows.now column }
-    ensures { result ≡ t (length (column_of starts.now rows.now column)) }
+pub fn entries_of(factor: Factor<'_>, column: u64) -> u64
+    requires { ColumnIn factor.n factor.starts.now factor.rows.now column }
+    ensures { result ≡ t (length (column_of factor.entry.starts.now factor.entry.rows.now column)) }
 {
-    triangle::entries(rows_of(n, starts, rows, column).len() as u64)
+    triangle::entries(rows_of(factor, column).len() as u64)
 }
 
-// The place of a row among ascending rows, known to be from lo to hi. Each turn halves the range.
+// The place of a row among ascending rows, known to be from lo to hi.
 fn bisect(rows: &[u32], row: u32, lo: usize, hi: usize) -> usize
     requires { Sought rows.now row lo hi }
     ensures { Bracket rows.now row result result }
 {
-    let mut low = lo;
-    let mut high = hi;
-    while low < high {
-        let middle = low + (high - low) / 2;
-        if rows[middle] < row {
-            low = middle + 1;
-        } else {
-            high = middle;
-        }
-    }
-    low
+    lo + rows[lo..hi].partition_point(|r| *r < row)
 }
 
 // The place of a row among ascending rows: the first that is not below it. All rows before `from` are below it. The search looks ever
-// further behind `from`, so its cost depends on how far the place is, not on how many rows there are.
+// further behind `from`, so its cost depends on how far the place is, not on how many rows there are. A while: each look is twice as far.
 fn seek(rows: &[u32], row: u32, from: usize) -> usize
     requires { Sought rows.now row from (length rows.now) }
     ensures { Bracket rows.now row result result }
@@ -67,19 +65,17 @@ fn seek(rows: &[u32], row: u32, from: usize) -> usize
 fn alike(a: &[u32], b: &[u32]) -> usize
     ensures { Alike a.now b.now result }
 {
-    let end = basics::lesser(a.len(), b.len());
-    let mut i = 0;
-    while i < end {
+    let end = a.len().min(b.len());
+    for i in 0..end {
         if a[i] != b[i] {
             return i;
         }
-        i += 1;
     }
-    i
+    end
 }
 
 // Tests whether each row of an update is the column itself or one of its rows. Both lists ascend, so each row is searched behind the last
-// one found. Mostly the next rows follow in both lists: these are passed without a search.
+// one found. Mostly the next rows follow in both lists: these are passed without a search. A while: the place moves by as many rows as agree.
 pub fn stands_in(column: u64, rows: &[u32], update: &[u32]) -> bool
     requires { BothAscend rows.now update.now }
     ensures { result ≡ every (λ i. member i (column ∷ rows.now)) update.now }

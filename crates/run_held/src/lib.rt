@@ -1,7 +1,7 @@
 // The record that each step of a run updates: a step by value, and one thin step that is lent the record.
 #![tactic(auto)]
 
-ghost use Rattle.std.specs.Prelude.{◌≡◌, min};
+ghost use Rattle.std.specs.Prelude.{◌≡◌};
 ghost use Rattle.run_held.specs.Record.{stepped_of, Takes};
 
 // The state of a run beside the lent stack list: how many updates are held, the sum of their entries, and the greatest room in use so far.
@@ -12,25 +12,16 @@ pub struct Held {
     pub greatest: u64,
 }
 
-// How many updates a step puts on: one, or none if it has no entries.
-fn put_on(update: u64) -> u64
-    ensures { result ≡ min 1 update }
-{
-    if update == 0 {
-        return 0;
-    }
-    1
-}
-
-// The record after a step: `pops` updates of `popped` entries come off, the step's own update goes on, and `room` was in use.
+// The record after a step: `pops` updates of `popped` entries come off, the step's own update goes on unless it has no entries,
+// and `room` was in use.
 fn stepped(held: Held, pops: u64, popped: u64, update: u64, room: u64) -> Held
     requires { Takes held pops popped update }
     ensures { result ≡ stepped_of held pops popped update room }
 {
     Held {
-        count: held.count - pops + put_on(update),
+        count: held.count - pops + update.min(1),
         entries: held.entries - popped + update,
-        greatest: basics::greater(held.greatest, room),
+        greatest: held.greatest.max(room),
     }
 }
 

@@ -3,28 +3,27 @@
 
 ghost use Rattle.run_step.specs.Ready.{Ready, StepTaken};
 
+use run_front::Factor;
 use run_held::Held;
 
 // Takes a step that has no fault, after `done` steps: pops its updates, and puts its own column on the stack list, unless it is a root.
 pub fn take_step(
-    n: u64,
-    starts: &[u64],
-    rows: &[u32],
+    factor: Factor<'_>,
     columns: &[u32],
     pops: &[u32],
     stack: &mut [u32],
     held: Held,
     done: u64,
 ) -> Held
-    requires { Ready n starts.now rows.now columns.now pops.now stack.old held done }
-    ensures { StepTaken n starts.now rows.now columns.now pops.now stack.old held done
+    requires { Ready factor.n factor.starts.now factor.rows.now columns.now pops.now stack.old held done }
+    ensures { StepTaken factor.entry.n factor.entry.starts.now factor.entry.rows.now columns.now pops.now stack.old held done
         stack.new result }
 {
     let column = columns[done as usize];
     let off = pops[done as usize] as u64;
-    let popped = run_updates::popped_entries(n, starts, rows, stack, held, off);
-    let room = run_updates::room_in_use(n, starts, rows, stack, held, off, column as u64);
-    let update = run_front::entries_of(n, starts, rows, column as u64);
+    let popped = run_updates::popped_entries(factor, stack, held, off);
+    let room = run_updates::room_in_use(factor, stack, held, off, column as u64);
+    let update = run_front::entries_of(factor, column as u64);
     let next = run_held::advance(held, off, popped, update, room);
     if update == 0 {
         return next;

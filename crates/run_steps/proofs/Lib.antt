@@ -1,2 +1,3 @@
 pub mod Running
 pub mod Answers
+pub mod Refused

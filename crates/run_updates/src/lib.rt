@@ -9,6 +9,7 @@ ghost use Rattle.papers.specs.Room.{room_at};
 ghost use Rattle.papers.specs.Run.{entries, fits};
 ghost use Rattle.run_updates.specs.Kept.{held_in_order, factor_of, PlaceHeld, HeldColumn, PopsHeld, FrontOver};
 
+use run_front::Factor;
 use run_held::Held;
 
 // The column of an update held, by its place from the bottom, counted from 1.
@@ -19,76 +20,46 @@ fn held_column(n: u64, stack: &[u32], place: u64) -> u64
     stack[place as usize - 1] as u64
 }
 
-// Tests whether every row of every popped update is in the front of the column, from the top down. In the loop the updates up to place
-// `top` are not tested yet.
-pub fn popped_fit(
-    n: u64,
-    starts: &[u64],
-    rows: &[u32],
-    stack: &[u32],
-    held: Held,
-    pops: u64,
-    column: u64,
-) -> bool
-    requires { FrontOver n starts.now rows.now stack.now held pops column }
-    ensures { result ≡ fits (factor_of n starts.now rows.now) column (take pops (held_in_order held.count stack.now)) }
+// Tests whether every row of every popped update is in the front of the column, from the top down. In the loop the updates at the
+// places from `place` on pass.
+pub fn popped_fit(factor: Factor<'_>, stack: &[u32], held: Held, pops: u64, column: u64) -> bool
+    requires { FrontOver factor.n factor.starts.now factor.rows.now stack.now held pops column }
+    ensures { result ≡ fits (factor_of factor.entry.n factor.entry.starts.now factor.entry.rows.now) column (take pops (held_in_order held.count stack.now)) }
 {
-    let front = run_front::rows_of(n, starts, rows, column);
+    let front = run_front::rows_of(factor, column);
     let count = held.count;
-    let end = count - pops;
-    let mut top = count;
-    while end < top {
-        let update = run_front::rows_of(n, starts, rows, held_column(n, stack, top));
-        if run_front::stands_in(column, front, update) {
-            top -= 1;
-        } else {
+    for place in (count - pops..count).rev() {
+        let update = run_front::rows_of(factor, held_column(factor.n, stack, place + 1));
+        if !run_front::stands_in(column, front, update) {
             return false;
         }
     }
     true
 }
 
-// Sums the entries of the popped updates, from the top down. In the loop those up to place `top` are not added yet.
-pub fn popped_entries(
-    n: u64,
-    starts: &[u64],
-    rows: &[u32],
-    stack: &[u32],
-    held: Held,
-    pops: u64,
-) -> u64
-    requires { PopsHeld n starts.now rows.now stack.now held pops }
-    ensures { result ≡ sum (entries (factor_of n starts.now rows.now) (take pops (held_in_order held.count stack.now))) }
+// Sums the entries of the popped updates, from the top down. In the loop those at the places from `place` on are added.
+pub fn popped_entries(factor: Factor<'_>, stack: &[u32], held: Held, pops: u64) -> u64
+    requires { PopsHeld factor.n factor.starts.now factor.rows.now stack.now held pops }
+    ensures { result ≡ sum (entries (factor_of factor.entry.n factor.entry.starts.now factor.entry.rows.now) (take pops (held_in_order held.count stack.now))) }
 {
     let count = held.count;
-    let end = count - pops;
-    let mut top = count;
     let mut total = 0;
-    while end < top {
-        total += run_front::entries_of(n, starts, rows, held_column(n, stack, top));
-        top -= 1;
+    for place in (count - pops..count).rev() {
+        total += run_front::entries_of(factor, held_column(factor.n, stack, place + 1));
     }
     total
 }
 
 // The room in use at a step: all that is held before it, without the top update if it pops any, and its front.
-pub fn room_in_use(
-    n: u64,
-    starts: &[u64],
-    rows: &[u32],
-    stack: &[u32],
-    held: Held,
-    pops: u64,
-    column: u64,
-) -> u64
-    requires { FrontOver n starts.now rows.now stack.now held pops column }
-    ensures { result ≡ room_at pops (length (column_of starts.now rows.now column))
-        (entries (factor_of n starts.now rows.now) (held_in_order held.count stack.now)) }
+pub fn room_in_use(factor: Factor<'_>, stack: &[u32], held: Held, pops: u64, column: u64) -> u64
+    requires { FrontOver factor.n factor.starts.now factor.rows.now stack.now held pops column }
+    ensures { result ≡ room_at pops (length (column_of factor.entry.starts.now factor.entry.rows.now column))
+        (entries (factor_of factor.entry.n factor.entry.starts.now factor.entry.rows.now) (held_in_order held.count stack.now)) }
 {
-    let front = triangle::entries(run_front::rows_of(n, starts, rows, column).len() as u64 + 1);
+    let front = triangle::entries(run_front::rows_of(factor, column).len() as u64 + 1);
     if pops == 0 {
         return held.entries + front;
     }
-    let top = run_front::entries_of(n, starts, rows, held_column(n, stack, held.count));
+    let top = run_front::entries_of(factor, held_column(factor.n, stack, held.count));
     held.entries - top + front
 }

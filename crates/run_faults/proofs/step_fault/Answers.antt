@@ -1,52 +1,45 @@
 -- Proves that `step_fault` answers the first test that refuses: it makes the papers' tests in their order, each only after those before it passed.
 -- Assumes nothing.
-use native.Mathlib.Omega.{arith}
 use lib.ListN.{get_or}
 use Rattle.run_front.specs.Column.{Column}
 use Rattle.run_faults.proofs.Faults.{fault-low, fault-high, fault-few, fault-outside, fault-over, fault-none}
 use Rattle.run_faults.proofs.step_fault.Goals as goal
-use Rattle.run_faults.proofs.step_fault.Goals.{Else-n-column}
+use Rattle.run_faults.proofs.step_fault.Goals.{Else-factor-column}
 
 -- the step's column is one of 1 to n
-column : (c : Else-n-column) → Column c.args.n (get_or c.args.columns.now c.args.done 0)
-column c = record { low = c.if-column-lt1.false; high = c.if-n-column.false }
-
-pub overflow_cast-column : goal.overflow_cast-column
-overflow_cast-column c = omega (arith, c.shared_slice_known-6-1.given c.args.done)
-
-pub overflow_cast-off : goal.overflow_cast-off
-overflow_cast-off c = omega (arith, c.shared_slice_known-7-1.given c.args.done)
+column : (c : Else-factor-column) → Column c.args.factor.n (get_or c.args.columns.now c.args.done 0)
+column c = record { low = c.if-column-lt1.false; high = c.if-factor-column.false }
 
 pub returns-then-column-lt1 : goal.returns-then-column-lt1
 returns-then-column-lt1 c = fault-low _ _ _ _ _ _ _ c.args.held _ c.if-column-lt1.true
 
-pub returns-then-n-column : goal.returns-then-n-column
-returns-then-n-column c = fault-high _ _ _ _ _ _ _ c.args.held _ c.if-n-column.true
+pub returns-then-factor-column : goal.returns-then-factor-column
+returns-then-factor-column c = fault-high _ _ _ _ _ _ _ c.args.held _ c.if-factor-column.true
 
 pub returns-then-held-off : goal.returns-then-held-off
-returns-then-held-off c = fault-few _ _ _ _ _ _ _ c.args.held _ (column (goal.at.returns-then-held-off c).Else-n-column) c.if-held-off.true
+returns-then-held-off c = fault-few _ _ _ _ _ _ _ c.args.held _ (column (goal.at.returns-then-held-off c).Else-factor-column) c.if-held-off.true
 
 pub popped_fit-requires : goal.popped_fit-requires
 popped_fit-requires c =
     let asked = c.requires in
-    record { tested = asked.tested; kept = asked.kept; enough = c.if-held-off.false; column = column (goal.at.popped_fit-requires c).Else-n-column }
+    record { tested = asked.tested; kept = asked.kept; enough = c.if-held-off.false; column = column (goal.at.popped_fit-requires c).Else-factor-column }
 
 pub returns-then-not-popped_fit : goal.returns-then-not-popped_fit
 returns-then-not-popped_fit c =
-    fault-outside _ _ _ _ _ _ _ c.args.held _ (column (goal.at.returns-then-not-popped_fit c).Else-n-column) c.if-held-off.false
+    fault-outside _ _ _ _ _ _ _ c.args.held _ (column (goal.at.returns-then-not-popped_fit c).Else-factor-column) c.if-held-off.false
     c.popped_fit.ensures c.if-not-popped_fit.true
 
 pub room_in_use-requires : goal.room_in_use-requires
 room_in_use-requires c =
     let asked = c.requires in
-    record { tested = asked.tested; kept = asked.kept; enough = c.if-held-off.false; column = column (goal.at.room_in_use-requires c).Else-n-column }
+    record { tested = asked.tested; kept = asked.kept; enough = c.if-held-off.false; column = column (goal.at.room_in_use-requires c).Else-factor-column }
 
 pub returns-then-room-room_in_use : goal.returns-then-room-room_in_use
 returns-then-room-room_in_use c =
-    fault-over _ _ _ _ _ _ _ c.args.held _ (column (goal.at.returns-then-room-room_in_use c).Else-n-column) c.if-held-off.false
+    fault-over _ _ _ _ _ _ _ c.args.held _ (column (goal.at.returns-then-room-room_in_use c).Else-factor-column) c.if-held-off.false
     c.popped_fit.ensures c.if-not-popped_fit.false c.room_in_use.ensures c.if-room-room_in_use.true
 
 pub returns : goal.returns
 returns c =
-    fault-none _ _ _ _ _ _ _ c.args.held _ (column (goal.at.returns c).Else-n-column) c.if-held-off.false
+    fault-none _ _ _ _ _ _ _ c.args.held _ (column (goal.at.returns c).Else-factor-column) c.if-held-off.false
     c.popped_fit.ensures c.if-not-popped_fit.false c.room_in_use.ensures c.if-room-room_in_use.false

@@ -1,4 +1,4 @@
--- Proves that `alike` counts the first rows that two lists share: the first i are equal. Each turn leaves one row less of the shorter list.
+-- Proves that `alike` counts the first rows that two lists share: the first i are equal.
 -- Assumes nothing.
 use native.Mathlib.Omega.{arith}
 use Rattle.run_front.proofs.SameRows.{same_next}
@@ -6,4 +6,4 @@ use Rattle.run_front.proofs.alike.Goals as goal
 
 pub loop-i-preserved : goal.loop-i-preserved
 loop-i-preserved c =
-    same_next c.loop-i.invariant (omega (arith, c.loop-i-test.true, c.lesser-end.ensures)) c.if-a-i.false
+    same_next c.loop-i.invariant (omega (arith, c.loop-i-test.true, c.min-end.ensures)) c.if-a-i.false

@@ -1,11 +1,7 @@
--- Proves that `alike` counts the first rows that two lists share: the first i are equal. Each turn leaves one row less of the shorter list.
+-- Proves that `alike` counts the first rows that two lists share: the first i are equal.
 -- Assumes nothing.
-use Prim.Native.Nat.{◌-◌}
 use Rattle.run_front.specs.Search.{SameFirst}
 use Rattle.run_front.proofs.alike.Given as goal
 
 abbrev pub invariant-loop-i : goal.invariant-loop-i
 invariant-loop-i l = SameFirst l.a l.b l.i
-
-abbrev pub decreases-loop-i : goal.decreases-loop-i
-decreases-loop-i l = l.end - l.i

@@ -4,14 +4,14 @@ use native.Mathlib.Omega.{arith}
 use Rattle.run_front.proofs.Columns.{lies, part-is-column}
 use Rattle.run_front.proofs.rows_of.Goals as goal
 
-pub bounds-starts-c : goal.bounds-starts-c
-bounds-starts-c c = let l = lies c.requires in omega arith
+pub bounds-factor-c : goal.bounds-factor-c
+bounds-factor-c c = let l = lies c.requires in omega arith
 
-pub bounds-starts-c-2 : goal.bounds-starts-c-2
-bounds-starts-c-2 c = (lies c.requires).listed
+pub bounds-factor-c-2 : goal.bounds-factor-c-2
+bounds-factor-c-2 c = (lies c.requires).listed
 
-pub offset_bounds-rows-from : goal.offset_bounds-rows-from
-offset_bounds-rows-from c = let l = lies c.requires in omega arith
+pub offset_bounds-factor-from : goal.offset_bounds-factor-from
+offset_bounds-factor-from c = let l = lies c.requires in omega arith
 
 pub slice_bounds-result-count : goal.slice_bounds-result-count
 slice_bounds-result-count c = (lies c.requires).rising

@@ -1,15 +1,11 @@
 -- Proves that `stands_in` tests every row of an update: the first i are in the front, and the front's rows before the last one found are below the
 -- next. Each turn leaves fewer rows.
 -- Assumes nothing.
-use native.Mathlib.Omega.{arith}
 use Rattle.run_front.proofs.Sweeps.{swept-start, swept-end, to-seek, swept-column, swept-alike, swept-missing}
 use Rattle.run_front.proofs.stands_in.Goals as goal
 
 pub loop-i-init : goal.loop-i-init
 loop-i-init c = swept-start _ _ _
-
-pub overflow_cast-row : goal.overflow_cast-row
-overflow_cast-row c = omega (arith, c.shared_slice_known-in-loop-i-1.given c.loop-i.i)
 
 pub loop-i-preserved-then-row-column : goal.loop-i-preserved-then-row-column
 loop-i-preserved-then-row-column c = swept-column c.loop-i.invariant c.loop-i-test.true c.requires.update-ascends c.if-row-column.true

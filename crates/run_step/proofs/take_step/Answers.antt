@@ -7,7 +7,7 @@ use Rattle.run_step.proofs.take_step.Goals as goal
 use Rattle.run_step.proofs.take_step.Goals.{Else-update-eq0}
 
 -- the stack list has a place for the column's own update
-place : (c : Else-update-eq0) → Place c.args.n c.args.stack.now c.advance-next.result.count
+place : (c : Else-update-eq0) → Place c.args.factor.n c.args.stack.now c.advance-next.result.count
 place c =
     store-within c.requires c.popped_entries-popped.ensures c.entries_of-update.ensures
     c.room_in_use-room.ensures c.advance-next.ensures c.if-update-eq0.false

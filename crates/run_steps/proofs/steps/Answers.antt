@@ -1,16 +1,16 @@
--- Proves that `steps` runs the steps: after `done` steps without a fault the stack list and the record hold the state. Each turn leaves one step
--- less.
+-- Proves that `steps` runs the steps: after `done` steps without a fault the stack list and the record hold the state.
 -- Assumes nothing.
-use mathlib.Core.Path.{◌∙◌}
+use mathlib.Core.Path.{refl, ◌∙◌}
 use native.Mathlib.Omega.{arith}
+use Rattle.run_steps.proofs.Refused.{numbered}
 use Rattle.run_steps.proofs.Running.{running-start, ready, running-next, answers-fault, answers-left, answers-done}
 use Rattle.run_steps.proofs.steps.Goals as goal
 
 pub loop-done-init : goal.loop-done-init
 loop-done-init c = running-start _ _ _ _ _ _ _ c.requires.stack-long
 
-pub step_fault-fault-requires : goal.step_fault-fault-requires
-step_fault-fault-requires c =
+pub step_fault-requires : goal.step_fault-requires
+step_fault-requires c =
     let asked = c.requires in
     let next = c.loop-done-test.true in
     record {
@@ -20,34 +20,31 @@ step_fault-fault-requires c =
       pops-listed = omega (arith, asked.pops-long);
     }
 
-pub shape_of-stack-then-fault-ne0 : goal.shape_of-stack-then-fault-ne0
-shape_of-stack-then-fault-ne0 c = c.loop-done.invariant.long
+pub shape_of-stack-in-Err : goal.shape_of-stack-in-Err
+shape_of-stack-in-Err c = c.loop-done.invariant.long
 
-pub returns-then-fault-ne0 : goal.returns-then-fault-ne0
-returns-then-fault-ne0 c =
-    c.answered.ensures ∙ answers-fault _ _ _ _ _ _ _ c.loop-done.invariant c.loop-done-test.true
-    c.step_fault-fault.ensures c.if-fault-ne0.true
+pub returns-in-Err : goal.returns-in-Err
+returns-in-Err c =
+    (rw c.refuse.ensures) ∙ answers-fault _ _ _ _ _ _ _ c.loop-done.invariant (omega arith) c.in-Err.ensures (numbered c.in-Err.refusal)
 
 pub take_step-held-requires : goal.take_step-held-requires
 take_step-held-requires c =
-    ready _ _ _ _ _ _ _ c.loop-done.invariant c.loop-done-test.true c.step_fault-fault.ensures
-    c.requires c.if-fault-ne0.false
+    ready _ _ _ _ _ _ _ c.loop-done.invariant (omega arith) c.in-Ok.ensures c.requires refl
 
 pub loop-done-preserved : goal.loop-done-preserved
 loop-done-preserved c =
-    running-next _ _ _ _ _ _ _ c.loop-done.invariant c.loop-done-test.true c.step_fault-fault.ensures
-    c.if-fault-ne0.false (omega arith) c.take_step-held.ensures
+    running-next _ _ _ _ _ _ _ c.loop-done.invariant (omega arith) c.in-Ok.ensures refl (omega arith) c.take_step-held.ensures
 
 pub shape_of-stack-then-held-ne0 : goal.shape_of-stack-then-held-ne0
 shape_of-stack-then-held-ne0 c = c.loop-done.invariant.long
 
 pub returns-then-held-ne0 : goal.returns-then-held-ne0
 returns-then-held-ne0 c =
-    c.answered-then-held-ne0.ensures ∙ answers-left _ _ _ _ _ _ _ c.loop-done.invariant c.loop-done-test.false c.if-held-ne0.true
+    (rw c.refuse-then-held-ne0.ensures) ∙ answers-left _ _ _ _ _ _ _ c.loop-done.invariant c.loop-done-test.false c.if-held-ne0.true
 
 pub shape_of-stack : goal.shape_of-stack
 shape_of-stack c = c.loop-done.invariant.long
 
 pub returns : goal.returns
 returns c =
-    c.answered-2.ensures ∙ answers-done _ _ _ _ _ _ _ c.loop-done.invariant c.loop-done-test.false c.if-held-ne0.false
+    answers-done _ _ _ _ _ _ _ c.loop-done.invariant c.loop-done-test.false c.if-held-ne0.false

@@ -1,12 +1,7 @@
--- Proves that `steps` runs the steps: after `done` steps without a fault the stack list and the record hold the state. Each turn leaves one step
--- less.
+-- Proves that `steps` runs the steps: after `done` steps without a fault the stack list and the record hold the state.
 -- Assumes nothing.
-use Prim.Native.Nat.{◌-◌}
 use Rattle.run_steps.proofs.Running.{Running}
 use Rattle.run_steps.proofs.steps.Given as goal
 
 abbrev pub invariant-loop-done : goal.invariant-loop-done
 invariant-loop-done l = Running l.n l.starts l.rows l.columns l.pops l.room l.initial.stack l.stack l.held l.done
-
-abbrev pub decreases-loop-done : goal.decreases-loop-done
-decreases-loop-done l = l.n - l.done

@@ -1,13 +1,13 @@
--- Proves that `popped_entries` sums the popped updates: the total is the sum of those above `top`, and even all entries together fit. Each turn
--- leaves one update less.
+-- Proves that `popped_entries` sums the popped updates: the total is the sum of those from `place` on, and even all entries together fit.
 -- Assumes nothing.
 use native.Mathlib.Omega.{arith}
 use Rattle.run_updates.proofs.Entries.{popped-small}
+use Rattle.run_updates.proofs.Stack.{held-below}
 use Rattle.run_updates.proofs.Popped.{added-start, added-end, added_next, added-within}
 use Rattle.run_updates.proofs.popped_entries.Goals as goal
 
-pub loop-top-init : goal.loop-top-init
-loop-top-init c = added-start _ _ _ _ _ _ c.requires.enough
+pub loop-place-init : goal.loop-place-init
+loop-place-init c = added-start _ _ _ _ _ _ c.requires.enough
 
 pub held_column-requires : goal.held_column-requires
 held_column-requires c = record {
@@ -24,15 +24,15 @@ overflow_add-total c =
     let asked = c.requires in
     omega (
       arith,
-      added-within _ _ _ _ c.loop-top.invariant c.loop-top-test.true c.held_column.ensures.is
+      added-within _ _ _ _ c.loop-place.invariant c.loop-place-test.true (held-below _ c.loop-place-test.true c.held_column.ensures.is)
           c.entries_of-total.ensures,
       popped-small _ _ _ asked.tested asked.kept c.args.pops,
     )
 
-pub loop-top-preserved : goal.loop-top-preserved
-loop-top-preserved c =
-    added_next _ _ _ _ c.loop-top.invariant c.loop-top-test.true c.held_column.ensures.is
+pub loop-place-preserved : goal.loop-place-preserved
+loop-place-preserved c =
+    added_next _ _ _ _ c.loop-place.invariant c.loop-place-test.true (held-below _ c.loop-place-test.true c.held_column.ensures.is)
     c.entries_of-total.ensures
 
 pub returns : goal.returns
-returns c = added-end _ _ _ _ c.loop-top.invariant c.loop-top-test.false
+returns c = added-end _ _ _ _ c.loop-place.invariant c.loop-place-test.false

@@ -1,12 +1,13 @@
--- Proves that `popped_fit` tests all popped updates: those above `top` are in the front, so the others decide. Each turn leaves one update less.
+-- Proves that `popped_fit` tests all popped updates: those from `place` on are in the front, so the others decide.
 -- Assumes nothing.
 use native.Mathlib.Omega.{arith}
 use Rattle.run_front.proofs.Columns.{column-ascends}
+use Rattle.run_updates.proofs.Stack.{held-below}
 use Rattle.run_updates.proofs.Popped.{looked-start, looked-end, looked-next, looked-outside}
 use Rattle.run_updates.proofs.popped_fit.Goals as goal
 
-pub loop-top-init : goal.loop-top-init
-loop-top-init c = looked-start _ _ _ _ _ _ _ c.requires.enough
+pub loop-place-init : goal.loop-place-init
+loop-place-init c = looked-start _ _ _ _ _ _ _ c.requires.enough
 
 pub held_column-requires : goal.held_column-requires
 held_column-requires c = record {
@@ -26,17 +27,17 @@ stands_in-requires c =
       update-ascends = rw c.rows_of-update.ensures (column-ascends asked.tested c.held_column.ensures.column);
     }
 
-pub loop-top-preserved : goal.loop-top-preserved
-loop-top-preserved c =
-    looked-next _ _ _ _ _ c.loop-top.invariant c.loop-top-test.true c.rows_of-front.ensures
-    c.held_column.ensures.is c.rows_of-update.ensures c.stands_in.ensures
-    c.if-stands_in.true
+pub loop-place-preserved : goal.loop-place-preserved
+loop-place-preserved c =
+    looked-next _ _ _ _ _ c.loop-place.invariant c.loop-place-test.true c.rows_of-front.ensures
+    (held-below _ c.loop-place-test.true c.held_column.ensures.is) c.rows_of-update.ensures c.stands_in.ensures
+    c.if-not-stands_in.false
 
-pub returns-else-stands_in : goal.returns-else-stands_in
-returns-else-stands_in c =
-    looked-outside _ _ _ _ _ c.loop-top.invariant c.loop-top-test.true c.rows_of-front.ensures
-    c.held_column.ensures.is c.rows_of-update.ensures c.stands_in.ensures
-    c.if-stands_in.false
+pub returns-then-not-stands_in : goal.returns-then-not-stands_in
+returns-then-not-stands_in c =
+    looked-outside _ _ _ _ _ c.loop-place.invariant c.loop-place-test.true c.rows_of-front.ensures
+    (held-below _ c.loop-place-test.true c.held_column.ensures.is) c.rows_of-update.ensures c.stands_in.ensures
+    c.if-not-stands_in.true
 
 pub returns : goal.returns
-returns c = looked-end _ _ _ _ _ c.loop-top.invariant c.loop-top-test.false
+returns c = looked-end _ _ _ _ _ c.loop-place.invariant c.loop-place-test.false

@@ -1,4 +1,4 @@
--- Proves that `popped_fit` tests all popped updates: those above `top` are in the front, so the others decide. Each turn leaves one update less.
+-- Proves that `popped_fit` tests all popped updates: those from `place` on are in the front, so the others decide.
 -- Assumes nothing.
 use Prim.Native.Nat.{◌-◌}
 use lib.ListN.{take}
@@ -6,8 +6,5 @@ use Rattle.run_updates.specs.Kept.{held_in_order}
 use Rattle.run_updates.proofs.Popped.{Looked}
 use Rattle.run_updates.proofs.popped_fit.Given as goal
 
-abbrev pub invariant-loop-top : goal.invariant-loop-top
-invariant-loop-top l = Looked l.n l.starts l.rows l.stack l.column (take l.pops (held_in_order l.count l.stack)) l.end l.count l.top
-
-abbrev pub decreases-loop-top : goal.decreases-loop-top
-decreases-loop-top l = l.top - l.end
+abbrev pub invariant-loop-place : goal.invariant-loop-place
+invariant-loop-place l = Looked l.factor.n l.factor.starts.now l.factor.rows.now l.stack l.column (take l.pops (held_in_order l.count l.stack)) (l.count - l.pops) l.count l.place

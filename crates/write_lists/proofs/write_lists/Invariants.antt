@@ -1,12 +1,7 @@
--- Proves that `write_lists` stores all lists, since storing those behind the first `done` at next leaves what storing all of them leaves. Each turn
--- leaves one column less.
+-- Proves that `write_lists` stores all lists, since storing those behind the first `done` at next leaves what storing all of them leaves.
 -- Assumes nothing.
-use Prim.Native.Nat.{◌-◌}
 use Rattle.write_lists.proofs.Columns.{WritesColumns}
 use Rattle.write_lists.proofs.write_lists.Given as goal
 
 abbrev pub invariant-loop-done : goal.invariant-loop-done
 invariant-loop-done l = WritesColumns l.n l.starts l.rows l.initial.bytes l.initial.next l.bytes l.next l.done
-
-abbrev pub decreases-loop-done : goal.decreases-loop-done
-decreases-loop-done l = l.n - l.done
