@@ -20,26 +20,17 @@ pub fn mark(n: usize, j: usize, list: &[u32], work: &mut [u64])
     requires { Markable n list.now work.old }
     ensures { work.new ≡ marked n j list.now work.old }
 {
-    let mut k = 0;
-    while k < list.len() {
-        work[n + n + list[k] as usize] = j as u64;
-        k += 1;
+    for row in list {
+        work[n + n + *row as usize] = j as u64;
     }
 }
 
-// Tests whether every row of a list is marked for column j. In the loop all rows before k are.
+// Tests whether every row of a list is marked for column j.
 pub fn covered(n: usize, j: usize, list: &[u32], work: &[u64]) -> bool
     requires { Markable n list.now work.now }
     ensures { result ≡ every (is_marked n j work.now) list.now }
 {
-    let mut k = 0;
-    while k < list.len() {
-        if work[n + n + list[k] as usize] != j as u64 {
-            return false;
-        }
-        k += 1;
-    }
-    true
+    list.iter().all(|row| work[n + n + *row as usize] == j as u64)
 }
 
 // Joins more rows to the list of len rows in the buffer of this turn, and writes the result to the other buffer. Answers how many rows it
