@@ -1,8 +1,8 @@
 -- Proves what marking leaves in work: the place of each marked row holds the column's number, and every other place keeps its number.
 -- Assumes nothing.
-use Prim.Native.Nat.{ℕ, suc, ◌+◌, ◌<◌, ◌≤◌}
+use Prim.Native.Nat.{ℕ, ◌+◌, ◌<◌, ◌≤◌}
 use mathlib.Core.Path.{◌≡◌, refl, sym, ap, ◌∙◌}
-use mathlib.Core.Logic.{◌⊎◌, inl, inr, ◌≢◌}
+use mathlib.Core.Logic.{◌⊎◌, inl, inr}
 use mathlib.Core.Bool.{Bool, true, false, ◌&&◌}
 use mathlib.Core.List.Memᴰ
 use mathlib.Core.List.{List, [], ◌∷◌}
@@ -10,13 +10,13 @@ use native.Mathlib.Omega.{arith}
 use native.Mathlib.Numerals.{add-one}
 use lib.ListN.{length, get_or, drop, set, length-set, drop_of_length-le}
 use lib.Seq.{drop-cons, get_or-set_same, get_or-set_other, set_out}
-use borrow.Author.Tests.{eq-eqb, ne_eqb, eqb-true}
+use borrow.Author.Tests.{eqb-true}
 use Rattle.std.specs.List.{list_all}
 use Rattle.std.proofs.lemmas.Grind.{get_or_default_zero}
 use Rattle.papers.specs.Lists.{◌∈◌, every}
 use Rattle.list_laws.proofs.Tests.{Compare, below, level, above, compare, below_or}
 use Rattle.list_laws.proofs.Members.{at_place}
-use Rattle.list_laws.proofs.Every.{every-nil, every-yes, every-no, every-all}
+use Rattle.list_laws.proofs.Every.{every-all}
 use Rattle.child_lists.specs.Marks.{marked, is_marked, Markable, MarkedWithin, Changed}
 
 -- what a store leaves at place p
