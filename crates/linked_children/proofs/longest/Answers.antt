@@ -52,7 +52,7 @@ loop-d-smaller c = goes_down c.loop-d.invariant c.loop-d-test.true
 pub loop-d-preserved : goal.loop-d-preserved
 loop-d-preserved c =
     elim c.if-most-rows.branch [
-      then-most-rows w ↦ rw (w.best-is, w.most-is) (takes c.loop-d.invariant c.loop-d-test.true w.if-most-rows.true)
+      | then-most-rows w ↦ rw (w.best-is, w.most-is) (takes c.loop-d.invariant c.loop-d-test.true w.if-most-rows.true)
       | else-most-rows w ↦ rw (w.best-is, w.most-is) (keeps c.loop-d.invariant c.loop-d-test.true w.if-most-rows.false)
     ]
 
