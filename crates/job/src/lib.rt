@@ -1,11 +1,14 @@
-// The tests of a job, 1 to 6, in the order of the rules' table.
+// A job as code hands it on, and its tests, 1 to 6, in the order of the rules' table.
 #![tactic(auto)]
 
 ghost use Rattle.std.specs.Prelude.{◌≡◌};
-ghost use Rattle.papers.specs.Refusals.{answer_of, first};
-ghost use Rattle.papers.specs.Job.{job_of, job_refusals};
+ghost use Rattle.papers.specs.Refusals.{first};
+ghost use Rattle.papers.specs.Job.{job_refusals};
+ghost use Rattle.refusals.specs.Answers.{verdict_from};
+ghost use Rattle.job.specs.Given.{job_given};
 
-use papers::{Answer, JobHead};
+use papers::JobHead;
+use refusals::{Refusal, Refused, refuse};
 
 // A job as code hands it on: its three numbers, and its starts and rows, which stay where they were lent.
 #[derive(Clone, Copy)]
@@ -16,21 +19,19 @@ pub struct Job<'a> {
 }
 
 // Answers the first of 1 to 6 that refuses. Computes nothing from n before n is known to be within its bound.
-pub fn first_fault(head: JobHead, starts: &[u64], rows: &[u32]) -> Answer
-    ensures { result ≡ answer_of (first job_refusals (job_of head starts.now rows.now)) }
+pub fn first_fault(job: Job) -> Result<(), Refused>
+    ensures { verdict_from result ≡ first job_refusals (job_given job.entry) }
 {
+    let head = job.head;
     if papers::MAX_COLUMNS < head.n {
-        return basics::answered(1, 0, 0);
+        return refuse(Refusal::TooManyColumns, 0, 0);
     }
     if papers::MAX_MARK < head.mark {
-        return basics::answered(2, 0, 0);
+        return refuse(Refusal::UnknownMark, 0, 0);
     }
     if papers::MAX_LIMIT < head.limit {
-        return basics::answered(3, 0, 0);
+        return refuse(Refusal::LimitTooHigh, 0, 0);
     }
-    let fault = job_starts::starts_fault(head.n, starts, rows);
-    if fault.number != 0 {
-        return fault;
-    }
-    job_rows::rows_fault(head.n, starts, rows)
+    job_starts::starts_fault(head.n, job.starts, job.rows)?;
+    job_rows::rows_fault(head.n, job.starts, job.rows)
 }

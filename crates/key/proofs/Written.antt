@@ -2,14 +2,14 @@
 -- Assumes nothing.
 use Prim.Native.Nat.{ℕ, ◌+◌, ◌*◌, ◌^◌, ◌<◌, ◌≤◌}
 use mathlib.Core.Path.{◌≡◌, refl, sym, ◌∙◌}
-use mathlib.Core.Logic.{◌≢◌, ⊎_elim}
+use mathlib.Core.Logic.{⊎_elim}
 use mathlib.Core.List.{List, ◌∷◌}
 use native.Mathlib.Omega.{arith}
 use lib.ListN.{length}
 use Rattle.papers.specs.declared.Answer.{Answer}
 use Rattle.papers.specs.Bounds.{edition, max_columns, max_groups}
 use Rattle.papers.specs.Lists.{zeros}
-use Rattle.papers.specs.Refusals.{passed, answer_of, first, EndsAs}
+use Rattle.papers.specs.Refusals.{passed, refused, first, EndsAs}
 use Rattle.papers.specs.Job.{Job, pattern, job_refusals}
 use Rattle.papers.specs.Numbers.{bytes_of, encode}
 use Rattle.papers.specs.Key.{lists_numbers, lists_of, key_numbers, key_of}
@@ -19,8 +19,8 @@ use Rattle.list_laws.specs.Wrote.{Wrote}
 use Rattle.list_laws.proofs.Tests.{below_or}
 use Rattle.list_laws.proofs.Writing.{Writes, writes-all, writes-last}
 use Rattle.bytes_laws.proofs.Writing.{writes-number, writes-near}
-use Rattle.job_laws.proofs.Firsts.{first-last, over-refuses, over-passes-iff}
-use Rattle.job_laws.proofs.Outcomes.{outcome-early, outcome-late, outcome-done, job-refuses, job-passes-iff}
+use Rattle.job_laws.proofs.Firsts.{first_of, first-last, over-refuses, over-passes-iff}
+use Rattle.job_laws.proofs.Outcomes.{outcome-early, outcome-late, outcome-done, job-passes-iff}
 use Rattle.write_lists.proofs.Columns.{lists-few}
 use Rattle.write_stored.specs.Stored.{stored}
 use Rattle.write_stored.proofs.Stores.{short-is, whole_is}
@@ -88,10 +88,10 @@ module _ (job : Job) (bytes₀ : List ℕ) where
   call = record { job = job; bytes = bytes₀ }
 
   -- 1 to 6
-  pub key-refused : {r : Answer} {bytes : List ℕ} → r ≡ answer_of (first job_refusals job) → r.number ≢ 0 → bytes ≡ bytes₀
-      → EndsAs r bytes (key_written job bytes₀)
+  pub key-refused : {a : Answer} {bytes : List ℕ} → refused a ≡ first job_refusals job → bytes ≡ bytes₀ → EndsAs a bytes (key_written job bytes₀)
   unfolding key_written key_early
-  key-refused e n b = rw b (sym (outcome-early key_early key_late key_done zeros call bytes₀ (job-refuses (λ c. c.job) call e n)))
+  key-refused e b =
+      rw b (sym (outcome-early key_early key_late key_done zeros call bytes₀ (first_of (λ c. c.job) job_refusals call ∙ sym e)))
 
   module _ (p : Passed job) where
     early-passes : first key_early call ≡ passed

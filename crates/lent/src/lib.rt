@@ -19,10 +19,10 @@ pub fn clear_all(
         (all_zero (six_slices parents.old order.old pops.old starts.old rows.old
         work.old)) }
 {
-    slices::clear32(parents);
-    slices::clear32(order);
-    slices::clear32(pops);
-    slices::clear64(starts);
-    slices::clear32(rows);
-    slices::clear64(work);
+    parents.fill(0);
+    order.fill(0);
+    pops.fill(0);
+    starts.fill(0);
+    rows.fill(0);
+    work.fill(0);
 }

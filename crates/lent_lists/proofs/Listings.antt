@@ -2,9 +2,9 @@
 -- Assumes nothing.
 use Prim.Native.Nat.{ℕ, zero, suc, ◌+◌, ◌-◌, ◌<◌, ◌≤◌}
 use mathlib.Core.Path.{◌≡◌, refl, sym, ap, ◌∙◌}
-use mathlib.Core.List.{List, [], ◌∷◌, map}
+use mathlib.Core.List.{List, [], ◌∷◌, ◌++◌, map}
 use native.Mathlib.Omega.{arith}
-use lib.ListN.{length, get_or, take, drop, replicate, length-map, length-drop, length-replicate, get_or-append}
+use lib.ListN.{length, get_or, take, drop, replicate, length-map, length-append, length-drop, length-replicate, get_or-append}
 use lib.Seq.{sets-eq, length-sets}
 use Rattle.papers.specs.Lists.{up_to, flat, starts_counted_from, zeros}
 use Rattle.papers.specs.Job.{Pattern}
@@ -17,7 +17,7 @@ use Rattle.list_laws.proofs.UpTo.{length-up_to}
 use Rattle.job_laws.proofs.Starts.{start-at}
 use Rattle.job_laws.proofs.Laid.{length-lists, laid-starts}
 use Rattle.slices.specs.From.{zeros_from}
-use Rattle.slices.proofs.From.{stored-from}
+use Rattle.slices.proofs.From.{cleared-from, stored-from}
 use Rattle.structure.specs.Listed.{Listable, ColumnsListed}
 use Rattle.lent.specs.Six.{six_slices}
 use Rattle.lent.proofs.Alike.{part-long}
@@ -36,6 +36,24 @@ cleared-behind zero l = let e : length (zeros l) - 0 ≡ length l = omega (arith
 cleared-behind (suc n) [] = let e : 0 - suc n ≡ 0 = omega arith in rw e
 cleared-behind (suc n) (x ∷ l) =
     let e : length (x ∷ zeros_from n l) - suc n ≡ length (zeros_from n l) - n = omega arith in rw e (cleared-behind n l)
+
+-- the same of its parts as code puts them together: those before place n, cleared ones, and none
+abbrev parts : ℕ → List ℕ → List ℕ → List ℕ
+parts n l rest = take n l ++ (rest ++ drop (length l - n) (drop n l))
+
+module _ (n : ℕ) (l : List ℕ) {rest : List ℕ} (h : n ≤ length l) (z : rest ≡ zeros (take (length l - n) (drop n l))) where
+  pub parts-behind : ZerosBehind n (parts n l rest)
+  parts-behind = rw (cleared-from n l h z) (cleared-behind n l)
+
+  pub parts-long : length (parts n l rest) ≡ length l
+  unfolding zeros_from
+  parts-long =
+      rw (cleared-from n l h z)
+      (omega (arith, length-append (take n l) (zeros (drop n l)), length-replicate {A = ℕ} (length (drop n l)) 0, length-drop n l, part-long n l h))
+
+-- the first n places are others
+pub others-long : (n : ℕ) (l x : List ℕ) → n ≤ length l → length x ≡ length (take n l) → length (x ++ drop n l) ≡ length l
+others-long n l x h e = omega (arith, length-append x (drop n l), length-drop n l, part-long n l h)
 
 -- it equals a cleared slice of the same length there
 behind-zero : (n : ℕ) (o l : List ℕ) → ZerosBehind n o → length o ≡ length l → drop n o ≡ zeros (drop n l)

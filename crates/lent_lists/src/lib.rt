@@ -41,10 +41,10 @@ pub fn list_columns(
         return done;
     }
     let last = fstarts[n] as usize;
-    slices::clear32_from(parents, n);
-    slices::clear32_from(order, n);
-    slices::clear32_from(pops, n);
-    slices::clear64_from(fstarts, n + 1);
-    slices::clear32_from(frows, last);
+    parents[n..].fill(0);
+    order[n..].fill(0);
+    pops[n..].fill(0);
+    fstarts[n + 1..].fill(0);
+    frows[last..].fill(0);
     done
 }

@@ -3,11 +3,13 @@
 
 ghost use Rattle.std.specs.Prelude.{◌≡◌, ◌≤◌};
 ghost use Rattle.papers.specs.Bounds.{max_columns, work_length_for};
-ghost use Rattle.papers.specs.Refusals.{answer_of, first};
-ghost use Rattle.papers.specs.Job.{job_of};
+ghost use Rattle.papers.specs.Refusals.{first};
 ghost use Rattle.papers.specs.Analysis.{fixed_for, some_short, early_refusals};
+ghost use Rattle.refusals.specs.Answers.{verdict_from};
+ghost use Rattle.job.specs.Given.{job_given};
 
-use papers::{Answer, JobHead};
+use job::Job;
+use refusals::{Refusal, Refused, refuse};
 
 // How many numbers work has at least, for n columns.
 fn work_length(n: usize) -> usize
@@ -18,7 +20,7 @@ fn work_length(n: usize) -> usize
 }
 
 // Test 7: whether a slice is below its fixed length for n columns. The arguments are the lengths of parents, order, pops, factor starts and
-// work.
+// work. A chain of ifs, not of `||`: so each test that holds is a way out with a law of its own.
 pub fn too_short(
     n: usize,
     parents: usize,
@@ -45,28 +47,23 @@ pub fn too_short(
     work < work_length(n)
 }
 
-// Tests 1 to 7: the job, then the lengths of parents, order, pops, factor starts and work. Answers the first refusal, or 0.
+// Tests 1 to 7: the job, then the lengths of parents, order, pops, factor starts and work. Answers the first refusal.
 pub fn early_fault(
-    head: JobHead,
-    starts: &[u64],
-    rows: &[u32],
+    job: Job,
     parents: usize,
     order: usize,
     pops: usize,
     fstarts: usize,
     work: usize,
-) -> Answer
-    ensures { result ≡ answer_of (first early_refusals (record {
-      job = job_of head starts.now rows.now;
-      slices = fixed_for head.n parents order pops fstarts work;
-    })) }
+) -> Result<(), Refused>
+    ensures { verdict_from result ≡ first early_refusals (record {
+      job = job_given job.entry;
+      slices = fixed_for job.entry.head.n parents order pops fstarts work;
+    }) }
 {
-    let fault = job::first_fault(head, starts, rows);
-    if fault.number != 0 {
-        return fault;
+    job::first_fault(job)?;
+    if too_short(job.head.n as usize, parents, order, pops, fstarts, work) {
+        return refuse(Refusal::SliceTooShort, 0, 0);
     }
-    if too_short(head.n as usize, parents, order, pops, fstarts, work) {
-        return basics::answered(7, 0, 0);
-    }
-    basics::answered(0, 0, 0)
+    Ok(())
 }

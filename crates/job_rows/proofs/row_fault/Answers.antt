@@ -1,7 +1,6 @@
 -- Proves that `row_fault` answers what `fault_of_row` defines, since it makes the same tests in the same order.
 -- Assumes nothing.
-use mathlib.Core.Path.{sym}
-use native.Mathlib.Omega.{arith}
+use Rattle.std.proofs.Common.{sym, arith}
 use Rattle.job_laws.proofs.Rows.{row_low, row-over, row-falls, row_fine}
 use Rattle.job_rows.proofs.row_fault.Goals as goal
 use Rattle.job_rows.proofs.row_fault.Goals.{then-row-j-via-then-row-j, then-row-j-via-else-row-j+then-n-row}

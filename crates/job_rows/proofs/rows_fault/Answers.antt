@@ -1,30 +1,38 @@
--- Proves that `rows_fault` finds the first row at fault: neither the columns passed nor the rows before i have a fault, so the next fault found is
--- the first, and if none is found there is none.
+-- Proves that `rows_fault` finds the first column at fault: those passed have no fault, so the next fault found is the first.
 -- Assumes nothing.
-use native.Mathlib.Omega.{arith}
-use Rattle.job_rows.proofs.Reading.{first-column, last-column, first-row, next_row, next-column, found}
+use Rattle.std.proofs.Common.{refl, arith}
+use Rattle.refusals.proofs.Numbered.{numbered}
+use Rattle.job_rows.proofs.Reading.{columns-begin, columns-end, starts-long, starts-rise, rows-within, column-next, column-found}
 use Rattle.job_rows.proofs.rows_fault.Goals as goal
 
-pub columns-init : goal.columns-init
-columns-init c = first-column c.requires.starts-pass
+pub loop-done-init : goal.loop-done-init
+loop-done-init c = columns-begin _ _ _
 
-pub rows-init : goal.rows-init
-rows-init c = first-row c.columns.invariant c.columns-test.true
+pub bounds-starts-done : goal.bounds-starts-done
+bounds-starts-done c = omega (arith, starts-long c.requires)
 
-pub overflow_cast-row : goal.overflow_cast-row
-overflow_cast-row c = omega (arith, c.shared_slice_known-in-rows-1.given c.rows.i)
+pub bounds-starts-done-in-loop-done : goal.bounds-starts-done-in-loop-done
+bounds-starts-done-in-loop-done c = omega (arith, starts-long c.requires)
 
-pub rows-preserved : goal.rows-preserved
-rows-preserved c = next_row c.rows.invariant _ c.rows-test.true c.row_fault-fault.ensures c.if-fault-ne0.false
+pub offset_bounds-rows-starts : goal.offset_bounds-rows-starts
+offset_bounds-rows-starts c = omega (arith, starts-rise c.requires c.loop-done-test.true, rows-within c.requires c.loop-done-test.true)
 
-pub columns-preserved : goal.columns-preserved
-columns-preserved c =
-    next-column c.columns.invariant c.columns-test.true c.rows.invariant c.rows-test.false
+pub slice_bounds-column-count : goal.slice_bounds-column-count
+slice_bounds-column-count c = starts-rise c.requires c.loop-done-test.true
 
-pub returns-after-columns : goal.returns-after-columns
-returns-after-columns c = last-column c.columns.invariant c.columns-test.false
+pub slice_bounds-column-start : goal.slice_bounds-column-start
+slice_bounds-column-start c = omega (arith, starts-rise c.requires c.loop-done-test.true, rows-within c.requires c.loop-done-test.true)
 
-pub returns-then-fault-ne0 : goal.returns-then-fault-ne0
-returns-then-fault-ne0 c =
-    found c.columns.invariant c.columns-test.true c.rows.invariant _
-    c.rows-test.true c.row_fault-fault.ensures c.if-fault-ne0.true
+pub slice_bounds-column-end : goal.slice_bounds-column-end
+slice_bounds-column-end c = omega (arith, starts-rise c.requires c.loop-done-test.true, rows-within c.requires c.loop-done-test.true)
+
+pub returns-in-Err : goal.returns-in-Err
+returns-in-Err c =
+    rw c.refuse.ensures (column-found c.loop-done.invariant (starts-rise c.requires c.loop-done-test.true) c.in-Err.ensures c.loop-done-test.true
+    (numbered _))
+
+pub loop-done-preserved : goal.loop-done-preserved
+loop-done-preserved c = column-next c.loop-done.invariant (starts-rise c.requires c.loop-done-test.true) c.in_default.ensures refl
+
+pub returns : goal.returns
+returns c = columns-end c.loop-done.invariant (omega (arith, c.loop-done-test.false, c.loop-done.auto.done-end))

@@ -2,7 +2,7 @@
 -- since a key has few enough numbers and each has few bytes.
 -- Assumes nothing.
 use native.Mathlib.Omega.{arith}
-use Rattle.papers.specs.Job.{job_of}
+use Rattle.job.specs.Given.{job_given}
 use Rattle.job_laws.specs.Passed.{Passed}
 use Rattle.job_laws.proofs.Passed.{lists-iff}
 use Rattle.key.proofs.Written.{numbers_fit, key-near, behind-edition, behind-n, behind-mark, behind-limit, key-put}
@@ -10,7 +10,7 @@ use Rattle.key.proofs.put_key.Goals as goal
 use Rattle.key.proofs.put_key.Goals.{Start}
 
 -- the job passes its tests
-valid : (c : Start) → Passed (job_of c.args.head c.args.starts.now c.args.rows.now)
+valid : (c : Start) → Passed (job_given c.args.job)
 valid c = c.requires
 
 pub put-n-requires : goal.put-n-requires

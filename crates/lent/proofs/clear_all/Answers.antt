@@ -5,6 +5,5 @@ use Rattle.lent.proofs.clear_all.Goals as goal
 
 pub returns : goal.returns
 returns c =
-    all-cleared _ _ _ _ _ _ c.clear32.ensures c.clear32-2.ensures
-    c.clear32-3.ensures c.clear64.ensures c.clear32-4.ensures
-    c.clear64-2.ensures
+    all-cleared _ _ _ _ _ _ (c.fill.ensures.after (λ y e. e)) (c.fill-2.ensures.after (λ y e. e)) (c.fill-3.ensures.after (λ y e. e))
+    (c.fill-4.ensures.after (λ y e. e)) (c.fill-5.ensures.after (λ y e. e)) (c.fill-6.ensures.after (λ y e. e))

@@ -2,10 +2,10 @@
 -- columns are done, it clears the places behind the lists, and the buffers.
 -- Assumes nothing.
 use native.Mathlib.Omega.{arith}
-use lib.ListN.{length-append}
-use borrow.Author.Rules.{rules}
+use Rattle.std.proofs.Common.{◌+◌, ◌≤◌, ◌∙◌, ◌++◌, length, drop}
+use Rattle.slices.proofs.From.{cleared-from}
 use Rattle.lent.proofs.Alike.{part-long}
-use Rattle.lent_lists.proofs.Listings.{listable, some-listed, last_fits, cleared-behind, all_listed}
+use Rattle.lent_lists.proofs.Listings.{listable, some-listed, last_fits, parts-behind, parts-long, others-long, all_listed}
 use Rattle.lent_lists.proofs.list_columns.Goals as goal
 
 pub slice_bounds-column_lists-end-2 : goal.slice_bounds-column_lists-end-2
@@ -20,18 +20,30 @@ column_lists-done-requires c = listable c.requires
 pub returns-then-done-n : goal.returns-then-done-n
 returns-then-done-n c = some-listed c.requires c.column_lists-done.ensures c.if-done-n.true
 
-pub clear32_from-requires-3 : goal.clear32_from-requires-3
-clear32_from-requires-3 c =
-    let start-long = part-long c.args.n c.args.pops.now (omega (arith, c.requires.long)) in
-    simp length-append (omega arith)
+-- the rows of all columns fit
+pub offset_bounds-frows-last : goal.offset_bounds-frows-last
+offset_bounds-frows-last c = omega (arith, last_fits c.requires c.column_lists-done.ensures c.if-done-n.false)
 
-pub clear32_from-requires-4 : goal.clear32_from-requires-4
-clear32_from-requires-4 c = last_fits c.requires c.column_lists-done.ensures c.if-done-n.false
+pub slice_bounds-fill-count-5 : goal.slice_bounds-fill-count-5
+slice_bounds-fill-count-5 c = last_fits c.requires c.column_lists-done.ensures c.if-done-n.false
+
+pub slice_bounds-fill-start-5 : goal.slice_bounds-fill-start-5
+slice_bounds-fill-start-5 c = last_fits c.requires c.column_lists-done.ensures c.if-done-n.false
 
 pub returns : goal.returns
 returns c =
-    all_listed c.requires c.column_lists-done.ensures c.if-done-n.false
-    c.clear32_from.ensures
-    (rw (c.clear32_from-2.ensures, cleared-behind)) (search rules)
-    (rw (c.clear32_from-3.ensures, cleared-behind)) (search rules)
-    c.clear64_from.ensures c.clear32_from-4.ensures
+    let n = c.args.n in
+    let long = c.requires.long in
+    let listed = c.column_lists-done in
+    let keep-order = others-long n c.args.order.now listed.new.x (omega (arith, long)) listed.auto.x in
+    let keep-pops = others-long n c.args.pops.now listed.new.y (omega (arith, long)) listed.auto.y in
+    let order-whole : n ≤ length (listed.new.x ++ drop n c.args.order.now) = omega (arith, keep-order, long) in
+    let pops-whole : n ≤ length (listed.new.y ++ drop n c.args.pops.now) = omega (arith, keep-pops, long) in
+    let order-zero = c.fill-2.ensures.after (λ y e. e) in
+    let pops-zero = c.fill-3.ensures.after (λ y e. e) in
+    all_listed c.requires listed.ensures c.if-done-n.false
+    (cleared-from n _ (omega (arith, long, listed.auto.parents)) (c.fill.ensures.after (λ y e. e)))
+    (parts-behind n _ order-whole order-zero) (parts-long n _ order-whole order-zero ∙ keep-order)
+    (parts-behind n _ pops-whole pops-zero) (parts-long n _ pops-whole pops-zero ∙ keep-pops)
+    (cleared-from (n + 1) _ (omega (arith, long, listed.auto.fstarts)) (c.fill-4.ensures.after (λ y e. e)))
+    (cleared-from _ _ (last_fits c.requires listed.ensures c.if-done-n.false) (c.fill-5.ensures.after (λ y e. e)))

@@ -1,0 +1,2 @@
+pub mod Numbered
+pub mod Passed
