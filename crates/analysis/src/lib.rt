@@ -6,6 +6,7 @@ ghost use Rattle.papers.specs.Job.{job_of};
 ghost use Rattle.papers.specs.Analysis.{analysed};
 ghost use Rattle.lent.specs.Six.{six_slices};
 
+use job::Job;
 use papers::{Answer, JobHead};
 
 // Analyses a job. Tests 1 to 7, then 8 and 9. When done, the slices hold parents, order, pops, factor starts and factor rows, then
@@ -28,24 +29,22 @@ pub fn analyse(
         (six_slices parents.old order.old pops.old fstarts.old frows.old
         work.old)) }
 {
-    let fault = lent_tests::early_fault(
-        head,
-        starts,
-        rows,
+    let job = Job { head, starts, rows };
+    if let Err(refused) = lent_tests::early_fault(
+        job,
         parents.len(),
         order.len(),
         pops.len(),
         fstarts.len(),
         work.len(),
-    );
-    if fault.number != 0 {
-        return fault;
+    ) {
+        return Answer::from(refused);
     }
-    let answer = lent_plan::planned(
-        head, starts, rows, parents, order, pops, fstarts, frows, work,
-    );
-    if answer.number != 0 {
-        lent::clear_all(parents, order, pops, fstarts, frows, work);
+    match lent_plan::planned(job, parents, order, pops, fstarts, frows, work) {
+        Ok(peak) => refusals::done(peak),
+        Err(refused) => {
+            lent::clear_all(parents, order, pops, fstarts, frows, work);
+            Answer::from(refused)
+        }
     }
-    answer
 }

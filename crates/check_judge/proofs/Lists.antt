@@ -2,7 +2,6 @@
 -- Assumes nothing.
 use Prim.Native.Nat.{ℕ, ◌+◌, ◌≤◌}
 use mathlib.Core.Path.{◌≡◌, sym, ap, ◌∙◌}
-use mathlib.Core.Logic.{◌≢◌}
 use mathlib.Core.List.{List, [], ◌∷◌, map}
 use native.Mathlib.Omega.{arith}
 use lib.ListN.{length, take, length-map}
@@ -19,8 +18,9 @@ use Rattle.job_laws.specs.Passed.{Passed}
 use Rattle.list_laws.proofs.UpTo.{length-up_to}
 use Rattle.job_laws.proofs.Firsts.{first_passes}
 use Rattle.check_lists.specs.Lists.{PlanLists, HoldLists, FirstWrong}
+use Rattle.std.specs.Prelude.{Option, Some, None}
 use Rattle.check_judge.specs.Judged.{PlanAtStart, OnTree, TreeGiven, ruling, TreeJudged, plan_from, tree_refusals}
-use Rattle.check_judge.proofs.Rulings.{ruling-refused, decides, at-refuses, at-passes}
+use Rattle.check_judge.proofs.Rulings.{ruling-refused, decides, place-refuses, place-passes}
 
 length-family : (f : ℕ → ℕ) (n : ℕ) → length (map f (up_to n)) ≡ n
 length-family f n = length-map (up_to n) f ∙ length-up_to n
@@ -51,15 +51,15 @@ module _ (job : Job) (valid : Passed job) (plan : Plan) {peak : ℕ} {order pops
 
   module _ (unrepeated : column_repeated.test (plan_from job plan) ≡ passed) where
     -- ---- 17
-    module _ {p : ℕ} (e : FirstWrong job.n (pattern job) fstarts frows p) where
-      pub refuses-17 : p ≢ 0 → {r : Answer} → r ≡ answer 17 p 0 → r ≡ ruling (first judge_refusals (plan_from job plan)) peak
+    module _ {column : Option ℕ} (e : FirstWrong job.n (pattern job) fstarts frows column) where
+      pub refuses-17 : {p : ℕ} → column ≡ Some p → {r : Answer} → r ≡ answer 17 p 0 → r ≡ ruling (first judge_refusals (plan_from job plan)) peak
       unfolding judge_refusals
-      refuses-17 z q =
-          ruling-refused peak (decides (column_repeated ∷ []) list_wrong _ (plan_from job plan) (unrepeated, tt) (at-refuses 17 p (e plan.lists plan-lists) z))
+      refuses-17 is q =
+          ruling-refused peak (decides (column_repeated ∷ []) list_wrong _ (plan_from job plan) (unrepeated, tt) (place-refuses 17 _ (e plan.lists plan-lists) is))
           q
 
-      pub passes-17 : p ≡ 0 → list_wrong.test (plan_from job plan) ≡ passed
-      passes-17 z = at-passes 17 (e plan.lists plan-lists) z
+      pub passes-17 : column ≡ None → list_wrong.test (plan_from job plan) ≡ passed
+      passes-17 is = place-passes 17 _ (e plan.lists plan-lists) is
 
     module _ (right : list_wrong.test (plan_from job plan) ≡ passed) where
       -- the start of their slice holds the parents

@@ -1,7 +1,7 @@
 -- Proves how verdicts of tests combine, one test after the other, and which answers they give.
 -- Assumes nothing.
 use Prim.Native.Nat.{ℕ, zero, suc}
-use mathlib.Core.Path.{◌≡◌, refl, ap, ◌∙◌}
+use mathlib.Core.Path.{◌≡◌, refl, sym, ap, ◌∙◌}
 use mathlib.Core.Logic.{◌≢◌}
 use mathlib.Core.Bool.{Bool, true, false}
 use mathlib.Core.List.{List, ◌∷◌, ◌++◌}
@@ -12,6 +12,8 @@ use Rattle.papers.specs.Refusals.{answer, Verdict, passed, refused, first, refus
 use Rattle.papers.specs.Job.{Job}
 use Rattle.papers.specs.Plan.{Plan}
 use Rattle.job_laws.proofs.Firsts.{◌&◌, Each, first-each, first-passed-iff, first-append-passed, first-refuses}
+use Rattle.std.specs.Prelude.{Option, Some, None}
+use Rattle.refusals.specs.Answers.{place_if_any}
 use Rattle.check_judge.specs.Judged.{ruling, plan_from}
 
 -- a verdict that refuses has a number
@@ -42,6 +44,25 @@ at-refuses number (suc p) e z = rw (← e)
 pub at-passes : (number : ℕ) {p q : ℕ} → p ≡ q → p ≡ 0 → refused_at number q 0 ≡ passed
 unfolding refused_at
 at-passes number e z = rw (← e, z)
+
+-- the same of a place found as an Option
+
+some-inj : {a b : ℕ} → ◌≡◌ {A = Option ℕ} (Some a) (Some b) → a ≡ b
+some-inj e = cc
+
+some-none : {a : ℕ} → ◌≡◌ {A = Option ℕ} (Some a) None → ⊥
+some-none e = let z : ◌≡◌ {A = ℕ} 0 1 = cc in omega arith
+
+pub place-refuses : (number q : ℕ) {p : ℕ} {found : Option ℕ} → found ≡ place_if_any q → found ≡ Some p
+    → refused_at number q 0 ≡ refused (answer number p 0)
+unfolding refused_at
+place-refuses number zero e is = absurd (some-none (sym is ∙ e))
+place-refuses number (suc k) e is = ap (λ x. refused (answer number x 0)) (sym (some-inj (sym is ∙ e)))
+
+pub place-passes : (number q : ℕ) {found : Option ℕ} → found ≡ place_if_any q → found ≡ None → refused_at number q 0 ≡ passed
+unfolding refused_at
+place-passes number zero e is = refl
+place-passes number (suc k) e is = absurd (some-none (sym e ∙ is))
 
 pub number_of : {r : Answer} {number place count : ℕ} → r ≡ answer number place count → r.number ≡ number
 number_of e = ap (λ (a : Answer). a.number) e

@@ -36,41 +36,43 @@ use Rattle.room.proofs.BySteps.{peak-by-steps, enough-by-steps}
 use Rattle.order.proofs.Families.{column-of}
 use Rattle.order.proofs.Ties.{starts_of, length-parents, rows-tie, rowed}
 use Rattle.check_steps.specs.Steps.{pops_differ}
+use Rattle.std.specs.Prelude.{Option, Some, None}
+use Rattle.refusals.specs.Answers.{place_if_any}
 use Rattle.check_judge.specs.Judged.{OnTree, tree_refusals, ruling, plan_from}
-use Rattle.check_judge.proofs.Rulings.{ruling-refused, ruling-passed, decides, at-refuses, at-passes}
+use Rattle.check_judge.proofs.Rulings.{ruling-refused, ruling-passed, decides, place-refuses, place-passes}
 use Rattle.check_judge.proofs.Stored.{read, order-length, in-range}
 use Rattle.check_judge.proofs.OnTrees.{below, columns-few, parents-length, same-parents, as_long, pops-as-long, once}
 
 module _ {job : Job} {plan : Plan} {limit claimed : ℕ} {parents order pops fstarts : List ℕ} (on : OnTree job plan limit claimed parents order pops
     fstarts) where
   -- ---- 18
-  module _ {p : ℕ} (e : p ≡ least (scattered (parent_in parents) (length parents) order) (length parents)) where
-    found-18 : p ≡ least (scattered (parent (pattern job)) job.n (columns_in plan.steps)) job.n
+  module _ {top : Option ℕ} (e : top ≡ place_if_any (least (scattered (parent_in parents) (length parents) order) (length parents))) where
+    found-18 : top ≡ place_if_any (least (scattered (parent (pattern job)) job.n (columns_in plan.steps)) job.n)
     found-18 = rw (same-parents on, parents-length on, on.stored.columns) at e
 
-    pub refuses-18 : p ≢ 0 → {r : Answer} → r ≡ answer 18 p 0 → r ≡ ruling (first tree_refusals (plan_from job plan)) claimed
+    pub refuses-18 : {p : ℕ} → top ≡ Some p → {r : Answer} → r ≡ answer 18 p 0 → r ≡ ruling (first tree_refusals (plan_from job plan)) claimed
     unfolding tree_refusals
-    refuses-18 z q = ruling-refused claimed (decides [] subtree_scattered _ (plan_from job plan) tt (at-refuses 18 p found-18 z)) q
+    refuses-18 is q = ruling-refused claimed (decides [] subtree_scattered _ (plan_from job plan) tt (place-refuses 18 _ found-18 is)) q
 
-    pub passes-18 : p ≡ 0 → subtree_scattered.test (plan_from job plan) ≡ passed
-    passes-18 z = at-passes 18 found-18 z
+    pub passes-18 : top ≡ None → subtree_scattered.test (plan_from job plan) ≡ passed
+    passes-18 is = place-passes 18 _ found-18 is
 
   module _ (whole : subtree_scattered.test (plan_from job plan) ≡ passed) where
     -- ---- 19
-    module _ {p : ℕ} (e : p ≡ least (pops_differ parents order pops) (length order)) where
-      found-19 : p ≡ least (λ s. not (eqb (get_or (pops_in plan.steps) (s - 1) 0)
-          (pops_of job.n (pattern job) (column_at_step (columns_in plan.steps) s)))) job.n
+    module _ {step : Option ℕ} (e : step ≡ place_if_any (least (pops_differ parents order pops) (length order))) where
+      found-19 : step ≡ place_if_any (least (λ s. not (eqb (get_or (pops_in plan.steps) (s - 1) 0)
+          (pops_of job.n (pattern job) (column_at_step (columns_in plan.steps) s)))) job.n)
       found-19 =
           e
-          ∙ λ i. least (λ s. not (eqb (get_or (on.stored.popped i) (s - 1) 0)
-          (length (children (same-parents on i) (parents-length on i) (column_at_step (on.stored.columns i) s))))) (order-length on.stored i)
+          ∙ λ i. place_if_any (least (λ s. not (eqb (get_or (on.stored.popped i) (s - 1) 0)
+          (length (children (same-parents on i) (parents-length on i) (column_at_step (on.stored.columns i) s))))) (order-length on.stored i))
 
-      pub refuses-19 : p ≢ 0 → {r : Answer} → r ≡ answer 19 p 0 → r ≡ ruling (first tree_refusals (plan_from job plan)) claimed
+      pub refuses-19 : {p : ℕ} → step ≡ Some p → {r : Answer} → r ≡ answer 19 p 0 → r ≡ ruling (first tree_refusals (plan_from job plan)) claimed
       unfolding tree_refusals
-      refuses-19 z q = ruling-refused claimed (decides (subtree_scattered ∷ []) pops_wrong _ (plan_from job plan) (whole, tt) (at-refuses 19 p found-19 z)) q
+      refuses-19 is q = ruling-refused claimed (decides (subtree_scattered ∷ []) pops_wrong _ (plan_from job plan) (whole, tt) (place-refuses 19 _ found-19 is)) q
 
-      pub passes-19 : p ≡ 0 → pops_wrong.test (plan_from job plan) ≡ passed
-      passes-19 z = at-passes 19 found-19 z
+      pub passes-19 : step ≡ None → pops_wrong.test (plan_from job plan) ≡ passed
+      passes-19 is = place-passes 19 _ found-19 is
 
     -- ---- 20 and 9
 

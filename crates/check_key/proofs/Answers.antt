@@ -14,21 +14,22 @@ use Rattle.papers.specs.Lists.{least}
 use Rattle.papers.specs.Numbers.{differs_at}
 use Rattle.list_laws.proofs.Leasts.{least-none, least-here}
 use Rattle.bytes_laws.proofs.NumberReading.{Stands, stands}
-use Rattle.check_numbers.specs.Matches.{match_from}
+use Rattle.check_numbers.specs.Matches.{match_from, not_the_key}
 use Rattle.check_key.specs.Matches.{key_match}
-use Rattle.check_numbers.specs.declared.KeyMatch.TheVariants.{Begins, Differs}
-use Rattle.check_numbers.specs.declared.KeyMatch.{KeyMatch}
+use Rattle.std.specs.Prelude.{Result, Ok, Err}
+use Rattle.refusals.specs.declared.Fault.{Fault}
+use Rattle.refusals.specs.declared.Refusal.TheVariants.{NotTheKey}
 use Rattle.check_numbers.proofs.Bytes.{begins-inj, begins-differs, byte-there, byte-differs, byte-lacks, Byte, there, differs}
 use Rattle.check_numbers.proofs.Bytes.{lacks, byte, bytes_inside}
 
 -- ---- what is found is what refusal 11 names
 
 module _ (key plan : List ℕ) where
-  key-begins : least (differs_at key plan) (length key) ≡ 0 → key_match key plan ≡ Begins (length key)
+  key-begins : least (differs_at key plan) (length key) ≡ 0 → key_match key plan ≡ Ok (length key)
   unfolding key_match
   key-begins z = rw (z, key_match)
 
-  key-differs : (p : ℕ) → least (differs_at key plan) (length key) ≡ suc p → key_match key plan ≡ Differs (suc p)
+  key-differs : (p : ℕ) → least (differs_at key plan) (length key) ≡ suc p → key_match key plan ≡ Err (not_the_key (suc p))
   unfolding key_match
   key-differs p e = rw (e, key_match)
 
@@ -54,7 +55,7 @@ module _ (key plan : List ℕ) where
   unfolding match_from
   rest-matches [] i d l z =
       let e : i ≡ length key = omega (arith, ap length d, length-drop i key) in
-      ap Begins e ∙ sym (key-begins (rw (← e) z))
+      ap (λ k. Ok k) e ∙ sym (key-begins (rw (← e) z))
   rest-matches (b ∷ rest) i d l z = go (byte b plan i) (rest-matches rest (i + 1))
     where
       here : Stands key i b rest
@@ -63,8 +64,8 @@ module _ (key plan : List ℕ) where
       at_key : b ≡ get_or key i 0
       at_key = sym here.byte
 
-      found : differs_at key plan (suc i) ≡ true → match_from (b ∷ rest) plan i ≡ Differs (i + 1) → match_from (b ∷ rest) plan i ≡ key_match key plan
-      found e f = f ∙ ap Differs (add-one i) ∙ sym (key-differs i (least-here (differs_at key plan) i (length key) z e here.there))
+      found : differs_at key plan (suc i) ≡ true → match_from (b ∷ rest) plan i ≡ Err (not_the_key (i + 1)) → match_from (b ∷ rest) plan i ≡ key_match key plan
+      found e f = f ∙ ap (λ k. Err (not_the_key k)) (add-one i) ∙ sym (key-differs i (least-here (differs_at key plan) i (length key) z e here.there))
 
       go : Byte b plan i → (drop (i + 1) key ≡ rest → i + 1 ≤ length key → least (differs_at key plan) (i + 1) ≡ 0
           → match_from rest plan (i + 1) ≡ key_match key plan)
@@ -80,9 +81,12 @@ module _ (key plan : List ℕ) where
 
 -- ---- from the answer
 
-module _ (key plan : List ℕ) {r : KeyMatch} (e : r ≡ key_match key plan) where
+err-inj : {a b : Fault} → ◌≡◌ {A = Result ℕ Fault} (Err a) (Err b) → a ≡ b
+err-inj e = cc
+
+module _ (key plan : List ℕ) {r : Result ℕ Fault} (e : r ≡ key_match key plan) where
   -- the plan begins with the key
-  pub begins-key : {next : ℕ} → r ≡ Begins next → (least (differs_at key plan) (length key) ≡ 0) × (next ≡ length key) × (next ≤ length plan)
+  pub begins-key : {next : ℕ} → r ≡ Ok next → (least (differs_at key plan) (length key) ≡ 0) × (next ≡ length key) × (next ≤ length plan)
   begins-key {next} f = go (least (differs_at key plan) (length key)) refl
     where
       go : (p : ℕ) → least (differs_at key plan) (length key) ≡ p
@@ -90,10 +94,15 @@ module _ (key plan : List ℕ) {r : KeyMatch} (e : r ≡ key_match key plan) whe
       go zero z = (z, begins-inj (sym f ∙ e ∙ key-begins key plan z), bytes_inside key plan 0 (omega arith) (key-matches key plan ∙ sym e ∙ f))
       go (suc p) z = absurd (begins-differs f (e ∙ key-differs key plan p z))
 
-  -- the place that refusal 11 names
-  pub differs-key : {place : ℕ} → r ≡ Differs place → (least (differs_at key plan) (length key) ≡ place) × (1 ≤ place)
-  differs-key {place} f = go (least (differs_at key plan) (length key)) refl
+  -- refusal 11, and the place that it names
+  pub differs-key : {fault : Fault} → r ≡ Err fault → (fault.refusal ≡ NotTheKey) × (least (differs_at key plan) (length key) ≡ fault.place)
+      × (1 ≤ fault.place)
+  differs-key {fault} f = go (least (differs_at key plan) (length key)) refl
     where
-      go : (p : ℕ) → least (differs_at key plan) (length key) ≡ p → (least (differs_at key plan) (length key) ≡ place) × (1 ≤ place)
+      go : (p : ℕ) → least (differs_at key plan) (length key) ≡ p
+          → (fault.refusal ≡ NotTheKey) × (least (differs_at key plan) (length key) ≡ fault.place) × (1 ≤ fault.place)
       go zero z = absurd (begins-differs (e ∙ key-begins key plan z) f)
-      go (suc p) z = let q : suc p ≡ place = let g = sym (key-differs key plan p z) ∙ sym e ∙ f in cc in (z ∙ q, omega arith)
+      go (suc p) z =
+          let is : not_the_key (suc p) ≡ fault = err-inj (sym (key-differs key plan p z) ∙ sym e ∙ f) in
+          let at : suc p ≡ fault.place = ap (λ k. k.place) is in
+          (sym (ap (λ k. k.refusal) is), z ∙ at, omega arith)

@@ -2,32 +2,21 @@
 #![tactic(auto)]
 
 ghost use Rattle.std.specs.Prelude.{◌≡◌};
-ghost use Rattle.papers.specs.Job.{job_of};
 ghost use Rattle.papers.specs.Key.{key_of};
+ghost use Rattle.job.specs.Given.{job_given};
 ghost use Rattle.job_laws.specs.Passed.{Passed};
 ghost use Rattle.check_key.specs.Matches.{key_match};
 
-use check_numbers::KeyMatch;
-use papers::JobHead;
+use job::Job;
+use refusals::Fault;
 
-// Compares the key of a job that passes its tests with the beginning of the plan.
-pub fn match_key(head: JobHead, starts: &[u64], rows: &[u32], plan: &[u8]) -> KeyMatch
-    requires { Passed (job_of head starts.now rows.now) }
-    ensures { result ≡ key_match (key_of (job_of head starts.now rows.now)) plan.now }
+// Compares the key of a job that passes its tests with the beginning of the plan. Answers the place behind the key, or refusal 11.
+pub fn match_key(job: Job, plan: &[u8]) -> Result<usize, Fault>
+    requires { Passed (job_given job) }
+    ensures { result ≡ key_match (key_of (job_given job.entry)) plan.now }
 {
-    match check_numbers::match_two(plan, 0, papers::EDITION, head.n) {
-        KeyMatch::Differs { place } => {
-            return KeyMatch::Differs { place };
-        }
-        KeyMatch::Begins { next: middle } => match check_numbers::match_two(
-            plan, middle, head.mark, head.limit,
-        ) {
-            KeyMatch::Differs { place } => {
-                return KeyMatch::Differs { place };
-            }
-            KeyMatch::Begins { next } => {
-                return check_numbers::match_lists(head.n, starts, rows, plan, next);
-            }
-        },
-    }
+    let head = job.head;
+    let middle = check_numbers::match_two(plan, 0, papers::EDITION, head.n)?;
+    let next = check_numbers::match_two(plan, middle, head.mark, head.limit)?;
+    check_numbers::match_lists(head.n, job.starts, job.rows, plan, next)
 }

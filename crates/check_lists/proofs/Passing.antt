@@ -22,6 +22,8 @@ use Rattle.column_laws.specs.Tested.{Tested}
 use Rattle.column_laws.proofs.Columns.{tested-below}
 use Rattle.list_laws.proofs.UpTo.{map-up_to}
 use Rattle.column_list.specs.Stored.{ListsStored, RowsBetween}
+use Rattle.std.specs.Prelude.{Option, Some, None}
+use Rattle.refusals.specs.Answers.{place_if_any}
 use Rattle.structure.specs.Hanging.{hanging, Hangable}
 use Rattle.structure.proofs.Storing.{parent_is, stored-none, stored_on}
 use Rattle.check_marks.specs.Marked.{ListComparable, Compared}
@@ -31,6 +33,9 @@ use Rattle.check_lists.proofs.Plans.{starts-long, first-start, plan-part, plan-l
 -- tests whether column j of two slices differs from R(j)
 abbrev wrong_in : Pattern → List ℕ → List ℕ → ℕ → Bool
 wrong_in A fs fr j = not (same (column_of fs fr j) (R A j))
+
+some-none : {k : ℕ} → ◌≡◌ {A = Option ℕ} (Some k) None → ⊥
+some-none q = let z : ◌≡◌ {A = ℕ} 0 1 = cc in omega arith
 
 -- the lists up to m are right
 pub record Passing (n : ℕ) (starts rows fs fr p₀ w₀ p w : List ℕ) (m : ℕ) : Type 0 where
@@ -66,8 +71,8 @@ module _ {n m : ℕ} {starts rows fs fr p₀ w₀ p w : List ℕ} (s : Passing n
   long-p = ap length s.parents-are ∙ length-sets p₀ 0 (map (parent A) (up_to m))
 
   -- the first wrong column in the slices is that of the lists
-  least-of : (r : ℕ) → r ≡ least (wrong_in A fs fr) n → FirstWrong n A fs fr r
-  least-of r e lists l = e ∙ least-same (wrong_in A fs fr) (wrong A lists) n agree
+  least-of : (r : Option ℕ) → r ≡ place_if_any (least (wrong_in A fs fr) n) → FirstWrong n A fs fr r
+  least-of r e lists l = e ∙ ap place_if_any (least-same (wrong_in A fs fr) (wrong A lists) n agree)
     where
       agree : (k : ℕ) → 1 ≤ k → k ≤ n → wrong_in A fs fr k ≡ wrong A lists k
       agree k a b =
@@ -75,10 +80,10 @@ module _ {n m : ℕ} {starts rows fs fr p₀ w₀ p w : List ℕ} (s : Passing n
           ap (λ x. not (same x (R A k))) (rw z at (plan-list l (k - 1) (omega arith)))
 
   -- all lists are right
-  pub pass_all : n ≤ m → ListsCompared n A fs fr p₀ p 0
+  pub pass_all : n ≤ m → ListsCompared n A fs fr p₀ p None
   pass_all h =
       let z : m ≡ n = omega (arith, s.most) in
-      record { answers = least-of 0 (sym (rw z at s.none)); stores = λ q. rw z at s.parents-are }
+      record { answers = least-of None (sym (ap place_if_any (rw z at s.none))); stores = λ q. rw z at s.parents-are }
 
   -- ---- column m + 1
 
@@ -97,13 +102,13 @@ module _ {n m : ℕ} {starts rows fs fr p₀ w₀ p w : List ℕ} (s : Passing n
           }
 
       -- the list is wrong
-      pub pass-wrong : {r : Bool} {w₁ : List ℕ} → Compared n m list A w w₁ r → r ≡ false → ListsCompared n A fs fr p₀ p (m + 1)
+      pub pass-wrong : {r : Bool} {w₁ : List ℕ} → Compared n m list A w w₁ r → r ≡ false → ListsCompared n A fs fr p₀ p (Some (m + 1))
       pass-wrong c z =
           let e = sym c.answers ∙ z in
           let yes : wrong_in A fs fr (suc m) ≡ true = ap not (rw (is, add-one) at e) in
           record {
-            answers = least-of (m + 1) (rw add-one (sym (least-here (wrong_in A fs fr) m n s.none yes l)));
-            stores = λ q. absurd (omega arith);
+            answers = least-of (Some (m + 1)) (rw add-one (sym (ap place_if_any (least-here (wrong_in A fs fr) m n s.none yes l))));
+            stores = λ q. absurd (some-none q);
           }
 
       -- the list is right

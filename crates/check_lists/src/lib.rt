@@ -36,8 +36,8 @@ fn is_right(
     check_marks::is_all_marked(n, m, list, starts, rows, fstarts, frows, work)
 }
 
-// Finds the first column whose list is not R(j), 0 if there is none; then stores the parents. In the loop the lists of the columns up to m
-// are right, and each of these columns hangs under its parent, the least row of its list.
+// Finds the first column whose list is not R(j); if there is none, stores the parents. In the loop the lists of the columns up to m are
+// right, and each of these columns hangs under its parent, the least row of its list.
 pub fn first_wrong_list(
     n: usize,
     starts: &[u64],
@@ -46,22 +46,20 @@ pub fn first_wrong_list(
     frows: &[u32],
     parents: &mut [u32],
     work: &mut [u64],
-) -> u64
+) -> Option<u64>
     requires { ListsComparable n starts.now rows.now fstarts.now frows.now parents.old work.old }
     ensures { ListsCompared n (column_of starts.now rows.now) fstarts.now frows.now
         parents.old parents.new result }
 {
-    slices::clear64(work);
-    let mut m = 0;
-    while m < n {
+    work.fill(0);
+    for m in 0..n {
         let list = column_list::pattern_rows(m, fstarts, frows);
         if !is_right(n, m, list, starts, rows, fstarts, frows, work) {
-            return m as u64 + 1;
+            return Some(m as u64 + 1);
         }
         let p = structure::least(list);
         parents[m] = p;
         structure::hang(n, p as usize, m + 1, work);
-        m += 1;
     }
-    0
+    None
 }

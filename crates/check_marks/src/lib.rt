@@ -7,30 +7,25 @@ ghost use Rattle.papers.specs.Job.{column_of};
 ghost use Rattle.column_list.specs.Stored.{Next};
 ghost use Rattle.check_marks.specs.Marked.{MarkableOnce, MarkedNew, Counted, ListComparable, Compared};
 
-// Marks the rows of a list for column j, and answers how many of them were not marked before. In the loop the rows before k are marked,
+// Marks the rows of a list for column j, and answers how many of them were not marked before. In the loop the rows before are marked,
 // `count` of them newly. Each mark is stored, new or not, so that no turn waits for what was read.
 fn mark_new(n: usize, j: usize, list: &[u32], work: &mut [u64]) -> usize
     requires { MarkableOnce n list.now work.old }
     ensures { MarkedNew n j list.now work.old work.new result }
 {
     let mut count = 0;
-    let mut k = 0;
-    while k < list.len() {
-        let p = n + n + list[k] as usize;
-        let old = work[p];
-        work[p] = j as u64;
-        if old == j as u64 {
-            k += 1;
-        } else {
+    for row in list {
+        let p = n + n + *row as usize;
+        if work[p] != j as u64 {
             count += 1;
-            k += 1;
         }
+        work[p] = j as u64;
     }
     count
 }
 
 // Marks the rows of R(m + 1), if the lists of the columns before are right: its pattern rows, and what its children hand on. Answers how
-// many there are. In the loop the children from c on are left.
+// many there are. In the loop the children from c on are left. A while: it walks their chain.
 pub fn mark_column(
     n: usize,
     m: usize,

@@ -14,15 +14,20 @@ use borrow.Author.Tests.{lt-ltb, le-ltb, eq-eqb, ne_eqb, eqb-true, eqb-false}
 use Rattle.papers.specs.Numbers.{bytes_of}
 use Rattle.list_laws.proofs.Tests.{Test, passes, fails, test, below_or}
 use Rattle.groups.proofs.Written.{bytes_small}
-use Rattle.check_numbers.specs.Matches.{match_from}
-use Rattle.check_numbers.specs.declared.KeyMatch.TheVariants.{Begins, Differs}
-use Rattle.check_numbers.specs.declared.KeyMatch.{KeyMatch}
+use Rattle.check_numbers.specs.Matches.{match_from, not_the_key}
+use Rattle.std.specs.Prelude.{Result, Ok, Err, IsErrAnd}
+use Rattle.refusals.specs.declared.Fault.{Fault}
 
-pub begins-inj : {a b : ℕ} → Begins a ≡ Begins b → a ≡ b
+pub begins-inj : {a b : ℕ} → ◌≡◌ {A = Result ℕ Fault} (Ok a) (Ok b) → a ≡ b
 begins-inj e = cc
 
-pub begins-differs : {r : KeyMatch} {next place : ℕ} → r ≡ Begins next → r ≡ Differs place → ⊥
+pub begins-differs : {r : Result ℕ Fault} {next : ℕ} {fault : Fault} → r ≡ Ok next → r ≡ Err fault → ⊥
 begins-differs e f = let z : ◌≡◌ {A = ℕ} 0 1 = cc in omega arith
+
+-- what `?` hands on is the fault that came in
+pub handed_on : {T E : Type 0} {fault : E} (r : Result T E) → IsErrAnd r (λ y. y ≡ fault) → r ≡ Err fault
+handed_on (Ok x) h = absurd h
+handed_on (Err y) h = ap (λ z. Err z) h
 
 -- ---- the first byte
 
@@ -31,11 +36,11 @@ module _ (b : ℕ) (bytes plan : List ℕ) (at : ℕ) where
   unfolding match_from
   byte-there h e = rw (lt-ltb at (length plan) h, eq-eqb (get_or plan at 0) b e, match_from)
 
-  pub byte-differs : at < length plan → get_or plan at 0 ≢ b → match_from (b ∷ bytes) plan at ≡ Differs (at + 1)
+  pub byte-differs : at < length plan → get_or plan at 0 ≢ b → match_from (b ∷ bytes) plan at ≡ Err (not_the_key (at + 1))
   unfolding match_from
   byte-differs h e = rw (lt-ltb at (length plan) h, ne_eqb (get_or plan at 0) b e, match_from)
 
-  pub byte-lacks : length plan ≤ at → match_from (b ∷ bytes) plan at ≡ Differs (at + 1)
+  pub byte-lacks : length plan ≤ at → match_from (b ∷ bytes) plan at ≡ Err (not_the_key (at + 1))
   unfolding match_from
   byte-lacks h = rw (le-ltb at (length plan) h, match_from)
 
@@ -55,35 +60,35 @@ byte b plan at = go (below_or at (length plan)) (test (eqb (get_or plan at 0) b)
 
 -- ---- bytes behind others
 
-pub bytes-begin : (a b plan : List ℕ) (at : ℕ) {k : ℕ} → match_from a plan at ≡ Begins k → match_from (a ++ b) plan at ≡ match_from b plan k
+pub bytes-begin : (a b plan : List ℕ) (at : ℕ) {k : ℕ} → match_from a plan at ≡ Ok k → match_from (a ++ b) plan at ≡ match_from b plan k
 unfolding match_from
 bytes-begin [] b plan at e = ap (match_from b plan) (begins-inj e)
 bytes-begin (x ∷ a) b plan at {k} e = go (byte x plan at) (bytes-begin a b plan (at + 1))
   where
-    go : Byte x plan at → (match_from a plan (at + 1) ≡ Begins k → match_from (a ++ b) plan (at + 1) ≡ match_from b plan k)
+    go : Byte x plan at → (match_from a plan (at + 1) ≡ Ok k → match_from (a ++ b) plan (at + 1) ≡ match_from b plan k)
         → match_from (x ∷ (a ++ b)) plan at ≡ match_from b plan k
     go (there h f) ih = byte-there x (a ++ b) plan at h f ∙ ih (sym (byte-there x a plan at h f) ∙ e)
     go (differs h f) ih = absurd (begins-differs e (byte-differs x a plan at h f))
     go (lacks h) ih = absurd (begins-differs e (byte-lacks x a plan at h))
 
-pub bytes-differ : (a b plan : List ℕ) (at : ℕ) {place : ℕ} → match_from a plan at ≡ Differs place → match_from (a ++ b) plan at ≡ Differs place
+pub bytes-differ : (a b plan : List ℕ) (at : ℕ) {fault : Fault} → match_from a plan at ≡ Err fault → match_from (a ++ b) plan at ≡ Err fault
 unfolding match_from
 bytes-differ [] b plan at e = absurd (begins-differs refl e)
-bytes-differ (x ∷ a) b plan at {place} e = go (byte x plan at) (bytes-differ a b plan (at + 1))
+bytes-differ (x ∷ a) b plan at {fault} e = go (byte x plan at) (bytes-differ a b plan (at + 1))
   where
-    go : Byte x plan at → (match_from a plan (at + 1) ≡ Differs place → match_from (a ++ b) plan (at + 1) ≡ Differs place)
-        → match_from (x ∷ (a ++ b)) plan at ≡ Differs place
+    go : Byte x plan at → (match_from a plan (at + 1) ≡ Err fault → match_from (a ++ b) plan (at + 1) ≡ Err fault)
+        → match_from (x ∷ (a ++ b)) plan at ≡ Err fault
     go (there h f) ih = byte-there x (a ++ b) plan at h f ∙ ih (sym (byte-there x a plan at h f) ∙ e)
     go (differs h f) ih = byte-differs x (a ++ b) plan at h f ∙ sym (byte-differs x a plan at h f) ∙ e
     go (lacks h) ih = byte-lacks x (a ++ b) plan at h ∙ sym (byte-lacks x a plan at h) ∙ e
 
 -- bytes that agree are within the plan
-pub bytes_inside : (a plan : List ℕ) (at : ℕ) {k : ℕ} → at ≤ length plan → match_from a plan at ≡ Begins k → k ≤ length plan
+pub bytes_inside : (a plan : List ℕ) (at : ℕ) {k : ℕ} → at ≤ length plan → match_from a plan at ≡ Ok k → k ≤ length plan
 unfolding match_from
 bytes_inside [] plan at h e = omega (arith, begins-inj e)
 bytes_inside (x ∷ a) plan at {k} h e = go (byte x plan at) (bytes_inside a plan (at + 1))
   where
-    go : Byte x plan at → (at + 1 ≤ length plan → match_from a plan (at + 1) ≡ Begins k → k ≤ length plan) → k ≤ length plan
+    go : Byte x plan at → (at + 1 ≤ length plan → match_from a plan (at + 1) ≡ Ok k → k ≤ length plan) → k ≤ length plan
     go (there u f) ih = ih (omega arith) (sym (byte-there x a plan at u f) ∙ e)
     go (differs u f) ih = absurd (begins-differs e (byte-differs x a plan at u f))
     go (lacks u) ih = absurd (begins-differs e (byte-lacks x a plan at u))
@@ -91,7 +96,7 @@ bytes_inside (x ∷ a) plan at {k} h e = go (byte x plan at) (bytes_inside a pla
 -- ---- the bytes of one number
 
 -- a number of one group is one byte
-pub one_byte : (x : ℕ) (plan : List ℕ) (at : ℕ) → x < 128 → at < length plan → get_or plan at 0 ≡ x → Begins (at + 1) ≡ match_from (bytes_of x) plan at
+pub one_byte : (x : ℕ) (plan : List ℕ) (at : ℕ) → x < 128 → at < length plan → get_or plan at 0 ≡ x → Ok (at + 1) ≡ match_from (bytes_of x) plan at
 unfolding match_from
 one_byte x plan at l h e = rw (bytes_small x l) (sym (byte-there x [] plan at h e))
 
@@ -107,13 +112,13 @@ bytes-start bytes plan at h =
 
 module _ {bytes plan : List ℕ} {at i : ℕ} (l : Bytes bytes plan at i) where
   module _ (h : i < length bytes) where
-    pub bytes-lack : length plan ≤ at + i → Differs (at + i + 1) ≡ match_from bytes plan at
+    pub bytes-lack : length plan ≤ at + i → Err (not_the_key (at + i + 1)) ≡ match_from bytes plan at
     bytes-lack g =
         sym (byte-lacks (get_or bytes i 0) (drop (suc i) bytes) plan (at + i) g) ∙ ap (λ (x : List ℕ). match_from x plan (at + i))
         (sym (drop-cons bytes i 0 h)) ∙ l.same
 
     module _ (g : at + i < length plan) where
-      pub bytes-other : get_or plan (at + i) 0 ≢ get_or bytes i 0 → Differs (at + i + 1) ≡ match_from bytes plan at
+      pub bytes-other : get_or plan (at + i) 0 ≢ get_or bytes i 0 → Err (not_the_key (at + i + 1)) ≡ match_from bytes plan at
       bytes-other e =
           sym (byte-differs (get_or bytes i 0) (drop (suc i) bytes) plan (at + i) g e) ∙ ap (λ (x : List ℕ). match_from x plan (at + i))
           (sym (drop-cons bytes i 0 h)) ∙ l.same
@@ -128,6 +133,6 @@ module _ {bytes plan : List ℕ} {at i : ℕ} (l : Bytes bytes plan at i) where
             inside = omega arith;
           }
 
-  pub bytes-stop : length bytes ≤ i → Begins (at + i) ≡ match_from bytes plan at
+  pub bytes-stop : length bytes ≤ i → Ok (at + i) ≡ match_from bytes plan at
   unfolding match_from
   bytes-stop h = rw (drop_of_length-le bytes h) at l.same

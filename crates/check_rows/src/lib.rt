@@ -7,50 +7,29 @@ ghost use Rattle.papers.specs.Lists.{keep, same};
 ghost use Rattle.child_lists.specs.Marks.{is_marked, Markable};
 ghost use Rattle.check_rows.specs.Added.{Begins, Addable, Adds};
 
-// Tests whether two lists are equal. In the loop those before k are equal, or a difference was seen; the loop goes on anyway, so that the
-// machine compares many rows at once.
+// Tests whether two lists are equal. The library's test of slices compares many rows at once.
 pub fn same_rows(a: &[u32], b: &[u32]) -> bool
     ensures { result ≡ same a.now b.now }
 {
-    if a.len() != b.len() {
-        return false;
-    }
-    let mut alike = true;
-    let mut k = 0;
-    while k < a.len() {
-        if a[k] == b[k] {
-            k += 1;
-        } else {
-            alike = false;
-            k += 1;
-        }
-    }
-    alike
+    a == b
 }
 
 // Tests whether a list begins with the rows of another.
 pub fn begins_with(list: &[u32], more: &[u32]) -> bool
     ensures { result ≡ true → Begins list.now more.now }
 {
-    if list.len() < more.len() {
-        return false;
-    }
-    same_rows(&list[..more.len()], more)
+    list.starts_with(more)
 }
 
-// Counts the rows of a list that are marked for column j. In the loop `count` of those before k are.
+// Counts the rows of a list that are marked for column j. In the loop `count` of the rows before are.
 fn count_marked(n: usize, j: usize, list: &[u32], work: &[u64]) -> usize
     requires { Markable n list.now work.now }
     ensures { result ≡ length (keep (is_marked n j work.now) list.now) }
 {
     let mut count = 0;
-    let mut k = 0;
-    while k < list.len() {
-        if work[n + n + list[k] as usize] == j as u64 {
+    for row in list {
+        if work[n + n + *row as usize] == j as u64 {
             count += 1;
-            k += 1;
-        } else {
-            k += 1;
         }
     }
     count

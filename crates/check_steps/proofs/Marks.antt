@@ -1,6 +1,7 @@
 -- Proves that marks find a repeated_at column: the columns of the first steps are marked, so the next step's column is marked exactly if one of these
 -- steps named it.
 -- Assumes nothing.
+use Rattle.std.specs.Prelude.{Some, None}
 use Prim.Native.Nat.{ℕ, suc, ◌+◌, ◌-◌, ◌<◌, ◌≤◌}
 use mathlib.Core.Path.{◌≡◌, refl, sym, ◌∙◌}
 use mathlib.Core.Logic.{◌⊎◌, inl, inr, ◌≢◌}
@@ -17,7 +18,9 @@ use Rattle.papers.specs.Check.{repeated_at}
 use Rattle.list_laws.proofs.Members.{member-into, member-out}
 use Rattle.list_laws.proofs.Leasts.{least-none, least-here}
 use Rattle.list_laws.proofs.Tests.{same_or}
+use Rattle.refusals.specs.Answers.{place_if_any}
 use Rattle.check_steps.specs.Steps.{Within}
+use Rattle.check_steps.proofs.Places.{no-place, place-at}
 
 pub record Marks (order work₀ work : List ℕ) (i : ℕ) : Type 0 where
   pub marked : (j : ℕ) → j ≤ length order → 0 < get_or work j 0 → j ∈ take i order
@@ -59,18 +62,17 @@ module _ (order : List ℕ) where
           (omega (arith, length-take-le (length order + 1) work (omega arith))))
 
   module _ (within : Within (length order) order) (work₀ work : List ℕ) (i : ℕ) (inv : Marks order work₀ work i) where
-    pub marks-stop : length order ≤ i → 0 ≡ least (repeated_at order) (length order)
-    marks-stop h = let s = inv.seen in let e : i ≡ length order = omega arith in rw e at (sym inv.none)
+    pub marks-stop : length order ≤ i → None ≡ place_if_any (least (repeated_at order) (length order))
+    marks-stop h = let s = inv.seen in let e : i ≡ length order = omega arith in no-place (rw e at inv.none)
 
     module _ (more : i < length order) where
-      found : 0 < get_or work (get_or order i 0) 0 → i + 1 ≡ least (repeated_at order) (length order)
-      found p =
-          let e : i + 1 ≡ suc i = omega arith in
-          e ∙ sym (least-here (repeated_at order) i (length order) inv.none (repeats i (inv.marked (get_or order i 0) (within i more).1 p))
+      pub marks-found : 0 < get_or work (get_or order i 0) 0 → Some (i + 1) ≡ place_if_any (least (repeated_at order) (length order))
+      marks-found p =
+          place-at (least-here (repeated_at order) i (length order) inv.none (repeats i (inv.marked (get_or order i 0) (within i more).1 p))
           (omega arith))
 
-      turn : get_or work (get_or order i 0) 0 ≤ 0 → Marks order work₀ (set work (get_or order i 0) 1) (i + 1)
-      turn p = rw add-one (record {
+      pub marks-turn : get_or work (get_or order i 0) 0 ≤ 0 → Marks order work₀ (set work (get_or order i 0) 1) (i + 1)
+      marks-turn p = rw add-one (record {
         marked = λ j l q. rw (take-suc order i 0 more) (one j l q (same_or j (get_or order i 0)));
         unmarked = λ j l q m. other j l q (Memᴰ.append_cases (take i order) (rw (take-suc order i 0 more) at m));
         none = least-none (repeated_at order) i inv.none (new i (inv.unmarked (get_or order i 0) (within i more).1 (omega arith)));
@@ -98,10 +100,3 @@ module _ (order : List ℕ) where
                   last : (j ≡ get_or order i 0) ⊎ (j ∈ []) → ⊥
                   last (inl d) = e d
                   last (inr d) = Memᴰ.not-nil d
-
-      module _ (j : ℕ) (column : j ≡ get_or order i 0) where
-        pub marks-found : 0 < get_or work j 0 → i + 1 ≡ least (repeated_at order) (length order)
-        marks-found p = found (rw column at p)
-
-        pub marks-turn : get_or work j 0 ≤ 0 → Marks order work₀ (set work j 1) (i + 1)
-        marks-turn p = rw column (turn (rw column at p))

@@ -1,5 +1,6 @@
 -- Proves how the pops are compared: a step is at fault exactly if its pops differ from the counted children of its column.
 -- Assumes nothing.
+use Rattle.std.specs.Prelude.{Some, None}
 use Prim.Native.Nat.{ℕ, suc, ◌+◌, ◌-◌, ◌<◌, ◌≤◌}
 use mathlib.Core.Path.{◌≡◌, refl, sym, ◌∙◌}
 use mathlib.Core.Logic.{◌≢◌}
@@ -14,6 +15,8 @@ use Rattle.papers.specs.Order.{column_at_step}
 use Rattle.list_laws.proofs.Leasts.{least-none, least-here}
 use Rattle.tree.specs.Parents.{kids_in}
 use Rattle.tree.specs.Laid.{ChildCounts}
+use Rattle.refusals.specs.Answers.{place_if_any}
+use Rattle.check_steps.proofs.Places.{no-place, place-at}
 use Rattle.check_steps.specs.Steps.{Within, pops_differ}
 
 pub record Popped (parents order pops work : List ℕ) (i : ℕ) : Type 0 where
@@ -36,22 +39,22 @@ module _ (parents order pops : List ℕ) where
 
   module _ (within : Within (length order) order) (same : length order ≡ length parents) (work : List ℕ) (i : ℕ)
       (inv : Popped parents order pops work i) where
-    pub popped-stop : length order ≤ i → 0 ≡ least (pops_differ parents order pops) (length order)
-    popped-stop h = let s = inv.seen in let e : i ≡ length order = omega arith in rw e at (sym inv.none)
+    pub popped-stop : length order ≤ i → None ≡ place_if_any (least (pops_differ parents order pops) (length order))
+    popped-stop h = let s = inv.seen in let e : i ≡ length order = omega arith in no-place (rw e at inv.none)
 
-    module _ (more : i < length order) (j : ℕ) (column : j ≡ get_or order i 0) where
-      count : get_or work j 0 ≡ length (kids_in parents (get_or order i 0))
-      count = rw column (inv.counted (get_or order i 0) (omega (arith, (within i more).1)))
+    module _ (more : i < length order) where
+      count : get_or work (get_or order i 0) 0 ≡ length (kids_in parents (get_or order i 0))
+      count = inv.counted (get_or order i 0) (omega (arith, (within i more).1))
 
-      pub popped-found : get_or pops i 0 ≢ get_or work j 0 → i + 1 ≡ least (pops_differ parents order pops) (length order)
+      pub popped-found : get_or pops i 0 ≢ get_or work (get_or order i 0) 0
+          → Some (i + 1) ≡ place_if_any (least (pops_differ parents order pops) (length order))
       unfolding column_at_step
       popped-found p =
-          let e : i + 1 ≡ suc i = omega arith in
           let d : suc i - 1 ≡ i = omega arith in
-          e ∙ sym (least-here (pops_differ parents order pops) i (length order) inv.none
+          place-at (least-here (pops_differ parents order pops) i (length order) inv.none
           (rw (d, ne_eqb (get_or pops i 0) (length (kids_in parents (get_or order i 0))) (λ q. p (q ∙ sym count)))) (omega arith))
 
-      pub popped-turn : get_or pops i 0 ≡ get_or work j 0 → Popped parents order pops work (i + 1)
+      pub popped-turn : get_or pops i 0 ≡ get_or work (get_or order i 0) 0 → Popped parents order pops work (i + 1)
       unfolding column_at_step
       popped-turn p = rw add-one (record {
         counted = inv.counted;

@@ -9,11 +9,6 @@ use Rattle.tree.specs.Parents.{TreeIn, kids_in}
 abbrev pub Within : ℕ → List ℕ → Type 0
 Within n order = (k : ℕ) → k < length order → (1 ≤ get_or order k 0) × (get_or order k 0 ≤ n)
 
--- place i of a list of known columns
-pub record StepKnown (order : List ℕ) (i : ℕ) : Type 0 where
-  pub columns : Within (length order) order
-  pub known : i < length order
-
 -- the steps name known columns, and work has a place for the mark of each
 pub record StepsMarkable (order work : List ℕ) : Type 0 where
   pub columns : Within (length order) order

@@ -1,47 +1,50 @@
 -- Proves that the least of several steps, where 0 means none, is one of them, and that none of the others is less.
 -- Assumes nothing.
 use Prim.Native.Nat.{ℕ, zero, suc, ◌+◌, ◌<◌, ◌≤◌, min}
-use mathlib.Core.Path.{◌≡◌, refl, sym}
-use mathlib.Core.Logic.{◌⊎◌, inl, inr, ◌≢◌}
+use mathlib.Core.Path.{◌≡◌, refl, ap, ◌∙◌}
+use mathlib.Core.Logic.{◌⊎◌, inl, inr}
 use native.Mathlib.Omega.{arith}
 use native.Mathlib.Nat.{le-suc_iff}
 use native.Mathlib.Numerals.{add-one}
 use Rattle.list_laws.proofs.Tests.{below_or}
-use Rattle.check_subtrees.specs.Strays.{earlier, earliest}
+use Rattle.std.specs.Prelude.{Option, Some, None}
+use Rattle.refusals.specs.Answers.{place_if_any}
+use Rattle.check_subtrees.specs.Strays.{earlier, lesser_step, earliest}
 
--- ---- the cases as the code tells them apart
-
-pub earlier-left : (a b : ℕ) → a ≡ 0 → b ≡ earlier a b
+-- the lesser of two steps as Options is the earlier of two numbers, where 0 is no step
+lesser-earlier : (a b : ℕ) → lesser_step (place_if_any a) (place_if_any b) ≡ place_if_any (earlier a b)
 unfolding earlier
-earlier-left a b e = rw e
-
-pub earlier-right : (a b : ℕ) → b ≡ 0 → a ≡ earlier a b
-unfolding earlier
-earlier-right zero b e = sym e
-earlier-right (suc a) b e = rw e
-
-pub earlier-least : (a b r : ℕ) → a ≢ 0 → b ≢ 0 → r ≡ min a b → r ≡ earlier a b
-unfolding earlier
-earlier-least zero b r x y e = absurd (x refl)
-earlier-least (suc a) zero r x y e = absurd (y refl)
-earlier-least (suc a) (suc b) r x y e = e
+lesser-earlier zero b = refl
+lesser-earlier (suc a) zero = refl
+lesser-earlier (suc a) (suc b) = go (below_or (suc a) (suc b))
+  where
+    go : (suc a < suc b) ⊎ (suc b ≤ suc a) → Some (min (suc a) (suc b)) ≡ place_if_any (min (suc a) (suc b))
+    go (inl k) = let m : min (suc a) (suc b) ≡ suc a = omega arith in rw m refl
+    go (inr k) = let m : min (suc a) (suc b) ≡ suc b = omega arith in rw m refl
 
 -- first is the least of f 1 to f i, of n in all
-pub record Earlier (f : ℕ → ℕ) (n first i : ℕ) : Type 0 where
-  pub so_far : first ≡ earliest f i
+pub record Earlier (f : ℕ → ℕ) (n : ℕ) (first : Option ℕ) (i : ℕ) : Type 0 where
+  pub so_far : first ≡ place_if_any (earliest f i)
   pub seen : i ≤ n
 
-pub earliest-none : (f : ℕ → ℕ) (n : ℕ) → Earlier f n 0 0
+pub earliest-none : (f : ℕ → ℕ) (n : ℕ) → Earlier f n None 0
 unfolding earliest
 earliest-none f n = record { so_far = refl; seen = omega arith }
 
-pub earliest-next : (f : ℕ → ℕ) {n first i x r : ℕ} → Earlier f n first i → i < n → x ≡ f (i + 1) → r ≡ earlier first x → Earlier f n r (i + 1)
+pub earliest-next : (f : ℕ → ℕ) {n i : ℕ} {first x r : Option ℕ} → Earlier f n first i → i < n → x ≡ place_if_any (f (i + 1))
+    → r ≡ lesser_step first x → Earlier f n r (i + 1)
 unfolding earliest
-earliest-next f {i = i} inv h q e =
-    record { so_far = rw (add-one, ← inv.so_far, ← (add-one i), ← q) e; seen = omega arith }
+earliest-next f {i = i} {x = x} inv h q e =
+    let before = place_if_any (earliest f i) in
+    let next : x ≡ place_if_any (f (suc i)) = rw add-one at q in
+    record {
+      so_far = rw add-one
+          (e ∙ (ap (λ y. lesser_step y x) inv.so_far ∙ (ap (λ y. lesser_step before y) next ∙ lesser-earlier (earliest f i) (f (suc i)))));
+      seen = omega arith;
+    }
 
-pub earliest-all : (f : ℕ → ℕ) {n first i : ℕ} → Earlier f n first i → n ≤ i → first ≡ earliest f n
-earliest-all f {n} {i = i} inv u = let q : i ≡ n = omega (arith, inv.seen) in rw q at inv.so_far
+pub earliest-all : (f : ℕ → ℕ) {n i : ℕ} {first : Option ℕ} → Earlier f n first i → n ≤ i → first ≡ place_if_any (earliest f n)
+earliest-all f {n} {i} inv u = let q : i ≡ n = omega (arith, inv.seen) in rw q at inv.so_far
 
 -- ---- what it is
 

@@ -1,7 +1,7 @@
 -- Proves how a slice gets the steps of the columns one after the other, and that the slices' numbers judge a column right.
 -- Assumes nothing.
-use Prim.Native.Nat.{ℕ, suc, ◌+◌, ◌<◌, ◌≤◌}
-use mathlib.Core.Path.{◌≡◌, sym, ◌∙◌}
+use Prim.Native.Nat.{ℕ, zero, suc, ◌+◌, ◌<◌, ◌≤◌}
+use mathlib.Core.Path.{◌≡◌, sym, ap, ◌∙◌}
 use mathlib.Core.Logic.{◌⊎◌, inl, inr, ◌≢◌}
 use mathlib.Core.List.{List}
 use native.Mathlib.Omega.{arith}
@@ -9,6 +9,8 @@ use native.Mathlib.Numerals.{add-one}
 use lib.ListN.{length, get_or, set, length-set}
 use lib.Seq.{get_or-set_same, get_or-set_other}
 use Rattle.papers.specs.Bounds.{max_columns}
+use Rattle.std.specs.Prelude.{Some, None}
+use Rattle.refusals.specs.Answers.{place_if_any}
 use Rattle.list_laws.proofs.Tests.{below_or}
 use Rattle.list_laws.proofs.Members.{at_place}
 use Rattle.order_laws.proofs.Steps.{column-at, one-step}
@@ -63,21 +65,21 @@ module _ (parents steps below : List ℕ) (i : ℕ) where
   above : parent_in parents (i + 1) ≡ p
   above = rw add-one (parent_is parents i)
 
-  pub root-judged : p ≡ 0 → 0 ≡ judged_as
-  root-judged z = stray-root (parent_in parents) (number_for steps) (number_for below) (i + 1) (above ∙ z)
+  -- a step is a place; no step is none
+  no-step : {x : ℕ} → 0 ≡ x → None ≡ place_if_any x
+  no-step e = ap place_if_any e
 
-  pub late-judged : p ≢ 0 → number_for steps p < number_for steps (i + 1) → number_for steps p ≡ judged_as
-  late-judged = rw above at (stray-late (parent_in parents) (number_for steps) (number_for below) (i + 1))
+  a-step : {x step : ℕ} → 1 ≤ step → step ≡ x → Some step ≡ place_if_any x
+  a-step {step = zero} h e = absurd (omega arith)
+  a-step {step = suc s} h e = ap place_if_any e
 
-  pub early-judged : p ≢ 0 → number_for steps (i + 1) ≤ number_for steps p
-      → number_for steps (i + 1) + number_for below p < number_for steps p + number_for below (i + 1)
-      → number_for steps p ≡ judged_as
-  early-judged = rw above at (stray-early (parent_in parents) (number_for steps) (number_for below) (i + 1))
+  pub root-judged : p ≡ 0 → None ≡ place_if_any judged_as
+  root-judged z = no-step (stray-root (parent_in parents) (number_for steps) (number_for below) (i + 1) (above ∙ z))
 
   pub none-judged : p ≢ 0 → number_for steps (i + 1) ≤ number_for steps p
       → number_for steps p + number_for below (i + 1) ≤ number_for steps (i + 1) + number_for below p
-      → 0 ≡ judged_as
-  none-judged = rw above at (stray-none (parent_in parents) (number_for steps) (number_for below) (i + 1))
+      → None ≡ place_if_any judged_as
+  none-judged z h k = no-step (rw above at (stray-none (parent_in parents) (number_for steps) (number_for below) (i + 1)) z h k)
 
   -- the parent's places are within the slices, and every sum fits
   pub record Fitting : Type 0 where
@@ -86,14 +88,28 @@ module _ (parents steps below : List ℕ) (i : ℕ) where
     pub own : number_for steps (i + 1) + number_for below p ≤ max_columns + max_columns
     pub top : number_for steps p + number_for below (i + 1) ≤ max_columns + max_columns
 
-  pub sums-fit : PlacedAt parents steps below i → p ≢ 0 → Fitting
-  sums-fit at z =
-      let placed = at.placed in
-      let h = at.known in
-      let low = parent-low parents placed.tree i in
-      record {
-        step = omega (arith, placed.steps-length);
-        count = omega (arith, placed.below_length);
-        own = omega (arith, placed.steps_low (i + 1) (omega arith) (omega arith), placed.below-low p (omega arith) low);
-        top = omega (arith, placed.steps_low p (omega arith) low, placed.below-low (i + 1) (omega arith) (omega arith));
-      }
+  module _ (at : PlacedAt parents steps below i) (z : p ≢ 0) where
+    low : p ≤ length parents
+    low = parent-low parents at.placed.tree i
+
+    from : 1 ≤ number_for steps p
+    from = at.placed.steps_from p (omega arith) low
+
+    pub late-judged : number_for steps p < number_for steps (i + 1) → Some (number_for steps p) ≡ place_if_any judged_as
+    late-judged h = a-step from (rw above at (stray-late (parent_in parents) (number_for steps) (number_for below) (i + 1)) z h)
+
+    pub early-judged : number_for steps (i + 1) ≤ number_for steps p
+        → number_for steps (i + 1) + number_for below p < number_for steps p + number_for below (i + 1)
+        → Some (number_for steps p) ≡ place_if_any judged_as
+    early-judged h k = a-step from (rw above at (stray-early (parent_in parents) (number_for steps) (number_for below) (i + 1)) z h k)
+
+    pub sums-fit : Fitting
+    sums-fit =
+        let placed = at.placed in
+        let h = at.known in
+        record {
+          step = omega (arith, low, placed.steps-length);
+          count = omega (arith, low, placed.below_length);
+          own = omega (arith, placed.steps_low (i + 1) (omega arith) (omega arith), placed.below-low p (omega arith) low);
+          top = omega (arith, placed.steps_low p (omega arith) low, placed.below-low (i + 1) (omega arith) (omega arith));
+        }

@@ -7,10 +7,12 @@ use native.Mathlib.Omega.{arith}
 use lib.ListN.{length, take, drop, length-append, length-drop}
 use lib.Seq.{length-take-le}
 use borrow.Rule.Slice.PartMut.{put_mid}
+use Rattle.std.specs.Prelude.{Option}
 use Rattle.papers.specs.Lists.{least}
 use Rattle.papers.specs.Order.{column_at_step, scattered}
 use Rattle.list_laws.specs.Parts.{part}
 use Rattle.list_laws.proofs.Parts.{part_length}
+use Rattle.refusals.specs.Answers.{place_if_any}
 use Rattle.tree.specs.Parents.{parent_in}
 use Rattle.tree.specs.Laid.{Descendants}
 use Rattle.tree.proofs.Parts.{start_is, back_is}
@@ -50,6 +52,7 @@ module _ {parents order work : List ℕ} (given : OrderGiven parents order work)
       tree = given.tree;
       steps-length = a;
       below_length = b;
+      steps_from = λ c l u. (step_range listing c l u).0;
       steps_low = λ c l u. omega (arith, step_range listing c l u, given.few);
       below-low = λ c l u.
           omega (arith, subtree-few parents given.tree c l u, subtree-count parents given.tree c l u below counts, given.few);
@@ -82,7 +85,8 @@ module _ {parents order work : List ℕ} (given : OrderGiven parents order work)
       pub stray-asked : Placed parents (take m both) (part m (m + m) both)
       stray-asked = rw (at-start, back) (placed stepped counts start-length back-length)
 
-      pub stray-found : {r : ℕ} → r ≡ earliest (stray_step_of (parent_in parents) (number_for (take m both)) (number_for (part m (m + m) both)))
-          (length parents)
-          → r ≡ least (scattered (parent_in parents) (length parents) order) (length parents)
-      stray-found e = e ∙ rw (at-start, back) (stray-least (listing stepped counts))
+      pub stray-found : {r : Option ℕ}
+          → r ≡ place_if_any (earliest (stray_step_of (parent_in parents) (number_for (take m both)) (number_for (part m (m + m) both)))
+          (length parents))
+          → r ≡ place_if_any (least (scattered (parent_in parents) (length parents) order) (length parents))
+      stray-found e = e ∙ ap place_if_any (rw (at-start, back) (stray-least (listing stepped counts)))

@@ -1,7 +1,7 @@
 -- Defines columns that stray from their parents. A subtree of b + 1 columns whose top is done at step s should take the steps s - b to s, so a
 -- column's steps should be within its parent's.
 -- Assumes nothing.
-use Rattle.std.specs.Prelude.{ℕ, zero, suc, ◌+◌, ◌<◌, ◌≤◌, min, ◌≡◌, true, false, ◌&&◌, List, leb, eqb, length}
+use Rattle.std.specs.Prelude.{ℕ, zero, suc, ◌+◌, ◌<◌, ◌≤◌, min, ◌≡◌, true, false, ◌&&◌, List, leb, eqb, length, Option, Some, None}
 use Rattle.papers.specs.Bounds.{max_columns}
 use Rattle.tree.specs.Parents.{TreeIn}
 use Rattle.check_subtrees.specs.Steps.{number_for}
@@ -20,6 +20,12 @@ earlier zero b = b
 earlier (suc a) zero = suc a
 earlier (suc a) (suc b) = min (suc a) (suc b)
 
+-- the lesser of two steps, either of which may be missing
+abbrev pub lesser_step : Option ℕ → Option ℕ → Option ℕ
+lesser_step None b = b
+lesser_step (Some a) None = Some a
+lesser_step (Some a) (Some b) = Some (min a b)
+
 -- the least of f 1 to f n that is not 0; 0 if there is none
 unfoldable pub earliest : (ℕ → ℕ) → ℕ → ℕ
 earliest f zero = 0
@@ -30,6 +36,7 @@ pub record Placed (parents steps below : List ℕ) : Type 0 where
   pub tree : TreeIn parents
   pub steps-length : length steps ≡ length parents + 1
   pub below_length : length below ≡ length parents + 1
+  pub steps_from : (c : ℕ) → 1 ≤ c → c ≤ length parents → 1 ≤ number_for steps c
   pub steps_low : (c : ℕ) → 1 ≤ c → c ≤ length parents → number_for steps c ≤ max_columns
   pub below-low : (c : ℕ) → 1 ≤ c → c ≤ length parents → number_for below c ≤ max_columns
 

@@ -7,77 +7,68 @@
 ghost use Rattle.std.specs.Prelude.{◌≡◌, ◌+◌, length};
 ghost use Rattle.papers.specs.Lists.{least};
 ghost use Rattle.papers.specs.Order.{scattered};
+ghost use Rattle.refusals.specs.Answers.{place_if_any};
 ghost use Rattle.tree.specs.Parents.{parent_in};
 ghost use Rattle.check_subtrees.specs.Steps.{number_for, StepOfEach, StepsWritable, OrderGiven};
-ghost use Rattle.check_subtrees.specs.Strays.{stray_step_of, earlier, earliest, Placed, PlacedAt};
+ghost use Rattle.check_subtrees.specs.Strays.{stray_step_of, lesser_step, earliest, Placed, PlacedAt};
 
 // Writes the step of each column. In the loop the first k steps are written.
 fn write_steps(order: &[u32], steps: &mut [u64])
     requires { StepsWritable order.now steps.old }
     ensures { StepOfEach order.now steps.new }
 {
-    let mut k = 0;
-    while k < order.len() {
-        steps[order[k] as usize] = (k + 1) as u64;
-        k += 1;
+    for (k, column) in order.iter().enumerate() {
+        steps[*column as usize] = k as u64 + 1;
     }
 }
 
-// Answers the step of the parent of the column at place i, if the column strays from it; else 0. Its window begins at own less its count of
+// Answers the step of the parent of the column at place i, if the column strays from it. Its window begins at own less its count of
 // descendants, its parent's at top less the parent's count; the counts change sides, so that no difference falls below 0.
-fn stray_step(parents: &[u32], steps: &[u64], below: &[u64], i: usize) -> u64
+fn stray_step(parents: &[u32], steps: &[u64], below: &[u64], i: usize) -> Option<u64>
     requires { PlacedAt parents.now steps.now below.now i }
-    ensures { result ≡ stray_step_of (parent_in parents.now) (number_for steps.now) (number_for below.now) (i + 1) }
+    ensures { result ≡ place_if_any (stray_step_of (parent_in parents.now) (number_for steps.now) (number_for below.now) (i + 1)) }
 {
     let p = parents[i] as usize;
     if p == 0 {
-        return 0;
+        return None;
     }
     let top = steps[p];
     let own = steps[i + 1];
     if own <= top && top + below[i + 1] <= own + below[p] {
-        return 0;
+        return None;
     }
-    top
+    Some(top)
 }
 
-// The lesser of two steps, where 0 means no step.
-fn earlier(a: u64, b: u64) -> u64
-    ensures { result ≡ earlier a b }
+// The lesser of two steps, either of which may be missing.
+fn lesser_step(a: Option<u64>, b: Option<u64>) -> Option<u64>
+    ensures { result ≡ lesser_step a b }
 {
-    if a == 0 {
-        return b;
+    match (a, b) {
+        (Some(x), Some(y)) => Some(x.min(y)),
+        (Some(_), None) => a,
+        (None, _) => b,
     }
-    if b == 0 {
-        return a;
-    }
-    if a < b {
-        return a;
-    }
-    b
 }
 
-// Finds the least step of a parent from which a child strays, 0 if none does. In the loop the first i columns are judged.
-fn first_stray(parents: &[u32], steps: &[u64], below: &[u64]) -> u64
+// Finds the least step of a parent from which a child strays. In the loop the first i columns are judged.
+fn first_stray(parents: &[u32], steps: &[u64], below: &[u64]) -> Option<u64>
     requires { Placed parents.now steps.now below.now }
-    ensures { result ≡ earliest (stray_step_of (parent_in parents.now) (number_for steps.now) (number_for below.now))
-        (length parents.now) }
+    ensures { result ≡ place_if_any
+        (earliest (stray_step_of (parent_in parents.now) (number_for steps.now) (number_for below.now)) (length parents.now)) }
 {
-    let mut first = 0;
-    let mut i = 0;
-    while i < parents.len() {
-        first = earlier(first, stray_step(parents, steps, below, i));
-        i += 1;
+    let mut first = None;
+    for i in 0..parents.len() {
+        first = lesser_step(first, stray_step(parents, steps, below, i));
     }
     first
 }
 
-// Finds the first step whose column's subtree is scattered, 0 if none is. work holds the steps of the columns, and behind them the counts
-// of their descendants.
-pub fn first_scattered(parents: &[u32], order: &[u32], work: &mut [u64]) -> u64
+// Finds the first step whose column's subtree is scattered. work holds the steps of the columns, and behind them the counts of their
+// descendants.
+pub fn first_scattered(parents: &[u32], order: &[u32], work: &mut [u64]) -> Option<u64>
     requires { OrderGiven parents.now order.now work.old }
-    ensures { result ≡ least (scattered (parent_in parents.now) (length parents.now) order.now)
-        (length parents.now) }
+    ensures { result ≡ place_if_any (least (scattered (parent_in parents.now) (length parents.now) order.now) (length parents.now)) }
 {
     let m = parents.len() + 1;
     let e = m + m;

@@ -1,5 +1,4 @@
 pub mod Marks
-pub mod Buffers
 pub mod Making
 pub mod Joining
 pub mod NextChild

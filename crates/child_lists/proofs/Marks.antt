@@ -1,20 +1,22 @@
 -- Proves what marking leaves in work: the place of each marked row holds the column's number, and every other place keeps its number.
 -- Assumes nothing.
-use Prim.Native.Nat.{ℕ, suc, ◌+◌, ◌<◌, ◌≤◌}
+use Prim.Native.Nat.{ℕ, ◌+◌, ◌<◌, ◌≤◌}
 use mathlib.Core.Path.{◌≡◌, refl, sym, ap, ◌∙◌}
-use mathlib.Core.Logic.{◌⊎◌, inl, inr, ◌≢◌}
-use mathlib.Core.Bool.{true, false}
+use mathlib.Core.Logic.{◌⊎◌, inl, inr}
+use mathlib.Core.Bool.{Bool, true, false, ◌&&◌}
 use mathlib.Core.List.Memᴰ
 use mathlib.Core.List.{List, [], ◌∷◌}
 use native.Mathlib.Omega.{arith}
 use native.Mathlib.Numerals.{add-one}
 use lib.ListN.{length, get_or, drop, set, length-set, drop_of_length-le}
 use lib.Seq.{drop-cons, get_or-set_same, get_or-set_other, set_out}
-use borrow.Author.Tests.{eq-eqb, ne_eqb, eqb-true}
+use borrow.Author.Tests.{eqb-true}
+use Rattle.std.specs.List.{list_all}
+use Rattle.std.proofs.lemmas.Grind.{get_or_default_zero}
 use Rattle.papers.specs.Lists.{◌∈◌, every}
 use Rattle.list_laws.proofs.Tests.{Compare, below, level, above, compare, below_or}
 use Rattle.list_laws.proofs.Members.{at_place}
-use Rattle.list_laws.proofs.Every.{every-nil, every-yes, every-no, every-all}
+use Rattle.list_laws.proofs.Every.{every-all}
 use Rattle.child_lists.specs.Marks.{marked, is_marked, Markable, MarkedWithin, Changed}
 
 -- what a store leaves at place p
@@ -104,31 +106,23 @@ mark-stop {l = l} m h = rw (drop_of_length-le l h) at m.left
 pub mark-place : {n : ℕ} {l w : List ℕ} → Markable n l w → (k : ℕ) → k < length l → n + n + get_or l k 0 < length w
 mark-place {l = l} m k h = omega (arith, m.most (get_or l k 0) (at_place l k h), m.long)
 
--- ---- the loop that tests marks
+-- the same for a row that stands at place k, whatever stands for a place beyond
+pub mark-place-of : {n : ℕ} {l w : List ℕ} → Markable n l w → (k : ℕ) → k < length l → (v : ℕ) → v ≡ get_or l k v → n + n + v < length w
+mark-place-of {l = l} m k h v e = rw (e ∙ get_or_default_zero l k v h) (mark-place m k h)
+
+-- ---- the test of marks
+
+-- what `all` of a list's iterator answers
+pub all-every : (f : ℕ → Bool) (l : List ℕ) → list_all f l ≡ every f l
+unfolding every
+all-every f [] = refl
+all-every f (x ∷ xs) = go (f x) (all-every f xs)
+  where
+    go : (b : Bool) → list_all f xs ≡ every f xs → (b && list_all f xs) ≡ (elim b [ true ↦ every f xs | false ↦ false ])
+    go true e = e
+    go false e = refl
 
 module _ (n j : ℕ) (l w : List ℕ) where
-  -- the rows before k are marked
-  pub record Covering (k : ℕ) : Type 0 where
-    pub left : every (is_marked n j w) (drop k l) ≡ every (is_marked n j w) l
-
-  pub cover-begin : Covering 0
-  cover-begin = record { left = refl }
-
-  pub cover-turn : {k : ℕ} → Covering k → k < length l → get_or w (n + n + get_or l k 0) 0 ≡ j → Covering (k + 1)
-  cover-turn {k} c h e =
-      record {
-        left = rw add-one (sym (every-yes (is_marked n j w) (get_or l k 0) (drop (suc k) l) (eq-eqb (get_or w (n + n + get_or l k 0) 0) j e))
-            ∙ (rw (drop-cons l k 0 h) at c.left));
-      }
-
-  pub cover-no : {k : ℕ} → Covering k → k < length l → get_or w (n + n + get_or l k 0) 0 ≢ j → false ≡ every (is_marked n j w) l
-  cover-no {k} c h e =
-      sym (every-no (is_marked n j w) (get_or l k 0) (drop (suc k) l) (ne_eqb (get_or w (n + n + get_or l k 0) 0) j e))
-      ∙ (rw (drop-cons l k 0 h) at c.left)
-
-  pub cover-yes : {k : ℕ} → Covering k → length l ≤ k → true ≡ every (is_marked n j w) l
-  cover-yes {k} c h = sym (every-nil (is_marked n j w)) ∙ (rw (drop_of_length-le l h) at c.left)
-
   -- if sound marks cover a list, it brings nothing new
   pub covered-in : (acc : List ℕ) → every (is_marked n j w) l ≡ true → MarkedWithin n j w acc → (i : ℕ) → 1 ≤ i → i ∈ l → i ∈ acc
   covered-in acc e s i h m = s i h (eqb-true (get_or w (n + n + i) 0) j ((every-all (is_marked n j w) l).0 e i m))

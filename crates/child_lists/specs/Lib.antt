@@ -1,3 +1,2 @@
 pub mod Marks
-pub mod Buffers
 pub mod Joining

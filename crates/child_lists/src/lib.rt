@@ -2,63 +2,34 @@
 // place j holds the first child of column j, place n + c the sibling behind column c, and place n + n + i the mark of row i.
 #![tactic(auto)]
 
-ghost use Rattle.std.specs.Prelude.{◌≡◌, ◌-◌};
-ghost use Rattle.papers.specs.Lists.{merge, every};
+ghost use Rattle.std.specs.Prelude.{◌≡◌};
+ghost use Rattle.papers.specs.Lists.{every};
 ghost use Rattle.child_lists.specs.Marks.{marked, is_marked, Markable};
-ghost use Rattle.child_lists.specs.Buffers.{list_in_turn, Holds, Roomy};
 ghost use Rattle.child_lists.specs.Joining.{Joining, ChildrenJoined};
-
-// Where a gathered list is: the first len rows of the first buffer if turn is 0, else of the second.
-#[derive(Clone, Copy, Drop)]
-pub struct Gathered {
-    pub turn: usize,
-    pub len: usize,
-}
 
 // Marks the rows of a list for column j.
 pub fn mark(n: usize, j: usize, list: &[u32], work: &mut [u64])
     requires { Markable n list.now work.old }
     ensures { work.new ≡ marked n j list.now work.old }
 {
-    let mut k = 0;
-    while k < list.len() {
-        work[n + n + list[k] as usize] = j as u64;
-        k += 1;
+    for row in list {
+        work[n + n + *row as usize] = j as u64;
     }
 }
 
-// Tests whether every row of a list is marked for column j. In the loop all rows before k are.
+// Tests whether every row of a list is marked for column j.
 pub fn covered(n: usize, j: usize, list: &[u32], work: &[u64]) -> bool
     requires { Markable n list.now work.now }
     ensures { result ≡ every (is_marked n j work.now) list.now }
 {
-    let mut k = 0;
-    while k < list.len() {
-        if work[n + n + list[k] as usize] != j as u64 {
-            return false;
-        }
-        k += 1;
-    }
-    true
+    list.iter()
+        .all(|row| work[n + n + *row as usize] == j as u64)
 }
 
-// Joins more rows to the list of len rows in the buffer of this turn, and writes the result to the other buffer. Answers how many rows it
-// has.
-pub fn join_rows(turn: usize, len: usize, more: &[u32], x: &mut [u32], y: &mut [u32]) -> usize
-    requires { Roomy turn len more.now x.old y.old }
-    ensures { Holds (1 - turn) result x.new y.new
-        (merge (list_in_turn turn len x.old y.old) more.now) }
-{
-    if turn == 0 {
-        joiner::unite(&x[..len], more, y)
-    } else {
-        joiner::unite(&y[..len], more, x)
-    }
-}
-
-// Joins the rows of the children from c on to the len rows of x. A child whose rows are all marked brings nothing and is skipped; of a
-// child that is joined, the rows are marked.
-pub fn join_children(
+// Joins the rows of the children from c on to the len rows of x, and answers the list that they make. A child whose rows are all marked brings
+// nothing and is skipped; of a child that is joined, the rows are marked. The two buffers take turns: each join goes from the one into the
+// other. A while: the children are linked.
+pub fn join_children<'a>(
     n: usize,
     j: usize,
     c: usize,
@@ -66,26 +37,24 @@ pub fn join_children(
     fstarts: &[u64],
     frows: &[u32],
     work: &mut [u64],
-    x: &mut [u32],
-    y: &mut [u32],
-) -> Gathered
+    x: &'a mut [u32],
+    y: &'a mut [u32],
+) -> &'a [u32]
     requires { Joining n j c len fstarts.now frows.now work.old x.old y.old }
-    ensures { ChildrenJoined n j c len fstarts.now frows.now work.old x.old y.old result.turn
-        result.len work.new x.new y.new }
+    ensures { ChildrenJoined n j c len fstarts.now frows.now work.old x.old y.old work.new result.now }
 {
-    let mut d = c;
-    let mut turn = 0;
+    let mut list = x;
+    let mut other = y;
     let mut count = len;
+    let mut d = c;
     while d != 0 {
         let more = linked_children::handed_on(d, fstarts, frows);
-        if covered(n, j, more, work) {
-            d = work[n + d] as usize;
-        } else {
-            count = join_rows(turn, count, more, x, y);
+        if !covered(n, j, more, work) {
+            count = joiner::unite(&list[..count], more, other);
             mark(n, j, more, work);
-            turn = 1 - turn;
-            d = work[n + d] as usize;
+            (list, other) = (other, list);
         }
+        d = work[n + d] as usize;
     }
-    Gathered { turn, len: count }
+    &list[..count]
 }

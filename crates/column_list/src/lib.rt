@@ -4,10 +4,7 @@
 
 ghost use Rattle.std.specs.Prelude.{◌≡◌, ◌+◌};
 ghost use Rattle.papers.specs.Job.{column_of};
-ghost use Rattle.child_lists.specs.Buffers.{list_in_turn};
-ghost use Rattle.column_list.specs.Stored.{RowsBetween, Gatherable, Gathers, Buffered};
-
-use child_lists::Gathered;
+ghost use Rattle.column_list.specs.Stored.{RowsBetween, Gatherable, Gathers};
 
 // The pattern rows of column m + 1.
 pub fn pattern_rows<'a>(m: usize, starts: &[u64], rows: &'a [u32]) -> &'a [u32]
@@ -19,50 +16,33 @@ pub fn pattern_rows<'a>(m: usize, starts: &[u64], rows: &'a [u32]) -> &'a [u32]
     &rows[s..e]
 }
 
-// Gathers R(m + 1) in the buffers: joins the pattern rows with those that the longest child hands on, then with those of the other
-// children. Rows are marked only if there are several children.
+// Gathers R(m + 1): joins the pattern rows with those that the longest child hands on, then with those of the other children. Rows are marked
+// only if there are several children. The list is in one of the buffers; without a child it is the pattern rows.
 pub fn gather<'a>(
     n: usize,
     m: usize,
     starts: &[u64],
     rows: &'a [u32],
     fstarts: &[u64],
-    frows: &'a [u32],
+    frows: &[u32],
     work: &mut [u64],
-    x: &mut [u32],
-    y: &mut [u32],
-) -> Gathered
+    x: &'a mut [u32],
+    y: &'a mut [u32],
+) -> &'a [u32]
     requires { Gatherable n m starts.now rows.now fstarts.now frows.now work.old x.old y.old }
-    ensures { Gathers n m (column_of starts.now rows.now) work.old work.new x.new
-        y.new result.turn result.len }
+    ensures { Gathers n m (column_of starts.now rows.now) work.old work.new result.now }
 {
     let own = pattern_rows(m, starts, rows);
     let c = work[m + 1] as usize;
     if c == 0 {
-        joiner::copy_at(x, 0, own);
-        return Gathered {
-            turn: 0,
-            len: own.len(),
-        };
+        return own;
     }
     let d = linked_children::longest(n, c, fstarts, work);
     let more = linked_children::handed_on(d, fstarts, frows);
     let len = joiner::unite(own, more, x);
     if work[n + c] == 0 {
-        return Gathered { turn: 0, len };
+        return &x[..len];
     }
     child_lists::mark(n, m + 1, &x[..len], work);
     child_lists::join_children(n, m + 1, c, len, fstarts, frows, work, x, y)
-}
-
-// The list that was gathered.
-pub fn gathered<'a>(g: Gathered, x: &'a [u32], y: &'a [u32]) -> &'a [u32]
-    requires { Buffered g.len x.now y.now }
-    ensures { result.now ≡ list_in_turn g.turn g.len x.now y.now }
-{
-    if g.turn == 0 {
-        &x[..g.len]
-    } else {
-        &y[..g.len]
-    }
 }

@@ -26,6 +26,6 @@ pub fn order_columns(
         &mut pops[..n],
         work,
     );
-    slices::clear64(work);
+    work.fill(0);
     needs.peak
 }

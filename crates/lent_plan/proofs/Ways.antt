@@ -2,11 +2,10 @@
 -- Assumes nothing.
 use Prim.Native.Nat.{ℕ, ◌<◌, ◌≤◌}
 use mathlib.Core.Path.{◌≡◌, sym, ◌∙◌}
-use mathlib.Core.Logic.{◌≢◌}
 use lib.ListN.{length}
 use Rattle.papers.specs.declared.Answer.{Answer}
 use Rattle.papers.specs.Lists.{flat}
-use Rattle.papers.specs.Refusals.{answer, passed, answer_of, first, EndsAs}
+use Rattle.papers.specs.Refusals.{answer, passed, refused, first, EndsAs}
 use Rattle.papers.specs.Job.{Job, pattern}
 use Rattle.papers.specs.Fill.{R}
 use Rattle.papers.specs.Order.{order_of, order_peak}
@@ -16,7 +15,7 @@ use Rattle.papers.specs.Analysis.{Lent, all_zero, fixed_lengths, LongEnough, ear
 use Rattle.papers.specs.Analysis.{analysis_early, analysis_late, analysis_done, analysed}
 use Rattle.job_laws.specs.Passed.{Passed}
 use Rattle.job_laws.proofs.Firsts.{first_passes, first-refuses, first_of, first-last, over-refuses, over-passes-iff}
-use Rattle.job_laws.proofs.Outcomes.{outcome-early, outcome-late, outcome-done, early-refused, early-passes-iff}
+use Rattle.job_laws.proofs.Outcomes.{outcome-early, outcome-late, outcome-done, early-passes-iff}
 
 -- the rows of all lists together, and the peak
 abbrev pub needed : Job → ℕ
@@ -34,11 +33,9 @@ module _ (job : Job) (lent : Lent) where
   same-early = first_of (λ (call : AnalysisCall). early_of call.job call.lent) early_refusals call
 
   -- 1 to 7
-  pub way-early : {r : Answer} → r ≡ answer_of (first early_refusals (early_of job lent)) → r.number ≢ 0
-      → record { answered = r; lent = lent } ≡ analysed job lent
+  pub way-early : {a : Answer} → refused a ≡ first early_refusals (early_of job lent) → record { answered = a; lent = lent } ≡ analysed job lent
   unfolding analysed
-  way-early e z =
-      sym (outcome-early analysis_early analysis_late analysis_done all_zero call lent (same-early ∙ early-refused (early_of job lent) e z))
+  way-early e = sym (outcome-early analysis_early analysis_late analysis_done all_zero call lent (same-early ∙ sym e))
 
   module _ (p : Passed job) (long : LongEnough (fixed_lengths job.n lent)) where
     early-passes : first analysis_early call ≡ passed

@@ -15,7 +15,8 @@ pub fn handed_on<'a>(c: usize, fstarts: &[u64], frows: &'a [u32]) -> &'a [u32]
     &frows[s + 1..e]
 }
 
-// Finds the child with the most rows of those linked from c on. In the loop none of those before d has more rows than best.
+// Finds the child with the most rows of those linked from c on. In the loop none of those before d has more rows than best. A while: the
+// children are linked.
 pub fn longest(n: usize, c: usize, fstarts: &[u64], work: &[u64]) -> usize
     requires { Linked n c fstarts.now work.now }
     ensures { Longest n c fstarts.now work.now result }
@@ -28,10 +29,8 @@ pub fn longest(n: usize, c: usize, fstarts: &[u64], work: &[u64]) -> usize
         if most < rows {
             best = d;
             most = rows;
-            d = work[n + d] as usize;
-        } else {
-            d = work[n + d] as usize;
         }
+        d = work[n + d] as usize;
     }
     best
 }

@@ -8,13 +8,6 @@ ghost use Rattle.papers.specs.Room.{peak_of};
 ghost use Rattle.room.specs.Rows.{row_count_at, RisesAt, ColumnStarts, RowsCounted};
 ghost use Rattle.room.specs.Steps.{rows_at, pops_of_step, UpdatesSummed, StepDone, PeakGiven, PopsGiven};
 
-// 0 for 0, and 1 for any other count.
-fn at_most_one(count: u64) -> usize
-    ensures { result ≡ min count 1 }
-{
-    if count == 0 { 0 } else { 1 }
-}
-
 // The number of rows of column j.
 pub fn rows_of(factor: &[u64], j: usize) -> u64
     requires { ColumnStarts factor.now j }
@@ -37,10 +30,8 @@ pub fn count_pops(starts: &[u64], order: &[u32], pops: &mut [u32])
     requires { PopsGiven starts.now order.now pops.old }
     ensures { pops.new ≡ map (row_count_at starts.now) order.now }
 {
-    let mut k = 0;
-    while k < pops.len() {
-        pops[k] = count_at(starts, order[k] as usize) as u32;
-        k += 1;
+    for (k, column) in order.iter().enumerate() {
+        pops[k] = count_at(starts, *column as usize) as u32;
     }
 }
 
@@ -50,7 +41,7 @@ pub fn in_use(below: &[u64], depth: usize, pops: usize, rows: u64) -> u64
     requires { UpdatesSummed below.now depth pops rows }
     ensures { result ≡ get_or below.now (depth - min pops 1) 0 + t (rows + 1) }
 {
-    below[depth - at_most_one(pops as u64)] + triangle::entries(rows + 1)
+    below[depth - pops.min(1)] + triangle::entries(rows + 1)
 }
 
 // Does the step: its pops come off and its update goes on, in one store; a root puts none on. Answers how many updates are held afterwards.
@@ -60,7 +51,7 @@ pub fn hold(below: &mut [u64], depth: usize, pops: usize, rows: u64) -> usize
 {
     let left = depth - pops;
     below[left + 1] = below[left] + triangle::entries(rows);
-    left + at_most_one(rows)
+    left + rows.min(1) as usize
 }
 
 // What the steps of an order need: the peak, which is the greatest room in use.
@@ -77,14 +68,12 @@ pub fn peak(factor: &[u64], order: &[u32], pops: &[u32], below: &mut [u64]) -> N
 {
     below[0] = 0;
     let mut depth = 0;
-    let mut most = 0;
-    let mut k = 0;
-    while k < order.len() {
+    let mut most: u64 = 0;
+    for (k, column) in order.iter().enumerate() {
         let p = pops[k] as usize;
-        let rows = rows_of(factor, order[k] as usize);
-        most = basics::greater(most, in_use(&below[..], depth, p, rows));
+        let rows = rows_of(factor, *column as usize);
+        most = most.max(in_use(&below[..], depth, p, rows));
         depth = hold(below, depth, p, rows);
-        k += 1;
     }
     Needs { peak: most }
 }

@@ -23,8 +23,8 @@ pub fn file(n: usize, c: usize, q: u64, starts: &[u64], rows: &[u32], work: &mut
     }
 }
 
-// Does all columns whose next pattern row is i: climbs from each, and files it under its row after i. Answers the count with those of row
-// i.
+// Does all columns whose next pattern row is i: climbs from each, and files it under its row after i. Answers the count with those of row i.
+// A while: the columns are linked.
 pub fn walk(
     n: usize,
     i: usize,
@@ -54,11 +54,9 @@ pub fn begin(n: usize, starts: &[u64], rows: &[u32], work: &mut [u64])
     requires { Fileable n starts.now rows.now work.old }
     ensures { FirstFiled n n starts.now rows.now work.new }
 {
-    slices::clear64(work);
-    let mut m = 0;
-    while m < n {
+    work.fill(0);
+    for m in 0..n {
         file(n, m + 1, starts[m], starts, rows, work);
-        m += 1;
     }
 }
 
@@ -74,14 +72,12 @@ pub fn rows_needed(
     requires { RowsCountable n starts.now rows.now parents.old work.old }
     ensures { result ≡ length (flat (lists_of n (R (column_of starts.now rows.now)))) }
 {
-    slices::clear32(parents);
+    parents.fill(0);
     begin(n, starts, rows, work);
-    let mut m = 0;
     let mut t = 0;
-    while m < n {
+    for m in 0..n {
         work[m + 1] = (m + 1) as u64;
         t = walk(n, m + 1, t, starts, rows, parents, work);
-        m += 1;
     }
     t
 }

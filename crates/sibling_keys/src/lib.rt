@@ -13,20 +13,15 @@ fn sibling_key(mark: u64, above: u64, rows: u64, w: u64) -> u64
     ensures { result ≡ sibling_key_of mark above rows w }
 {
     let update = triangle::entries(rows);
-    if mark == 0 {
-        return 0;
+    match mark {
+        0 => 0,
+        1 => w.saturating_sub(update),
+        _ => update,
     }
-    if mark == 1 {
-        if w < update {
-            return 0;
-        }
-        return w - update;
-    }
-    update
 }
 
-// Stores the key of each child of column j. work holds the W of the columns from w on, and the keys from k on. In the loop the first i keys
-// are stored.
+// Stores the key of each child of column j. work holds the W of the columns from w on, and the keys from k on. In the loop the keys of
+// the kids so far are stored.
 pub fn store_keys(
     mark: u64,
     factor: &[u64],
@@ -41,12 +36,10 @@ pub fn store_keys(
         work.new }
 {
     let above = room::rows_of(factor, j);
-    let mut i = 0;
-    while i < kids.len() {
-        let c = kids[i] as usize;
+    for kid in kids {
+        let c = *kid as usize;
         let rows = room::rows_of(factor, c);
         work[k + c] = sibling_key(mark, above, rows, work[w + c]);
-        i += 1;
     }
 }
 
@@ -56,19 +49,14 @@ pub fn room_alone(factor: &[u64], rooms: &[u64], kids: &[u32], j: usize) -> u64
     requires { Kids factor.now rooms.now kids.now j }
     ensures { result ≡ need_at factor.now rooms.now kids.now j }
 {
-    let mut most = 0;
+    let mut most: u64 = 0;
     let mut before = 0;
     let mut below = 0;
-    let mut i = 0;
-    while i < kids.len() {
-        let c = kids[i] as usize;
-        most = basics::greater(most, below + rooms[c]);
+    for kid in kids {
+        let c = *kid as usize;
+        most = most.max(below + rooms[c]);
         before = below;
-        below = below + triangle::entries(room::rows_of(factor, c));
-        i += 1;
+        below += triangle::entries(room::rows_of(factor, c));
     }
-    basics::greater(
-        most,
-        before + triangle::entries(room::rows_of(factor, j) + 1),
-    )
+    most.max(before + triangle::entries(room::rows_of(factor, j) + 1))
 }

@@ -2,13 +2,15 @@
 -- Assumes nothing.
 use Prim.Native.Nat.{ℕ, suc, ◌+◌, ◌-◌, ◌<◌, ◌≤◌}
 use mathlib.Core.Path.{◌≡◌, refl, ap, ◌∙◌}
-use mathlib.Core.Logic.{⊎_elim, ◌≢◌}
+use mathlib.Core.Logic.{⊎_elim}
 use mathlib.Core.List.{List, [], ◌∷◌, ◌++◌}
 use native.Mathlib.Omega.{arith}
 use native.Mathlib.Nat.{le-suc_iff}
 use native.Mathlib.Numerals.{add-one}
 use lib.ListN.{length, get_or, take, drop, set, length-set, length-replicate}
 use lib.Seq.{sets, sets-eq, length-sets, take_at, get_or-set_same, get_or-set_other}
+use Rattle.std.specs.List.{slice_get}
+use Rattle.std.specs.Option.{unwrap_or}
 use Rattle.papers.specs.Lists.{head0, flat, zeros}
 use Rattle.papers.specs.Job.{Pattern, Below}
 use Rattle.papers.specs.Fill.{R}
@@ -28,15 +30,10 @@ use Rattle.structure.proofs.Hanging.{Chains, hanging-else, length-hanging, hangi
 
 -- ---- the least row
 
-pub least-none : (l : List ℕ) → length l ≡ 0 → 0 ≡ head0 l
+pub least-first : (l : List ℕ) → unwrap_or (slice_get l 0) 0 ≡ head0 l
 unfolding head0
-least-none [] h = refl
-least-none (x ∷ xs) h = absurd (omega arith)
-
-pub least-some : (l : List ℕ) → length l ≢ 0 → get_or l 0 0 ≡ head0 l
-unfolding head0
-least-some [] h = absurd (h refl)
-least-some (x ∷ xs) h = refl
+least-first [] = refl
+least-first (x ∷ xs) = refl
 
 pub parent_is : (A : Pattern) (j : ℕ) → head0 (R A j) ≡ parent A j
 unfolding parent

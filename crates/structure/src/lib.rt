@@ -46,10 +46,7 @@ pub fn store(
 pub fn least(list: &[u32]) -> u32
     ensures { result ≡ head0 list.now }
 {
-    if list.len() == 0 {
-        return 0;
-    }
-    list[0]
+    list.first().copied().unwrap_or(0)
 }
 
 // Makes the lists R(1), R(2), .., their starts and the parents, as long as the lists fit into frows. Answers how many columns are done.
@@ -68,24 +65,14 @@ pub fn column_lists(
     ensures { ColumnsListed n result (column_of starts.now rows.now) parents.old fstarts.old
         frows.old parents.new fstarts.new frows.new }
 {
-    slices::clear64(work);
+    work.fill(0);
     fstarts[0] = 0;
-    let mut m = 0;
-    while m < n {
-        let g = column_list::gather(n, m, starts, rows, fstarts, frows, work, x, y);
-        if frows.len() - (fstarts[m] as usize) < g.len {
+    for m in 0..n {
+        let list = column_list::gather(n, m, starts, rows, fstarts, frows, work, x, y);
+        if frows.len() - (fstarts[m] as usize) < list.len() {
             return m;
         }
-        store(
-            n,
-            m,
-            column_list::gathered(g, x, y),
-            parents,
-            fstarts,
-            frows,
-            work,
-        );
-        m += 1;
+        store(n, m, list, parents, fstarts, frows, work);
     }
     n
 }

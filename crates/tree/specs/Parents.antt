@@ -19,11 +19,6 @@ kids_in parents j = children (parent_in parents) (length parents) j
 
 -- ---- what the passes over the parents require of a tree and the lent slices
 
--- place i is a place of the list
-pub record PlaceIn (parents : List ℕ) (i : ℕ) : Type 0 where
-  pub tree : TreeIn parents
-  pub known : i < length parents
-
 -- counts is longer than the columns by this many
 pub record Countable (parents counts : List ℕ) (more : ℕ) : Type 0 where
   pub tree : TreeIn parents

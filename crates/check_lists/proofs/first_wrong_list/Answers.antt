@@ -1,21 +1,18 @@
 -- Proves that `first_wrong_list` finds the first wrong list: those of the columns up to m are right, so the next can be compared with R(m + 1), and
--- if it differs it is the first. Each turn leaves one column less.
+-- if it differs it is the first.
 -- Assumes nothing.
 use native.Mathlib.Omega.{arith}
 use Rattle.check_lists.proofs.Passing.{pass-begin, long-p, pass_all, pass-part, pass-next, pass-wrong, pass-hangable, pass_on}
 use Rattle.check_lists.proofs.first_wrong_list.Goals as goal
 
 pub loop-m-init : goal.loop-m-init
-loop-m-init c = pass-begin c.requires c.clear64.ensures
+loop-m-init c = pass-begin c.requires (c.fill.ensures.after (λ y e. e))
 
 pub pattern_rows-list-requires : goal.pattern_rows-list-requires
 pattern_rows-list-requires c = pass-part c.loop-m.invariant c.loop-m-test.true
 
 pub is_right-requires : goal.is_right-requires
 is_right-requires c = pass-next c.loop-m.invariant c.loop-m-test.true c.pattern_rows-list.ensures
-
-pub shape_of-parents-then-not-is_right : goal.shape_of-parents-then-not-is_right
-shape_of-parents-then-not-is_right c = long-p c.loop-m.invariant
 
 pub returns-then-not-is_right : goal.returns-then-not-is_right
 returns-then-not-is_right c =
@@ -36,9 +33,6 @@ loop-m-preserved c =
     pass_on c.loop-m.invariant c.loop-m-test.true c.pattern_rows-list.ensures
     c.is_right.ensures c.if-not-is_right.false (omega arith)
     c.least-p.ensures c.hang.ensures (omega arith)
-
-pub shape_of-parents : goal.shape_of-parents
-shape_of-parents c = long-p c.loop-m.invariant
 
 pub returns : goal.returns
 returns c = pass_all c.loop-m.invariant c.loop-m-test.false

@@ -1,5 +1,4 @@
--- Proves that `mark_new` marks a list and counts its new rows: those counted and the new ones among the rows left are all. Each turn leaves one row
--- less.
+-- Proves that `mark_new` marks a list and counts its new rows: those counted and the new ones among the rows left are all.
 -- Assumes nothing.
 use Prim.Native.Nat.{◌+◌, ◌<◌}
 use native.Mathlib.Omega.{arith}
@@ -7,39 +6,37 @@ use lib.ListN.{length, get_or}
 use Rattle.child_lists.proofs.Marks.{mark-place}
 use Rattle.check_marks.proofs.Newly.{new-begin, new-old, new-mark, new-stop}
 use Rattle.check_marks.proofs.mark_new.Goals as goal
-use Rattle.check_marks.proofs.mark_new.Goals.{In-loop-k}
+use Rattle.check_marks.proofs.mark_new.Goals.{In-loop-row, then-work-p, else-work-p}
 
--- work has the place of the mark of the row at k
-place : (c : In-loop-k) → c.args.n + c.args.n + get_or c.args.list.now c.loop-k.k 0
+-- work has the place of the mark of the row
+place : (c : In-loop-row) → c.args.n + c.args.n + get_or c.args.list.now c.loop-row.row-index 0
     < length c.args.work.now
-place c = mark-place c.requires.markable _ c.loop-k-test.true
+place c = mark-place c.requires.markable _ c.loop-row-test.true
 
-pub loop-k-init : goal.loop-k-init
-loop-k-init c = new-begin _ c.requires
+pub loop-row-init : goal.loop-row-init
+loop-row-init c = new-begin _ c.requires
 
-pub overflow_cast-p : goal.overflow_cast-p
-overflow_cast-p c = omega (arith, c.shared_slice_known-1.given c.loop-k.k)
-
-pub overflow_add-p-in-loop-k : goal.overflow_add-p-in-loop-k
-overflow_add-p-in-loop-k c = omega (arith, place (goal.at.overflow_add-p-in-loop-k c).In-loop-k, c.well_formed)
+pub overflow_add-p-in-loop-row : goal.overflow_add-p-in-loop-row
+overflow_add-p-in-loop-row c = omega (arith, place (goal.at.overflow_add-p-in-loop-row c).In-loop-row, c.well_formed)
 
 pub offset_bounds-work-p : goal.offset_bounds-work-p
-offset_bounds-work-p c = omega (arith, place (goal.at.offset_bounds-work-p c).In-loop-k, c.well_formed)
+offset_bounds-work-p c = omega (arith, place (goal.at.offset_bounds-work-p c).In-loop-row, c.well_formed)
 
 pub bounds-work-p : goal.bounds-work-p
-bounds-work-p c = omega (arith, place (goal.at.bounds-work-p c).In-loop-k, c.loop-k.invariant.marking.long)
+bounds-work-p c = omega (arith, place (goal.at.bounds-work-p c).In-loop-row, c.loop-row.invariant.marking.long)
 
-pub offset_bounds-work-p-in-loop-k : goal.offset_bounds-work-p-in-loop-k
-offset_bounds-work-p-in-loop-k c = omega (arith, place (goal.at.offset_bounds-work-p-in-loop-k c).In-loop-k, c.well_formed)
+pub offset_bounds-work-p-in-loop-row : goal.offset_bounds-work-p-in-loop-row
+offset_bounds-work-p-in-loop-row c = omega (arith, place (goal.at.offset_bounds-work-p-in-loop-row c).In-loop-row, c.well_formed)
 
-pub bounds-work-p-in-loop-k : goal.bounds-work-p-in-loop-k
-bounds-work-p-in-loop-k c = omega (arith, place (goal.at.bounds-work-p-in-loop-k c).In-loop-k, c.loop-k.invariant.marking.long)
+pub bounds-work-p-in-loop-row : goal.bounds-work-p-in-loop-row
+bounds-work-p-in-loop-row c = omega (arith, place (goal.at.bounds-work-p-in-loop-row c).In-loop-row, c.loop-row.invariant.marking.long)
 
-pub loop-k-preserved-then-old-j : goal.loop-k-preserved-then-old-j
-loop-k-preserved-then-old-j c = new-old c.loop-k.invariant c.loop-k-test.true c.if-old-j.true
-
-pub loop-k-preserved : goal.loop-k-preserved
-loop-k-preserved c = new-mark c.loop-k.invariant c.loop-k-test.true c.if-old-j.false
+pub loop-row-preserved : goal.loop-row-preserved
+loop-row-preserved c =
+    elim c.if-work-p.branch [
+      | then-work-p w ↦ rw w.count-is (new-mark c.loop-row.invariant c.loop-row-test.true w.if-work-p.true)
+      | else-work-p w ↦ rw w.count-is (new-old c.loop-row.invariant c.loop-row-test.true w.if-work-p.false)
+    ]
 
 pub returns : goal.returns
-returns c = new-stop c.loop-k.invariant c.loop-k-test.false
+returns c = new-stop c.loop-row.invariant c.loop-row-test.false

@@ -1,7 +1,6 @@
--- Proves that `match_lists` compares all lists: those of the first `done` columns agree, so the others are compared from k on. Each turn leaves one
--- column less.
+-- Proves that `match_lists` compares all lists: those of the first c columns agree, so the others are compared from k on.
 -- Assumes nothing.
-use Prim.Native.Nat.{ℕ, ◌-◌, ◌≤◌}
+use Prim.Native.Nat.{ℕ, ◌≤◌}
 use mathlib.Core.List.{List}
 use Rattle.papers.specs.Bounds.{max_columns}
 use Rattle.papers.specs.Job.{column_of}
@@ -17,8 +16,5 @@ pub record Columns (n : ℕ) (starts rows plan : List ℕ) (at k done : ℕ) : T
   pub lists : PassedLists n starts rows
   pub matched : Left (lists_numbers 1 (lists_of n (column_of starts rows))) plan at (numbers_from n starts rows done) k
 
-abbrev pub invariant-loop-done : goal.invariant-loop-done
-invariant-loop-done l = Columns l.n l.starts l.rows l.plan l.at l.k l.done
-
-abbrev pub decreases-loop-done : goal.decreases-loop-done
-decreases-loop-done l = l.n - l.done
+abbrev pub invariant-loop-c : goal.invariant-loop-c
+invariant-loop-c l = Columns l.n l.starts l.rows l.plan l.at l.k l.c

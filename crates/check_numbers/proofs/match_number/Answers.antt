@@ -4,5 +4,5 @@ use mathlib.Core.Path.{sym, ◌∙◌}
 use Rattle.check_numbers.proofs.Bytes.{one_byte}
 use Rattle.check_numbers.proofs.match_number.Goals as goal
 
-pub returns-then-wide8-x : goal.returns-then-wide8-x
-returns-then-wide8-x c = one_byte _ _ _ c.if-x-lt128.true c.if-at-plan.true (sym c.wide8.ensures.same ∙ c.if-wide8-x.true)
+pub returns-then-from-x : goal.returns-then-from-x
+returns-then-from-x c = one_byte _ _ _ c.if-x-lt128.true c.if-at-plan.true (sym c.from.ensures ∙ c.if-from-x.true)

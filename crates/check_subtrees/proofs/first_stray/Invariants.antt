@@ -1,6 +1,5 @@
--- Proves that `first_stray` finds the least stray step, since it keeps the least of the first i columns. Each turn leaves one column less.
+-- Proves that `first_stray` finds the least stray step, since it keeps the least of the first i columns.
 -- Assumes nothing.
-use Prim.Native.Nat.{◌-◌}
 use lib.ListN.{length}
 use Rattle.tree.specs.Parents.{parent_in}
 use Rattle.check_subtrees.specs.Steps.{number_for}
@@ -11,6 +10,3 @@ use Rattle.check_subtrees.proofs.first_stray.Given as goal
 abbrev pub invariant-loop-i : goal.invariant-loop-i
 invariant-loop-i l =
     Earlier (stray_step_of (parent_in l.parents) (number_for l.steps) (number_for l.below)) (length l.parents) l.first l.i
-
-abbrev pub decreases-loop-i : goal.decreases-loop-i
-decreases-loop-i l = length l.parents - l.i

@@ -1,7 +1,6 @@
 -- Proves that `stray_step` answers by the definition, a case for each way out. Steps and counts are no greater than the number of columns, so every
 -- sum fits.
 -- Assumes nothing.
-use native.Mathlib.Omega.{arith}
 use borrow.Author.Rules.{rules}
 use Rattle.check_subtrees.proofs.Placing.{root-judged, late-judged, early-judged, none-judged, Fitting, sums-fit}
 use Rattle.check_subtrees.proofs.stray_step.Goals as goal
@@ -11,9 +10,6 @@ use Rattle.check_subtrees.proofs.stray_step.Goals.{Else-p-eq0, else-own-top-via-
 fitting : (c : Else-p-eq0)
     → Fitting c.args.parents.now c.args.steps.now c.args.below.now c.args.i
 fitting c = sums-fit _ _ _ _ c.requires c.if-p-eq0.false
-
-pub overflow_cast-p : goal.overflow_cast-p
-overflow_cast-p c = omega (arith, c.shared_slice_known-1.given c.args.i)
 
 pub returns-then-p-eq0 : goal.returns-then-p-eq0
 returns-then-p-eq0 c = root-judged _ c.args.steps.now c.args.below.now _ c.if-p-eq0.true
@@ -46,6 +42,6 @@ returns c =
     let args = c.args in
     elim c.else-own-top.branch [
       | else-own-top-via-then-own-top+else-top-below w ↦
-          early-judged _ args.steps.now args.below.now _ c.if-p-eq0.false w.if-own-top.true w.if-top-below.false
-      | else-own-top-via-else-own-top w ↦ late-judged _ args.steps.now args.below.now _ c.if-p-eq0.false w.if-own-top.false
+          early-judged _ args.steps.now args.below.now _ c.requires c.if-p-eq0.false w.if-own-top.true w.if-top-below.false
+      | else-own-top-via-else-own-top w ↦ late-judged _ args.steps.now args.below.now _ c.requires c.if-p-eq0.false w.if-own-top.false
     ]

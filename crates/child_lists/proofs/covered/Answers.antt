@@ -1,37 +1,20 @@
--- Proves that `covered` tests whether all rows are marked, since the rows passed are, so those left decide. Each turn leaves one row less.
+-- Proves that `covered` tests whether all rows are marked: each call of the closure tests the mark of one row, which has its place in work.
 -- Assumes nothing.
-use Prim.Native.Nat.{◌+◌, ◌<◌}
-use native.Mathlib.Omega.{arith}
-use lib.ListN.{length, get_or}
-use Rattle.child_lists.proofs.Marks.{cover-begin, cover-turn, cover-no, cover-yes, mark-place}
+use Rattle.std.proofs.Common.{◌∙◌, rules, tests, arith}
+use Rattle.std.proofs.lemmas.Iterator.{YieldsList-from_slice}
+use Rattle.std.proofs.lemmas.Iterator.Adapters.{serves_from_places}
+use Rattle.std.proofs.lemmas.Iterator.Search.{all_from_yields_List}
+use Rattle.child_lists.specs.Marks.{is_marked}
+use Rattle.child_lists.proofs.Marks.{mark-place-of, all-every}
 use Rattle.child_lists.proofs.covered.Goals as goal
-use Rattle.child_lists.proofs.covered.Goals.{In-loop-k}
 
--- work has the place of the mark of the row at k
-place : (c : In-loop-k) → c.args.n + c.args.n + get_or c.args.list.now c.loop-k.k 0
-    < length c.args.work.now
-place c = mark-place c.requires _ c.loop-k-test.true
-
-pub loop-k-init : goal.loop-k-init
-loop-k-init c = cover-begin _ _ _ _
-
-pub overflow_cast-list : goal.overflow_cast-list
-overflow_cast-list c = omega (arith, c.shared_slice_known-1.given c.loop-k.k)
-
-pub overflow_add-n-in-loop-k : goal.overflow_add-n-in-loop-k
-overflow_add-n-in-loop-k c = omega (arith, place (goal.at.overflow_add-n-in-loop-k c).In-loop-k, c.well_formed)
-
-pub offset_bounds-work-n : goal.offset_bounds-work-n
-offset_bounds-work-n c = omega (arith, place (goal.at.offset_bounds-work-n c).In-loop-k, c.well_formed)
-
-pub bounds-work-n : goal.bounds-work-n
-bounds-work-n c = place (goal.at.bounds-work-n c).In-loop-k
-
-pub returns-then-work-n : goal.returns-then-work-n
-returns-then-work-n c = cover-no _ _ _ _ c.loop-k.invariant c.loop-k-test.true c.if-work-n.true
-
-pub loop-k-preserved : goal.loop-k-preserved
-loop-k-preserved c = cover-turn _ _ _ _ c.loop-k.invariant c.loop-k-test.true c.if-work-n.false
+pub all-requires-clause-callable : goal.all-requires-clause-callable
+all-requires-clause-callable c =
+    serves_from_places (YieldsList-from_slice c.args.list.now cc) (λ x q k. search rules)
+    (λ x k h e. let p = mark-place-of c.requires k h x.now e in let w = c.well_formed in search (rules, arith))
 
 pub returns : goal.returns
-returns c = cover-yes _ _ _ _ c.loop-k.invariant c.loop-k-test.false
+returns c =
+    all_from_yields_List (is_marked c.args.n c.args.j c.args.work.now) _ _ _ c.all.ensures.ran (YieldsList-from_slice c.args.list.now cc)
+    (λ x b q k. search (rules, tests))
+    ∙ all-every _ _

@@ -1,12 +1,7 @@
--- Proves that `mark` marks every row of the list, since marking the rows left completes what was marked. Each turn leaves one row less.
+-- Proves that `mark` marks every row of the list, since marking the rows left completes what was marked.
 -- Assumes nothing.
-use Prim.Native.Nat.{◌-◌}
-use lib.ListN.{length}
 use Rattle.child_lists.proofs.Marks.{Marking}
 use Rattle.child_lists.proofs.mark.Given as goal
 
-abbrev pub invariant-loop-k : goal.invariant-loop-k
-invariant-loop-k l = Marking l.n l.j l.list l.initial.work l.work l.k
-
-abbrev pub decreases-loop-k : goal.decreases-loop-k
-decreases-loop-k l = length l.list - l.k
+abbrev pub invariant-loop-row : goal.invariant-loop-row
+invariant-loop-row l = Marking l.n l.j l.list l.initial.work l.work l.row-index

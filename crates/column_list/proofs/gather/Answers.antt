@@ -1,21 +1,15 @@
--- Proves that `gather` leaves R(m + 1) in a buffer. Without a child it copies the pattern rows; else it joins them with what the longest child hands
--- on, and then with what the other children hand on.
+-- Proves that `gather` makes R(m + 1). Without a child it is the pattern rows; else these are joined with what the longest child hands on, and then
+-- with what the other children hand on.
 -- Assumes nothing.
 use Prim.Native.Nat.{ℕ}
 use mathlib.Core.Path.{sym}
 use mathlib.Core.List.{List}
 use native.Mathlib.Omega.{arith}
 use lib.Seq.{length-take-le}
-use Rattle.column_list.proofs.Begins.{part_of, own-fits, alone, linked, longest-stands}
+use Rattle.column_list.proofs.Begins.{part_of, alone, linked, longest-stands}
 use Rattle.column_list.proofs.Begins.{First, first-link, first_fits, first-len, single, first-markable, several, all-joined}
 use Rattle.column_list.proofs.gather.Goals as goal
 use Rattle.column_list.proofs.gather.Goals.{After-handed_on-more}
-
--- ---- the pattern rows, and no child
-
--- ---- the longest child
-
--- ---- the other children
 
 abbrev own : After-handed_on-more → List ℕ
 own c = c.pattern_rows-own.result.now
@@ -37,12 +31,8 @@ first c =
 pub pattern_rows-own-requires : goal.pattern_rows-own-requires
 pattern_rows-own-requires c = part_of c.requires.next
 
-pub copy_at-requires : goal.copy_at-requires
-copy_at-requires c = omega (arith, own-fits c.requires c.pattern_rows-own.ensures)
-
 pub returns-then-c-eq0 : goal.returns-then-c-eq0
-returns-then-c-eq0 c =
-    alone c.requires c.pattern_rows-own.ensures c.if-c-eq0.true c.copy_at.ensures
+returns-then-c-eq0 c = alone c.requires c.pattern_rows-own.ensures c.if-c-eq0.true
 
 pub longest-d-requires : goal.longest-d-requires
 longest-d-requires c = linked c.requires
@@ -61,6 +51,10 @@ offset_bounds-work-n c = omega (arith, first-link (first (goal.at.offset_bounds-
 
 pub bounds-work-n : goal.bounds-work-n
 bounds-work-n c = first-link (first (goal.at.bounds-work-n c).After-handed_on-more)
+
+pub slice_bounds-result-end : goal.slice_bounds-result-end
+slice_bounds-result-end c =
+    sym (length-take-le _ _ (first-len (first (goal.at.slice_bounds-result-end c).After-handed_on-more) c.unite-len.ensures))
 
 pub returns-then-work-n-eq0 : goal.returns-then-work-n-eq0
 returns-then-work-n-eq0 c = single (first (goal.at.returns-then-work-n-eq0 c).After-handed_on-more) c.unite-len.ensures c.if-work-n-eq0.true

@@ -17,4 +17,4 @@ order_of-needs-requires c = order-given c.requires
 pub returns : goal.returns
 returns c =
     ordering-made c.requires c.order_of-needs.ensures
-    (let kept = c.order_of-needs.auto in cc c.clear64.ensures)
+    (let kept = c.order_of-needs.auto in cc (c.fill.ensures.after (λ y e. e)))

@@ -18,7 +18,7 @@ rows_needed-needed-requires c =
 pub returns-then-done-n : goal.returns-then-done-n
 returns-then-done-n c =
     let lengths = c.list_columns-done.auto in
-    rw c.answered.ensures (made-rows c.requires c.list_columns-done.ensures (search rules)
+    rw c.refuse.ensures (made-rows c.requires c.list_columns-done.ensures (search rules)
     c.if-done-n.true c.rows_needed-needed.ensures)
 
 pub order_columns-peak-requires : goal.order_columns-peak-requires
@@ -29,11 +29,11 @@ order_columns-peak-requires c =
 pub returns-then-head-peak : goal.returns-then-head-peak
 returns-then-head-peak c =
     let lengths = c.list_columns-done.auto in
-    rw c.answered-then-head-peak.ensures (made-peak c.requires c.list_columns-done.ensures (search rules)
+    rw c.refuse-then-head-peak.ensures (made-peak c.requires c.list_columns-done.ensures (search rules)
     c.if-done-n.false c.order_columns-peak.ensures c.if-head-peak.true)
 
 pub returns : goal.returns
 returns c =
     let lengths = c.list_columns-done.auto in
-    rw c.answered-2.ensures (made-done c.requires c.list_columns-done.ensures (search rules)
-    c.if-done-n.false c.order_columns-peak.ensures c.if-head-peak.false)
+    made-done c.requires c.list_columns-done.ensures (search rules)
+    c.if-done-n.false c.order_columns-peak.ensures c.if-head-peak.false

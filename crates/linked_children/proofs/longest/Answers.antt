@@ -7,7 +7,7 @@ use lib.ListN.{length}
 use Rattle.linked_children.specs.Children.{Child}
 use Rattle.linked_children.proofs.Picking.{begin, child-at, link, goes_down, takes, keeps, picked}
 use Rattle.linked_children.proofs.longest.Goals as goal
-use Rattle.linked_children.proofs.longest.Goals.{In-loop-d}
+use Rattle.linked_children.proofs.longest.Goals.{In-loop-d, then-most-rows, else-most-rows}
 
 -- In the loop d is a child, and its link has its place: the answers below cite this with `child (search)` and `place (search)`.
 child : (c : In-loop-d) → Child c.args.fstarts.now c.loop-d.d
@@ -46,26 +46,15 @@ offset_bounds-work-n c = omega (arith, place (goal.at.offset_bounds-work-n c).In
 pub bounds-work-n : goal.bounds-work-n
 bounds-work-n c = place (goal.at.bounds-work-n c).In-loop-d
 
-pub loop-d-smaller-then-most-rows : goal.loop-d-smaller-then-most-rows
-loop-d-smaller-then-most-rows c = goes_down c.loop-d.invariant c.loop-d-test.true
-
-pub loop-d-preserved-then-most-rows : goal.loop-d-preserved-then-most-rows
-loop-d-preserved-then-most-rows c = takes c.loop-d.invariant c.loop-d-test.true c.if-most-rows.true
-
-pub overflow_add-d-else-most-rows : goal.overflow_add-d-else-most-rows
-overflow_add-d-else-most-rows c = omega (arith, place (goal.at.overflow_add-d-else-most-rows c).In-loop-d, c.well_formed)
-
-pub offset_bounds-work-n-else-most-rows : goal.offset_bounds-work-n-else-most-rows
-offset_bounds-work-n-else-most-rows c = omega (arith, place (goal.at.offset_bounds-work-n-else-most-rows c).In-loop-d, c.well_formed)
-
-pub bounds-work-n-else-most-rows : goal.bounds-work-n-else-most-rows
-bounds-work-n-else-most-rows c = place (goal.at.bounds-work-n-else-most-rows c).In-loop-d
-
 pub loop-d-smaller : goal.loop-d-smaller
 loop-d-smaller c = goes_down c.loop-d.invariant c.loop-d-test.true
 
 pub loop-d-preserved : goal.loop-d-preserved
-loop-d-preserved c = keeps c.loop-d.invariant c.loop-d-test.true c.if-most-rows.false
+loop-d-preserved c =
+    elim c.if-most-rows.branch [
+      | then-most-rows w ↦ rw (w.best-is, w.most-is) (takes c.loop-d.invariant c.loop-d-test.true w.if-most-rows.true)
+      | else-most-rows w ↦ rw (w.best-is, w.most-is) (keeps c.loop-d.invariant c.loop-d-test.true w.if-most-rows.false)
+    ]
 
 pub returns : goal.returns
 returns c = picked c.loop-d.invariant c.loop-d-test.false

@@ -1,13 +1,9 @@
 -- Proves that `count_pops` writes each step's pops: a list of children is as long as the distance from its start to the next one. The pops of the
--- first k steps are written; each turn leaves one step less.
+-- first k steps are written.
 -- Assumes nothing.
-use Prim.Native.Nat.{ℕ, ◌+◌, ◌<◌, ◌≤◌}
-use mathlib.Core.Path.{◌≡◌, refl, ◌∙◌}
-use mathlib.Core.List.{List, [], ◌∷◌, map, map-append}
-use native.Mathlib.Omega.{arith}
-use native.Mathlib.Numerals.{add-one}
-use lib.ListN.{length, get_or, set, take, length-set}
-use lib.Seq.{take-suc, take_all, take-suc-set}
+use Rattle.std.proofs.Common.{ℕ, ◌+◌, ◌<◌, ◌≤◌, ◌≡◌, refl, ◌∙◌, List, [], ◌∷◌}
+use Rattle.std.proofs.Common.{map, arith, add-one, length, get_or, set, take, length-set, take-suc, take_all, take-suc-set}
+use mathlib.Core.List.{map-append}
 use Rattle.room.specs.Rows.{row_count_at}
 use Rattle.room.proofs.count_pops.Invariants.{Writing}
 use Rattle.room.proofs.count_pops.Goals as goal
@@ -40,22 +36,8 @@ module _ {starts order pops₀ pops : List ℕ} {k : ℕ} (inv : Writing starts 
 pub loop-k-init : goal.loop-k-init
 loop-k-init c = writing_start _ _ _ c.requires.room
 
-pub overflow_cast-order : goal.overflow_cast-order
-overflow_cast-order c = omega (arith, c.shared_slice_known-in-loop-k-1.given c.loop-k.k)
-
-pub count_at-requires : goal.count_at-requires
-count_at-requires c = c.requires.list c.loop-k.k (omega (arith, c.loop-k-test.true))
-
-pub overflow_cast-pops : goal.overflow_cast-pops
-overflow_cast-pops c =
-    omega (
-      arith,
-      c.count_at.ensures,
-      c.requires.small c.loop-k.k (omega (arith, c.loop-k-test.true)),
-    )
-
 pub loop-k-preserved : goal.loop-k-preserved
-loop-k-preserved c = writing-turn c.loop-k.invariant (omega (arith, c.loop-k-test.true)) c.count_at.ensures
+loop-k-preserved c = writing-turn c.loop-k.invariant c.loop-k-test.true c.count_at.ensures
 
 pub returns : goal.returns
-returns c = writing-stop c.loop-k.invariant (omega (arith, c.loop-k-test.false))
+returns c = writing-stop c.loop-k.invariant c.loop-k-test.false

@@ -1,10 +1,7 @@
 -- Proves that `count_pops` writes each step's pops: a list of children is as long as the distance from its start to the next one. The pops of the
--- first k steps are written; each turn leaves one step less.
+-- first k steps are written.
 -- Assumes nothing.
-use Prim.Native.Nat.{ℕ, ◌-◌, ◌≤◌}
-use mathlib.Core.Path.{◌≡◌}
-use mathlib.Core.List.{List, map}
-use lib.ListN.{length, take}
+use Rattle.std.proofs.Common.{ℕ, ◌≤◌, ◌≡◌, List, map, length, take}
 use Rattle.room.specs.Rows.{row_count_at}
 use Rattle.room.proofs.count_pops.Given as goal
 
@@ -16,7 +13,4 @@ pub record Writing (starts order pops₀ pops : List ℕ) (k : ℕ) : Type 0 whe
   pub long : length pops ≡ length pops₀
 
 abbrev pub invariant-loop-k : goal.invariant-loop-k
-invariant-loop-k l = Writing l.starts l.order l.initial.pops l.pops l.k
-
-abbrev pub decreases-loop-k : goal.decreases-loop-k
-decreases-loop-k l = length l.order - l.k
+invariant-loop-k l = Writing l.starts l.order l.fn.pops l.pops l.k

@@ -1,10 +1,7 @@
 -- Proves that `hold` does a step: the sums below the popped updates stay, and the new update's entries added to the last of them make the next sum,
 -- which still fits.
 -- Assumes nothing.
-use Prim.Native.Nat.{ℕ, ◌+◌, ◌-◌}
-use mathlib.Core.Path.{ap}
-use native.Mathlib.Omega.{arith}
-use lib.ListN.{get_or, set}
+use Rattle.std.proofs.Common.{ℕ, ◌+◌, ◌-◌, ap, arith, get_or, set}
 use Rattle.room.proofs.Entries.{entries_fit}
 use Rattle.room.proofs.hold.Goals as goal
 
@@ -20,6 +17,6 @@ overflow_add-below c =
 pub returns : goal.returns
 returns c = let e = c.args in
     let left = e.depth - e.pops in record {
-      counted = omega (arith, c.at_most_one.ensures);
+      counted = omega (arith, c.min.ensures);
       summed = ap (λ (v : ℕ). set e.below.now (left + 1) (get_or e.below.now left 0 + v)) c.entries.ensures;
     }

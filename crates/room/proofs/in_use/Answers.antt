@@ -1,11 +1,7 @@
 -- Proves that `in_use` computes a step's room: if the step pops, its front begins below the top update, else above all updates. The sums are small,
 -- so adding a front still fits.
 -- Assumes nothing.
-use Prim.Native.Nat.{ℕ, ◌+◌, ◌-◌, min}
-use mathlib.Core.Path.{◌≡◌}
-use mathlib.Core.List.{List}
-use native.Mathlib.Omega.{arith}
-use lib.ListN.{get_or}
+use Rattle.std.proofs.Common.{ℕ, ◌+◌, ◌-◌, min, ◌≡◌, List, arith, get_or}
 use Rattle.papers.specs.Tree.{t}
 use Rattle.room.proofs.Entries.{entries_fit}
 use Rattle.room.proofs.in_use.Goals as goal
@@ -18,7 +14,7 @@ pub overflow_add-result : goal.overflow_add-result
 overflow_add-result c =
     omega (
       arith,
-      c.requires.light (c.args.depth - c.at_most_one.result) (omega arith),
+      c.requires.light (c.args.depth - c.min.result) (omega arith),
       c.entries.ensures,
       entries_fit (c.args.rows + 1) (omega (arith, c.requires.few)),
     )
@@ -26,4 +22,4 @@ overflow_add-result c =
 pub returns : goal.returns
 returns c =
     let e = c.args in
-    room-is e.below.now e.depth e.pops e.rows c.at_most_one.ensures c.entries.ensures
+    room-is e.below.now e.depth e.pops e.rows c.min.ensures c.entries.ensures

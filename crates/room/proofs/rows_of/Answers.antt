@@ -1,7 +1,6 @@
 -- Proves that `rows_of` counts a column's rows, which are no more than the greatest number of columns.
 -- Assumes nothing.
-use mathlib.Core.Path.{refl}
-use native.Mathlib.Omega.{arith}
+use Rattle.std.proofs.Common.{refl, arith}
 use Rattle.room.specs.Rows.{row_count_in}
 use Rattle.room.proofs.rows_of.Goals as goal
 

@@ -1,5 +1,4 @@
--- Proves that `begin` files every column: in cleared work none is filed, and each turn files one more under its first pattern row. Each turn leaves
--- one column less.
+-- Proves that `begin` files every column: in cleared work none is filed, and each turn files one more under its first pattern row.
 -- Assumes nothing.
 use native.Mathlib.Omega.{arith}
 use Rattle.column_laws.proofs.Columns.{starts-long}
@@ -7,7 +6,7 @@ use Rattle.rows_needed.proofs.RowLoop.{file-none, filing-first, file-next, file-
 use Rattle.rows_needed.proofs.begin.Goals as goal
 
 pub loop-m-init : goal.loop-m-init
-loop-m-init c = file-none c.requires c.clear64.ensures
+loop-m-init c = file-none c.requires (c.fill.ensures.after (λ y e. e))
 
 pub bounds-starts-m : goal.bounds-starts-m
 bounds-starts-m c = omega (arith, starts-long c.loop-m.invariant.tested, c.loop-m-test.true)

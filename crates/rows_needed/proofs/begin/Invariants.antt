@@ -1,12 +1,7 @@
--- Proves that `begin` files every column: in cleared work none is filed, and each turn files one more under its first pattern row. Each turn leaves
--- one column less.
+-- Proves that `begin` files every column: in cleared work none is filed, and each turn files one more under its first pattern row.
 -- Assumes nothing.
-use Prim.Native.Nat.{◌-◌}
 use Rattle.rows_needed.proofs.RowLoop.{FiledTo}
 use Rattle.rows_needed.proofs.begin.Given as goal
 
 abbrev pub invariant-loop-m : goal.invariant-loop-m
 invariant-loop-m l = FiledTo l.n l.m l.starts l.rows l.initial.work l.work
-
-abbrev pub decreases-loop-m : goal.decreases-loop-m
-decreases-loop-m l = l.n - l.m

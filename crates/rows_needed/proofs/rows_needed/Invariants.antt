@@ -1,12 +1,7 @@
--- Proves that `rows_needed` counts all rows: before row m + 1 the rows up to m are counted, and the walk over a row's columns counts that row. Each
--- turn leaves one row less.
+-- Proves that `rows_needed` counts all rows: before row m + 1 the rows up to m are counted, and the walk over a row's columns counts that row.
 -- Assumes nothing.
-use Prim.Native.Nat.{◌-◌}
 use Rattle.rows_needed.proofs.RowLoop.{Rows}
 use Rattle.rows_needed.proofs.rows_needed.Given as goal
 
 abbrev pub invariant-loop-m : goal.invariant-loop-m
 invariant-loop-m l = Rows l.n l.m l.starts l.rows l.initial.parents l.initial.work l.parents l.work l.t
-
-abbrev pub decreases-loop-m : goal.decreases-loop-m
-decreases-loop-m l = l.n - l.m

@@ -1,7 +1,6 @@
 -- Proves that `column_lists` makes the lists, starts and parents: after m columns the slices hold theirs, so the next list can be gathered, and
--- stored if it fits. Each turn leaves one column less.
+-- stored if it fits.
 -- Assumes nothing.
-use Prim.Native.Nat.{◌-◌}
 use Rattle.structure.proofs.Running.{Running}
 use Rattle.structure.proofs.column_lists.Given as goal
 
@@ -9,6 +8,3 @@ abbrev pub invariant-loop-m : goal.invariant-loop-m
 invariant-loop-m l =
     Running l.n l.starts l.rows l.initial.parents l.initial.fstarts l.initial.frows l.initial.work l.initial.x l.initial.y l.parents l.fstarts l.frows
     l.work l.x l.y l.m
-
-abbrev pub decreases-loop-m : goal.decreases-loop-m
-decreases-loop-m l = l.n - l.m
