@@ -8,14 +8,14 @@ use mathlib.Core.List.{List}
 use lib.ListN.{length}
 use Rattle.papers.specs.declared.Answer.{Answer}
 use Rattle.papers.specs.Lists.{zeros, then_zeros}
-use Rattle.papers.specs.Refusals.{answer, Verdict, passed, refused, answer_of, first, Outcome, EndsAs}
+use Rattle.papers.specs.Refusals.{answer, Verdict, passed, refused, first, Outcome, EndsAs}
 use Rattle.papers.specs.Job.{Job}
 use Rattle.papers.specs.Plan.{plan_of, bytes_of_plan}
 use Rattle.papers.specs.Analysis.{Lent, all_zero, early_refusals, early_of, bytes_short, AnalysisCall, holding_plan, analysis_early, analysis_late}
 use Rattle.papers.specs.Analysis.{analysis_done, analysed, PlanLent, PlanCall, analysis_of, plan_early, plan_late, plan_done, plan_zero, plan_written}
 use Rattle.list_laws.proofs.Tests.{below_or}
 use Rattle.job_laws.proofs.Firsts.{first-append-passed, first-append-refused, first_of, first-last, over-refuses, over-passes-iff}
-use Rattle.job_laws.proofs.Outcomes.{outcome-early, outcome-late, outcome-done, early-refused, early-passes-iff, early-passed}
+use Rattle.job_laws.proofs.Outcomes.{outcome-early, outcome-late, outcome-done}
 use Rattle.plan_laws.proofs.Analysed.{same-answers, same_numbers}
 use Rattle.plan_store.specs.Beside.{stored_beside}
 use Rattle.plan_store.proofs.Besides.{beside-short, beside-whole}
@@ -26,9 +26,8 @@ module _ (job : Job) (lent : Lent) where
   same-early = first_of (λ (call : AnalysisCall). early_of call.job call.lent) early_refusals (record { job = job; lent = lent })
 
   -- a job and slices that are not refused by 1 to 7
-  pub early-on : {r : Answer} → r ≡ answer_of (first early_refusals (early_of job lent)) → r.number ≡ 0
-      → first analysis_early (record { job = job; lent = lent }) ≡ passed
-  early-on e z = same-early ∙ (early-passes-iff (early_of job lent)).1 (early-passed (early_of job lent) e z)
+  pub early-on : passed ≡ first early_refusals (early_of job lent) → first analysis_early (record { job = job; lent = lent }) ≡ passed
+  early-on e = same-early ∙ sym e
 
 module _ (job : Job) (slices : PlanLent) where
   abbrev call : PlanCall
@@ -43,12 +42,10 @@ module _ (job : Job) (slices : PlanLent) where
   early-of = first_of analysis_of analysis_early call
 
   -- 1 to 7
-  pub way-early : {r : Answer} → r ≡ answer_of (first early_refusals (early_of job slices.analysis)) → r.number ≢ 0
-      → EndsAs r slices (plan_written job slices)
+  pub way-early : {a : Answer} → refused a ≡ first early_refusals (early_of job slices.analysis) → EndsAs a slices (plan_written job slices)
   unfolding plan_written
-  way-early e z =
-      sym (outcome-early plan_early plan_late plan_done plan_zero call slices
-      (early-of ∙ same-early job slices.analysis ∙ early-refused (early_of job slices.analysis) e z))
+  way-early e =
+      sym (outcome-early plan_early plan_late plan_done plan_zero call slices (early-of ∙ same-early job slices.analysis ∙ sym e))
 
   -- 8 and 9
   pub way-refused : {r : Answer} {after : Lent} {bytes : List ℕ} → first analysis_early (record { job = job; lent = slices.analysis }) ≡ passed

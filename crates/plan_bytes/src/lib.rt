@@ -6,6 +6,7 @@ ghost use Rattle.papers.specs.Job.{job_of};
 ghost use Rattle.papers.specs.Analysis.{plan_written};
 ghost use Rattle.lent.specs.Six.{six_slices};
 
+use job::Job;
 use papers::{Answer, JobHead};
 
 // Makes a job's plan and writes it. Tests 1 to 7, then 8 and 9 as the analysis does, then 10, which counts the bytes needed; behind 7 every
@@ -34,38 +35,28 @@ pub fn write_plan(
           bytes = bytes.old;
         })) }
 {
-    let fault = lent_tests::early_fault(
-        head,
-        starts,
-        rows,
+    let job = Job { head, starts, rows };
+    if let Err(refused) = lent_tests::early_fault(
+        job,
         parents.len(),
         order.len(),
         pops.len(),
         fstarts.len(),
         work.len(),
-    );
-    if fault.number != 0 {
-        return fault;
+    ) {
+        return Answer::from(refused);
     }
-    let planned = lent_plan::planned(
-        head, starts, rows, parents, order, pops, fstarts, frows, work,
-    );
-    if planned.number != 0 {
-        lent::clear_all(parents, order, pops, fstarts, frows, work);
-        slices::clear8(bytes);
-        return planned;
+    match lent_plan::planned(job, parents, order, pops, fstarts, frows, work) {
+        Ok(peak) => {
+            let stored = plan_store::store_beside(
+                job, parents, order, pops, fstarts, frows, work, peak, bytes,
+            );
+            refusals::answer(stored)
+        }
+        Err(refused) => {
+            lent::clear_all(parents, order, pops, fstarts, frows, work);
+            bytes.fill(0);
+            Answer::from(refused)
+        }
     }
-    plan_store::store_beside(
-        head,
-        starts,
-        rows,
-        parents,
-        order,
-        pops,
-        fstarts,
-        frows,
-        work,
-        planned.count,
-        bytes,
-    )
 }

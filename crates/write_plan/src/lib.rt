@@ -2,14 +2,16 @@
 #![tactic(auto)]
 
 ghost use Rattle.papers.specs.Refusals.{EndsAs};
-ghost use Rattle.papers.specs.Job.{job_of};
 ghost use Rattle.papers.specs.Numbers.{encode};
 ghost use Rattle.papers.specs.Plan.{step_numbers, bytes_of_plan};
+ghost use Rattle.refusals.specs.Answers.{answer_from};
+ghost use Rattle.job.specs.Given.{job_given};
 ghost use Rattle.list_laws.specs.Wrote.{Wrote};
 ghost use Rattle.write_stored.specs.Stored.{stored};
 ghost use Rattle.write_plan.specs.Lists.{step_pairs, plan_in, StepsNear, Writable};
 
-use papers::{Answer, JobHead};
+use job::Job;
+use refusals::Refused;
 
 // Writes the steps from `at` on, and answers the place behind them. In the loop the first `done` are written up to next.
 pub fn write_steps(order: &[u32], pops: &[u32], bytes: &mut [u8], at: usize) -> usize
@@ -17,20 +19,16 @@ pub fn write_steps(order: &[u32], pops: &[u32], bytes: &mut [u8], at: usize) -> 
     ensures { Wrote (encode (step_numbers (step_pairs order.now pops.now))) bytes.old bytes.new at result }
 {
     let mut next = at;
-    let mut done = 0;
-    while done < order.len() {
-        next = write_number::put(bytes, next, order[done] as u64);
-        next = write_number::put(bytes, next, pops[done] as u64);
-        done += 1;
+    for done in 0..order.len() {
+        next = write_number::put(bytes, next, u64::from(order[done]));
+        next = write_number::put(bytes, next, u64::from(pops[done]));
     }
     next
 }
 
 // Writes the plan of a job to the start of a slice, as far as the slice goes, and answers the place behind it: the bytes needed.
 pub fn put_plan(
-    head: JobHead,
-    starts: &[u64],
-    rows: &[u32],
+    job: Job,
     order: &[u32],
     pops: &[u32],
     fstarts: &[u64],
@@ -38,36 +36,34 @@ pub fn put_plan(
     peak: u64,
     bytes: &mut [u8],
 ) -> usize
-    requires { Writable (job_of head starts.now rows.now) order.now pops.now fstarts.now frows.now peak }
-    ensures { Wrote (bytes_of_plan (job_of head starts.now rows.now)
-        (plan_in head.n order.now pops.now fstarts.now frows.now peak))
+    requires { Writable (job_given job) order.now pops.now fstarts.now frows.now peak }
+    ensures { Wrote (bytes_of_plan (job_given job.entry)
+        (plan_in job.entry.head.n order.now pops.now fstarts.now frows.now peak))
         bytes.old bytes.new 0 result }
 {
-    let key = key::put_key(head, starts, rows, bytes);
+    let key = key::put_key(job, bytes);
     let steps = write_steps(order, pops, bytes, key);
-    let lists = write_lists::write_lists(head.n, fstarts, frows, bytes, steps);
+    let lists = write_lists::write_lists(job.head.n, fstarts, frows, bytes, steps);
     write_number::put(bytes, lists, peak)
 }
 
-// Writes the plan of a job with these steps, lists and peak into a lent slice, then zeros. Answers 10 with the bytes needed if it does not
-// fit.
+// Writes the plan of a job with these steps, lists and peak into a lent slice, then zeros. Counts the bytes, or refuses with 10 and the
+// bytes needed if it does not fit.
 pub fn store_plan(
-    head: JobHead,
-    starts: &[u64],
-    rows: &[u32],
+    job: Job,
     order: &[u32],
     pops: &[u32],
     fstarts: &[u64],
     frows: &[u32],
     peak: u64,
     bytes: &mut [u8],
-) -> Answer
-    requires { Writable (job_of head starts.now rows.now) order.now pops.now fstarts.now frows.now peak }
-    ensures { EndsAs result bytes.new
-        (stored (bytes_of_plan (job_of head starts.now rows.now)
-        (plan_in head.n order.now pops.now fstarts.now frows.now peak))
+) -> Result<u64, Refused>
+    requires { Writable (job_given job) order.now pops.now fstarts.now frows.now peak }
+    ensures { EndsAs (answer_from result) bytes.new
+        (stored (bytes_of_plan (job_given job.entry)
+        (plan_in job.entry.head.n order.now pops.now fstarts.now frows.now peak))
         bytes.old) }
 {
-    let needed = put_plan(head, starts, rows, order, pops, fstarts, frows, peak, bytes);
+    let needed = put_plan(job, order, pops, fstarts, frows, peak, bytes);
     write_stored::finish(bytes, needed)
 }

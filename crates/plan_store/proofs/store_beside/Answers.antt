@@ -1,6 +1,7 @@
 -- Proves that `store_beside` stores the plan or refuses it: the first places lent hold the plan, and a law covers each way out.
 -- Assumes nothing.
-use mathlib.Core.Path.{sym}
+use Rattle.std.proofs.Common.{sym, ◌∙◌}
+use Rattle.refusals.proofs.Numbered.{error-numbered, done-numbered}
 use native.Mathlib.Omega.{arith}
 use lib.Seq.{length-take-le}
 use Rattle.write_plan.proofs.Planned.{few}
@@ -43,10 +44,11 @@ slice_bounds-store_plan-end-8 c = sym (length-take-le _ _ c.requires.rows_long)
 pub store_plan-stored-requires : goal.store_plan-stored-requires
 store_plan-stored-requires c = c.requires.writable
 
-pub returns-then-stored-ne0 : goal.returns-then-stored-ne0
-returns-then-stored-ne0 c =
-    refused-beside _ _ (rw c.requires.planned at c.store_plan-stored.ensures) c.if-stored-ne0.true
-    c.clear_all.ensures
+pub returns-then-is_err : goal.returns-then-is_err
+returns-then-is_err c =
+    refused-beside _ _ (rw c.requires.planned at c.store_plan-stored.ensures)
+    (error-numbered _ (sym c.is_err.ensures.value ∙ c.if-is_err.true)) c.clear_all.ensures
 
-pub returns : goal.returns
-returns c = done-beside _ _ (rw c.requires.planned at c.store_plan-stored.ensures) c.if-stored-ne0.false
+pub returns-else-is_err : goal.returns-else-is_err
+returns-else-is_err c =
+    done-beside _ _ (rw c.requires.planned at c.store_plan-stored.ensures) (done-numbered _ (sym c.is_err.ensures.value ∙ c.if-is_err.false))

@@ -1,7 +1,6 @@
--- Proves that `write_steps` stores all steps, since storing those behind the first `done` at next leaves what storing all of them leaves. Each turn
--- leaves one step less.
+-- Proves that `write_steps` stores all steps, since storing those behind the first `done` at next leaves what storing all of them leaves.
 -- Assumes nothing.
-use native.Mathlib.Omega.{arith}
+use Rattle.std.proofs.Common.{arith}
 use Rattle.list_laws.proofs.Writing.{writes-all}
 use Rattle.write_plan.proofs.Steps.{column-near, pops-near, write-turn, write-stop}
 use Rattle.write_plan.proofs.write_steps.Goals as goal
@@ -9,36 +8,30 @@ use Rattle.write_plan.proofs.write_steps.Goals as goal
 pub loop-done-init : goal.loop-done-init
 loop-done-init c = record { paired = c.requires.paired; written = writes-all; few = c.requires.few }
 
-pub overflow_cast-order : goal.overflow_cast-order
-overflow_cast-order c = omega (arith, c.shared_slice_known-in-loop-done-1.given c.loop-done.done)
-
 pub put-next-requires : goal.put-next-requires
 put-next-requires c =
     let loop = c.loop-done in
     record {
-      fits = omega (arith, c.shared_slice_known-in-loop-done-1.given loop.done);
+      fits = omega (arith, c.from.ensures, c.type_inv.order loop.done);
       near = omega (arith, column-near loop.invariant, c.requires.near);
     }
-
-pub overflow_cast-pops : goal.overflow_cast-pops
-overflow_cast-pops c = omega (arith, c.shared_slice_known-in-loop-done-2-1.given c.loop-done.done)
 
 pub put-next-requires-in-loop-done : goal.put-next-requires-in-loop-done
 put-next-requires-in-loop-done c =
     let loop = c.loop-done in
     record {
-      fits = omega (arith, c.shared_slice_known-in-loop-done-2-1.given loop.done);
+      fits = omega (arith, c.from-in-loop-done.ensures, c.type_inv.pops loop.done);
       near = omega (
         arith,
-        pops-near loop.invariant c.loop-done-test.true c.put-next.ensures,
+        pops-near loop.invariant c.loop-done-test.true (rw c.from.ensures at c.put-next.ensures),
         c.requires.near,
       );
     }
 
 pub loop-done-preserved : goal.loop-done-preserved
 loop-done-preserved c =
-    write-turn c.loop-done.invariant c.loop-done-test.true c.put-next.ensures
-    c.put-next-in-loop-done.ensures
+    write-turn c.loop-done.invariant c.loop-done-test.true (rw c.from.ensures at c.put-next.ensures)
+    (rw c.from-in-loop-done.ensures at c.put-next-in-loop-done.ensures)
 
 pub returns : goal.returns
 returns c = write-stop c.loop-done.invariant c.loop-done-test.false
