@@ -59,9 +59,7 @@ pub fn arrange(
     if mark == 0 {
         return;
     }
-    let mut j = 1;
-    while j <= list.len() {
+    for j in 1..list.len() + 1 {
         arrange_at(mark, factor, list, scratch, work, j, w, k);
-        j += 1;
     }
 }

@@ -45,6 +45,7 @@ pub fn column(
         size: left,
         at,
     };
+    // A while: each turn goes down to the child that is handed back.
     while 1 < b.size {
         order[b.at + b.size - 1] = b.column as u32;
         b = siblings(starts, list, counts, b.column, b.size - 1, order, b.at);
@@ -79,6 +80,7 @@ pub fn siblings(
     let end = at + left;
     let mut a = at + kept.size;
     let mut i = first + 1;
+    // A while: a moves by as many steps as the block has that is done.
     while a < end {
         let child = child_block(list, counts, i, a);
         if child.size <= kept.size {

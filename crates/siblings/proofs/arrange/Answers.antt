@@ -1,15 +1,12 @@
--- Proves that `arrange` arranges all lists: those of the columns before j are arranged, and their W stored. Each turn leaves one column less.
+-- Proves that `arrange` arranges all lists: those of the columns before j are arranged, and their W stored.
 -- Assumes nothing.
-use native.Mathlib.Omega.{arith}
-use Rattle.siblings.proofs.Arranging.{none-arranged, arranging-start, arranging-stop, arranging-placed}
+use Rattle.std.proofs.Common.{arith}
+use Rattle.siblings.proofs.Arranging.{none-arranged, arranging-stop, arranging-placed}
 use Rattle.siblings.proofs.OneArranged.{arranging-turn}
 use Rattle.siblings.proofs.arrange.Goals as goal
 
 pub returns-then-mark-eq0 : goal.returns-then-mark-eq0
 returns-then-mark-eq0 c = none-arranged c.requires c.if-mark-eq0.true
-
-pub loop-j-init : goal.loop-j-init
-loop-j-init c = arranging-start c.requires
 
 pub arrange_at-requires : goal.arrange_at-requires
 arrange_at-requires c =
@@ -27,4 +24,4 @@ loop-j-preserved c =
     (omega arith) (omega arith) (omega arith)
 
 pub returns : goal.returns
-returns c = arranging-stop c.requires c.loop-j.invariant c.loop-j-test.false
+returns c = arranging-stop c.requires c.loop-j.invariant (omega (arith, c.loop-j-test.false, c.loop-j.invariant.list-long))

@@ -1,10 +1,7 @@
 -- Proves that `arrange_at` sorts the children in their place: they are between the column's start and the next one, and come back there sorted.
 -- Assumes nothing.
-use Rattle.siblings.proofs.Placing.{placed-kids, placed-done}
+use Rattle.siblings.proofs.Placing.{placed-done}
 use Rattle.siblings.proofs.arrange_at.Goals as goal
-
-pub sort_kids-requires : goal.sort_kids-requires
-sort_kids-requires c = placed-kids c.requires
 
 pub returns : goal.returns
 returns c = placed-done c.requires c.sort_kids.ensures

@@ -3,34 +3,20 @@
 -- than were left.
 -- Assumes nothing.
 use Rattle.std.proofs.Common.{arith, rules}
-use Rattle.walk.proofs.Down.{down-start, down-size, down-last, down-task, down-leaf, down_turn}
+use Rattle.walk.proofs.Down.{down-task, down-leaf, down_turn}
 use Rattle.walk.proofs.OneKept.{first-listed, first_fits, first-kept, kept-stop}
-use Rattle.walk.proofs.OneKept.{next-listed, two-fit, next-task, kept-task, next-kept, child-kept}
+use Rattle.walk.proofs.OneKept.{next-listed, two-fit, next-task, next-kept, child-kept}
 use Rattle.walk.proofs.+column_siblings.Goals as goal
 
 -- ---- the column's task
-
-pub column-loop-b-init : goal.column-loop-b-init
-column-loop-b-init t c = down-start c.requires
-
-pub column-bounds-order-b : goal.column-bounds-order-b
-column-bounds-order-b t c = omega (arith, down-size c.loop-b.invariant, down-last c.loop-b.invariant)
 
 pub column-siblings-b-requires : goal.column-siblings-b-requires
 column-siblings-b-requires t c =
     let inv = c.loop-b.invariant in
     (omega (arith, c.loop-b-test.true, inv.task.asks.fits, inv.after), down-task inv c.loop-b-test.true)
 
-pub column-loop-b-smaller : goal.column-loop-b-smaller
-column-loop-b-smaller t c =
-    let handed = c.siblings-b.ensures in
-    omega (arith, c.loop-b-test.true, handed.asks.asks.fits, handed.within.0)
-
 pub column-loop-b-preserved : goal.column-loop-b-preserved
 column-loop-b-preserved t c = down_turn c.loop-b.invariant c.loop-b-test.true c.siblings-b.ensures (omega arith)
-
-pub column-bounds-order-leaf : goal.column-bounds-order-leaf
-column-bounds-order-leaf t c = omega (arith, down-size c.loop-b.invariant, down-last c.loop-b.invariant)
 
 pub column-returns : goal.column-returns
 column-returns t c = down-leaf c.loop-b.invariant c.loop-b-test.false
@@ -63,11 +49,6 @@ siblings-column-requires t c =
     let child = c.child_block-child.ensures in
     (omega (arith, two-fit inv more child, c.if-child-kept.true), next-task inv more child)
 
-pub siblings-overflow_add-a-then-child-kept : goal.siblings-overflow_add-a-then-child-kept
-siblings-overflow_add-a-then-child-kept t c =
-    let fits = two-fit c.loop-a.invariant c.loop-a-test.true c.child_block-child.ensures in
-    search rules
-
 pub siblings-overflow_add-i-then-child-kept : goal.siblings-overflow_add-i-then-child-kept
 siblings-overflow_add-i-then-child-kept t c =
     let fits = two-fit c.loop-a.invariant c.loop-a-test.true c.child_block-child.ensures in
@@ -76,13 +57,6 @@ siblings-overflow_add-i-then-child-kept t c =
 pub siblings-loop-a-preserved-then-child-kept : goal.siblings-loop-a-preserved-then-child-kept
 siblings-loop-a-preserved-then-child-kept t c =
     next-kept c.loop-a.invariant c.loop-a-test.true c.child_block-child.ensures c.column.ensures
-
-pub siblings-column-requires-else-child-kept : goal.siblings-column-requires-else-child-kept
-siblings-column-requires-else-child-kept t c =
-    let inv = c.loop-a.invariant in
-    let more = c.loop-a-test.true in
-    let child = c.child_block-child.ensures in
-    (omega (arith, two-fit inv more child, c.if-child-kept.false), kept-task inv more child)
 
 pub siblings-overflow_add-a-else-child-kept : goal.siblings-overflow_add-a-else-child-kept
 siblings-overflow_add-a-else-child-kept t c =
@@ -97,6 +71,3 @@ siblings-overflow_add-i-else-child-kept t c =
 pub siblings-loop-a-preserved : goal.siblings-loop-a-preserved
 siblings-loop-a-preserved t c =
     child-kept c.loop-a.invariant c.loop-a-test.true c.child_block-child.ensures c.column-else-child-kept.ensures
-
-pub siblings-returns : goal.siblings-returns
-siblings-returns t c = kept-stop c.loop-a.invariant c.loop-a-test.false

@@ -1,6 +1,6 @@
 -- Proves that `child_block` gives a child's block: it reads the child from its place in the lists, and counts its descendants and itself.
 -- Assumes nothing.
-use mathlib.Core.Path.{refl}
+use Rattle.std.proofs.Common.{refl}
 use Rattle.walk.proofs.child_block.Goals as goal
 
 pub returns : goal.returns
