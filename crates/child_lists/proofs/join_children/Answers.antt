@@ -2,7 +2,7 @@
 -- since every marked row is in the list. Each turn d falls, since the chain descends.
 -- Assumes nothing.
 use Rattle.std.proofs.Common.{◌+◌, ◌<◌, ◌∙◌, length, sym, refl, arith}
-use Rattle.child_lists.proofs.Joining.{begin, stop}
+use Rattle.child_lists.proofs.Joining.{stop}
 use Rattle.child_lists.proofs.NextChild.{child-at, falls, link-first, falls-marked, markable, fits, passes_over, joins}
 use Rattle.child_lists.proofs.join_children.Goals as goal
 use Rattle.child_lists.proofs.join_children.Goals.{In-loop-d, then-not-covered, else-not-covered}
@@ -10,9 +10,6 @@ use Rattle.child_lists.proofs.join_children.Goals.{In-loop-d, then-not-covered, 
 -- In the loop the link of d has its place in work: the answers below cite this.
 place : (c : In-loop-d) → c.args.n + c.loop-d.d < length c.args.work.now
 place c = link-first c.loop-d.invariant c.loop-d-test.true
-
-pub loop-d-init : goal.loop-d-init
-loop-d-init c = begin c.requires
 
 pub handed_on-more-requires : goal.handed_on-more-requires
 handed_on-more-requires c = child-at c.loop-d.invariant c.loop-d-test.true

@@ -3,7 +3,7 @@
 use Prim.Native.Nat.{◌+◌, ◌<◌}
 use native.Mathlib.Omega.{arith}
 use lib.ListN.{length, get_or}
-use Rattle.child_lists.proofs.Marks.{mark-begin, mark-turn, mark-stop, mark-place}
+use Rattle.child_lists.proofs.Marks.{mark-turn, mark-stop, mark-place}
 use Rattle.child_lists.proofs.mark.Goals as goal
 use Rattle.child_lists.proofs.mark.Goals.{In-loop-row}
 
@@ -11,15 +11,6 @@ use Rattle.child_lists.proofs.mark.Goals.{In-loop-row}
 place : (c : In-loop-row) → c.args.n + c.args.n + get_or c.args.list.now c.loop-row.row-index 0
     < length c.args.work.now
 place c = mark-place c.requires _ c.loop-row-test.true
-
-pub loop-row-init : goal.loop-row-init
-loop-row-init c = mark-begin _ _ _ _
-
-pub overflow_add-work-in-loop-row : goal.overflow_add-work-in-loop-row
-overflow_add-work-in-loop-row c = omega (arith, place (goal.at.overflow_add-work-in-loop-row c).In-loop-row, c.well_formed)
-
-pub offset_bounds-work-n : goal.offset_bounds-work-n
-offset_bounds-work-n c = omega (arith, place (goal.at.offset_bounds-work-n c).In-loop-row, c.well_formed)
 
 pub bounds-work-n : goal.bounds-work-n
 bounds-work-n c = omega (arith, place (goal.at.bounds-work-n c).In-loop-row, c.loop-row.invariant.long)

@@ -5,7 +5,7 @@ use Prim.Native.Nat.{◌+◌, ◌<◌}
 use native.Mathlib.Omega.{arith}
 use lib.ListN.{length}
 use Rattle.linked_children.specs.Children.{Child}
-use Rattle.linked_children.proofs.Picking.{begin, child-at, link, goes_down, takes, keeps, picked}
+use Rattle.linked_children.proofs.Picking.{child-at, link, goes_down, takes, keeps, picked}
 use Rattle.linked_children.proofs.longest.Goals as goal
 use Rattle.linked_children.proofs.longest.Goals.{In-loop-d, then-most-rows, else-most-rows}
 
@@ -16,17 +16,11 @@ child c = child-at c.loop-d.invariant c.loop-d-test.true
 place : (c : In-loop-d) → c.args.n + c.loop-d.d < length c.args.work.now
 place c = link c.loop-d.invariant c.loop-d-test.true
 
-pub loop-d-init : goal.loop-d-init
-loop-d-init c = begin c.requires
-
 pub offset_bounds-fstarts-d : goal.offset_bounds-fstarts-d
 offset_bounds-fstarts-d c = omega (arith, child (goal.at.offset_bounds-fstarts-d c).In-loop-d)
 
 pub bounds-fstarts-d : goal.bounds-fstarts-d
 bounds-fstarts-d c = (child (goal.at.bounds-fstarts-d c).In-loop-d).started
-
-pub overflow_sub-rows : goal.overflow_sub-rows
-overflow_sub-rows c = omega (arith, child (goal.at.overflow_sub-rows c).In-loop-d)
 
 pub offset_bounds-fstarts-d-in-loop-d : goal.offset_bounds-fstarts-d-in-loop-d
 offset_bounds-fstarts-d-in-loop-d c = omega (arith, child (goal.at.offset_bounds-fstarts-d-in-loop-d c).In-loop-d)
