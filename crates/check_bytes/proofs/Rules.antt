@@ -24,45 +24,24 @@ use Rattle.lent.specs.Six.{six_slices}
 use Rattle.lent.proofs.Sixes.{each-zero}
 use Rattle.lent.proofs.Alike.{Alike, long-alike}
 use Rattle.column_laws.proofs.Testing.{tested}
-use Rattle.check_numbers.specs.declared.KeyMatch.{KeyMatch}
-use Rattle.check_numbers.specs.declared.KeyMatch.TheVariants.{Begins, Differs}
 use Rattle.check_key.specs.Matches.{key_match}
 use Rattle.check_key.proofs.Answers.{begins-key}
 use Rattle.read_plan.specs.declared.PlanFound.{PlanFound}
-use Rattle.read_plan.specs.declared.PlanReading.{PlanReading}
-use Rattle.read_plan.specs.declared.PlanReading.TheVariants.{Whole, Faulty}
-use Rattle.read_plan.specs.Plans.{PlanAsked, plan_reading, PlanKept, PlanTold}
-use Rattle.check_judge.specs.Judged.{plan_from, PlanAtStart, HoldPlan, ruling, Judged}
+use Rattle.std.proofs.Common.{Result, Ok, Err}
+use Rattle.refusals.specs.declared.Fault.{Fault}
+use Rattle.refusals.specs.Answers.{answer_refusing, refused_without_count}
+use Rattle.refusals.proofs.Numbered.{number-not-zero}
+use Rattle.read_fields.specs.Reading.{bad_from_fault}
+use Rattle.read_plan.specs.Plans.{PlanAsked, PlanKept, PlanRead}
+use Rattle.check_judge.specs.Judged.{plan_from, PlanAtStart, HoldPlan, PlanGiven, ruling, Judged}
 use Rattle.check_judge.proofs.Rulings.{Told, refusal, clean, told, number_of}
-use Rattle.check_bytes.specs.Ruled.{check_of, Checkable, Ruled, refuses, passes, Judgeable, Followed, fault, too_many_rows, judged}
+use Rattle.check_bytes.specs.Ruled.{check_of, Checkable, Ruled, refuses, passes}
 use Rattle.check_bytes.proofs.Ways.{early-passes, refuses-11, passes-11, refuses-12, refuses-8, from-16}
 use Rattle.check_bytes.proofs.AtStart.{in-slices, plan-at-start, done-holds}
 
 -- clearing keeps the lengths
 zero-long : (l₀ : List ℕ) {l : List ℕ} → l ≡ zeros l₀ → length l ≡ length l₀
 zero-long l₀ e = ap length e ∙ length-replicate (length l₀) 0
-
--- ---- the answer of the reading
-
-pub reading-faulty : (found : Read Plan) {q : PlanReading} {number place : ℕ} → q ≡ plan_reading found → q ≡ Faulty number place
-    → found ≡ bad number place
-unfolding plan_reading
-reading-faulty (got plan at) e f = absurd (let z : ◌≡◌ {A = ℕ} 0 1 = cc in omega arith)
-reading-faulty (bad number place) e f = cc
-
--- a plan was read, with this peak and this many rows in its lists
-pub record WholePlan (read-plan : Read Plan) (found : PlanFound) : Type 0 where
-  pub plan : Plan
-  pub at : ℕ
-  pub read : read-plan ≡ got plan at
-  pub declared : plan.peak ≡ found.peak
-  pub counted : length (flat plan.lists) ≡ found.rows
-
-pub reading-whole : (read-plan : Read Plan) {q : PlanReading} {found : PlanFound} → q ≡ plan_reading read-plan → q ≡ Whole found
-    → WholePlan read-plan found
-unfolding plan_reading
-reading-whole (got plan at) e f = record { plan = plan; at = at; read = refl; declared = cc; counted = cc }
-reading-whole (bad number place) e f = absurd (let z : ◌≡◌ {A = ℕ} 0 1 = cc in omega arith)
 
 -- ---- the judgement on the plan that was read
 module _ (job : Job) (bytes : List ℕ) (lent : Lent) (p : Passed job) (long : LongEnough (fixed_lengths job.n lent))
@@ -96,15 +75,15 @@ module _ (job : Job) (bytes : List ℕ) (lent : Lent) (p : Passed job) (long : L
 -- the plan begins with the job's key, and the bytes behind it, from `at` on, are to be read
 pub record Begun (job : Job) (bytes : List ℕ) (lent : Lent) (at : ℕ) : Type 0 where
   pub asked : Checkable job lent
-  pub begins : key_match (key_of job) bytes ≡ Begins at
+  pub begins : key_match (key_of job) bytes ≡ Ok at
   pub each-byte : Bytes bytes
 
 -- 11: the plan does not begin with the key
-pub ruled-key : {job : Job} {bytes : List ℕ} {lent : Lent} {parents order pops starts rows : List ℕ} {m : KeyMatch} {place : ℕ} {r : Answer}
-    → Checkable job lent → m ≡ key_match (key_of job) bytes → m ≡ Differs place → r ≡ answer 11 place 0
-    → Ruled (check_of job bytes lent) parents order pops starts rows r
-ruled-key asked matched differs e =
-    refuses (early-passes _ _ _ asked.passes asked.long) (refuses-11 _ _ _ matched differs e) (λ n. omega (arith, number_of e))
+pub ruled-key : {job : Job} {bytes : List ℕ} {lent : Lent} {parents order pops starts rows : List ℕ} {m : Result ℕ Fault} {fault : Fault}
+    → Checkable job lent → m ≡ key_match (key_of job) bytes → m ≡ Err fault
+    → Ruled (check_of job bytes lent) parents order pops starts rows (answer_refusing (refused_without_count fault))
+ruled-key {fault = fault} asked matched differs =
+    refuses (early-passes _ _ _ asked.passes asked.long) (refuses-11 _ _ _ matched differs) (number-not-zero fault.refusal)
 
 module _ {job : Job} {bytes : List ℕ} {lent : Lent} {at : ℕ} (begun : Begun job bytes lent at) where
   p : Passed job
@@ -146,73 +125,61 @@ module _ {job : Job} {bytes : List ℕ} {lent : Lent} {at : ℕ} (begun : Begun 
           starts-long = omega (arith, room);
         }
 
-    module _ {reading : PlanReading} {o q s r : List ℕ} (told : PlanTold (plan_read_from job.n bytes at) o₁ o q₁ q s₁ s r₁ r reading) where
-      answers : reading ≡ plan_reading (plan_read job bytes)
+    -- 12 to 15
+    pub ruled-faulty : {fault : Fault} {parents order pops starts rows : List ℕ} → plan_read_from job.n bytes at ≡ bad_from_fault fault
+        → Ruled (check_of job bytes lent) parents order pops starts rows (answer_refusing (refused_without_count fault))
+    unfolding plan_read
+    ruled-faulty {fault} e =
+        refuses (early-passes job bytes lent p long) (refuses-12 job bytes lent begins {fault = fault} (rw at_key at e)) (number-not-zero fault.refusal)
+
+    -- a plan was read to its end
+    module _ {found : PlanFound} {o q s r : List ℕ} (told : PlanRead (plan_read_from job.n bytes at) found o₁ o q₁ q s₁ s r₁ r) where
+      plan : Plan
+      plan = told.plan
+
+      read : plan_read job bytes ≡ got told.plan told.end
       unfolding plan_read
-      answers = rw at_key at told.answers
+      read = rw at_key at told.read
 
-      -- 12 to 15
-      ruled-faulty : {number place : ℕ} {parents : List ℕ} {a : Answer} → reading ≡ Faulty number place → a ≡ answer number place 0
-          → Ruled (check_of job bytes lent) parents o q s r a
-      ruled-faulty f e =
-          let (v, z) = refuses-12 job bytes lent begins (reading-faulty _ answers f) e in refuses (early-passes job bytes lent p long) v z
+      -- the slice of rows keeps its length
+      as_many : length r ≡ length lent.factor_rows
+      as_many = ap length told.kept.listed ∙ length-sets r₁ 0 (flat told.plan.lists) ∙ alike.rows
 
-      -- a plan was read to its end
-      module _ {found : PlanFound} (f : reading ≡ Whole found) where
-        whole : WholePlan (plan_read job bytes) found
-        whole = reading-whole _ answers f
+      -- 8
+      pub ruled-rows : {parents : List ℕ} → length r < found.rows → Ruled (check_of job bytes lent) parents o q s r (answer 8 0 found.rows)
+      ruled-rows l =
+          refuses (early-passes job bytes lent p long)
+          (rw told.counted (refuses-8 job bytes lent begins read (omega (arith, told.counted, as_many)))) (λ z. omega arith)
 
-        in-them : PlanKept whole.plan o₁ o q₁ q s₁ s r₁ r
+      -- 16 to 20 and 9: its rows fit, so the slices hold it
+      module _ (fits : found.rows ≤ length r) where
+        fit : Fit job.n told.plan
         unfolding plan_read
-        in-them = told.keeps whole.plan whole.at (ap (plan_read_from job.n bytes) at_key ∙ whole.read)
+        fit = (plan-only job.n bytes begun.each-byte told.plan (length (key_of job)) told.end read).1
 
-        -- the slice of rows keeps its length
-        as_many : length r ≡ length lent.factor_rows
-        as_many = ap length in-them.listed ∙ length-sets r₁ 0 (flat whole.plan.lists) ∙ alike.rows
+        room : length (flat told.plan.lists) ≤ length lent.factor_rows
+        room = omega (arith, told.counted, as_many)
 
-        -- 8
-        ruled-rows : {parents : List ℕ} {a : Answer} → length r < found.rows → a ≡ answer 8 0 found.rows → Ruled (check_of job bytes lent) parents o q s r a
-        ruled-rows l e =
-            refuses (early-passes job bytes lent p long) (refuses-8 job bytes lent begins whole.read (omega (arith, whole.counted, as_many))
-            (e ∙ ap (answer 8 0) (sym whole.counted))) (λ n. omega (arith, number_of e))
+        kept : InSlices told.plan lent o q s r
+        kept =
+            let each = each-zero lent _ cleared in
+            in-slices fit lent long room each.order each.pops each.starts each.rows told.kept
 
-        -- 16 to 20 and 9: its rows fit, so the slices hold it
-        module _ (fits : found.rows ≤ length r) where
-          fit : Fit job.n whole.plan
-          unfolding plan_read
-          fit = (plan-only job.n bytes begun.each-byte whole.plan (length (key_of job)) whole.at whole.read).1
+        at-start : PlanAtStart job.n told.plan found.peak o q s r
+        at-start = plan-at-start fit lent kept (sym told.declared)
 
-          room : length (flat whole.plan.lists) ≤ length lent.factor_rows
-          room = omega (arith, whole.counted, as_many)
+        -- the plan that was read can be judged
+        pub judgeable : Alike (six_slices p₁ o₁ q₁ s₁ r₁ w₁) (six_slices p₁ o q s r w₁) → PlanGiven job found.peak (six_slices p₁ o q s r w₁)
+        judgeable same = record {
+          valid = p;
+          plan = record { plan = told.plan; at-start = at-start };
+          long = long-alike same (long-alike alike long);
+        }
 
-          kept : InSlices whole.plan lent o q s r
-          kept =
-              let each = each-zero lent _ cleared in
-              in-slices fit lent long room each.order each.pops each.starts each.rows in-them
-
-          at-start : PlanAtStart job.n whole.plan found.peak o q s r
-          at-start = plan-at-start fit lent kept whole.declared
-
-          plan-stored : HoldPlan job.n found.peak o q s r
-          plan-stored = record { plan = whole.plan; at-start = at-start }
-
-          ruled-judged : {parents : List ℕ} {a : Answer} → Judged job found.peak o q s r a
-              → (a.number ≡ 0 → parents ≡ sets p₁ 0 (map (parent (pattern job)) (up_to job.n)))
-              → Ruled (check_of job bytes lent) parents o q s r a
-          ruled-judged e stores =
-              judged-plan job bytes lent p long begins whole.read room whole.declared (e whole.plan at-start)
-              (λ z. done-holds job whole.plan lent (omega (arith, long)) (each-zero lent _ cleared).parents (stores z) kept)
-
-      -- the plan that was read can be judged
-      pub judgeable : Alike (six_slices p₁ o₁ q₁ s₁ r₁ w₁) (six_slices p₁ o q s r w₁) → Judgeable job reading (six_slices p₁ o q s r w₁)
-      judgeable same = record {
-        passes = p;
-        stored = λ found f h. plan-stored f h;
-        long = long-alike same (long-alike alike long);
-      }
-
-      -- the answer that followed decides the check
-      pub ruled : {parents : List ℕ} {a : Answer} → Followed job reading p₁ o q s r parents a → Ruled (check_of job bytes lent) parents o q s r a
-      ruled (fault number place f e) = ruled-faulty f e
-      ruled (too_many_rows found f h e) = ruled-rows f h e
-      ruled (judged found f h e stores) = ruled-judged f h e stores
+        -- the judgement decides the check
+        pub ruled-judged : {parents : List ℕ} {a : Answer} → Judged job found.peak o q s r a
+            → (a.number ≡ 0 → parents ≡ sets p₁ 0 (map (parent (pattern job)) (up_to job.n)))
+            → Ruled (check_of job bytes lent) parents o q s r a
+        ruled-judged e stores =
+            judged-plan job bytes lent p long begins read room (sym told.declared) (e told.plan at-start)
+            (λ z. done-holds job told.plan lent (omega (arith, long)) (each-zero lent _ cleared).parents (stores z) kept)

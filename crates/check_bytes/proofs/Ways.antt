@@ -8,7 +8,7 @@ use native.Mathlib.Omega.{arith}
 use lib.ListN.{length}
 use Rattle.papers.specs.declared.Answer.{Answer}
 use Rattle.papers.specs.Lists.{flat, zeros}
-use Rattle.papers.specs.Refusals.{answer, passed, refused, answer_of, first, EndsAs}
+use Rattle.papers.specs.Refusals.{answer, passed, refused, first, EndsAs}
 use Rattle.papers.specs.Job.{Job}
 use Rattle.papers.specs.Numbers.{got, bad}
 use Rattle.papers.specs.Key.{key_of}
@@ -17,12 +17,14 @@ use Rattle.papers.specs.Analysis.{Lent, all_zero, fixed_lengths, LongEnough, ear
 use Rattle.papers.specs.Check.{CheckCall, other_key, bad_plan, judge_refusals, plan_refusals, check_early, check_late, check_done, checked}
 use Rattle.job_laws.specs.Passed.{Passed}
 use Rattle.job_laws.proofs.Firsts.{first_passes, first-refuses, first_of, over-refuses, over-passes-iff}
-use Rattle.job_laws.proofs.Outcomes.{outcome-early, outcome-late, outcome-done, early-refused, early-passes-iff}
-use Rattle.check_laws.proofs.PlanBytes.{read-got, read-bad, read-agree}
+use Rattle.job_laws.proofs.Outcomes.{outcome-early, outcome-late, outcome-done, early-passes-iff}
+use Rattle.check_laws.proofs.PlanBytes.{read-got, read-bad}
 use Rattle.check_laws.proofs.Check.{first-plans}
 use Rattle.lent.specs.Six.{six_slices}
-use Rattle.check_numbers.specs.declared.KeyMatch.{KeyMatch}
-use Rattle.check_numbers.specs.declared.KeyMatch.TheVariants.{Begins, Differs}
+use Rattle.std.proofs.Common.{Result, Ok, Err}
+use Rattle.refusals.specs.declared.Fault.{Fault}
+use Rattle.refusals.specs.Answers.{answer_refusing, refused_without_count}
+use Rattle.read_fields.specs.Reading.{bad_from_fault}
 use Rattle.check_key.specs.Matches.{key_match}
 use Rattle.check_key.proofs.Answers.{begins-key, differs-key}
 use Rattle.check_judge.proofs.Rulings.{at-refuses, at-passes}
@@ -38,34 +40,30 @@ module _ (job : Job) (bytes : List ℕ) (lent : Lent) where
   same-early = first_of (λ (call : CheckCall). early_of call.job call.lent) early_refusals call
 
   -- 1 to 7
-  pub way-early : {r : Answer} → r ≡ answer_of (first early_refusals (early_of job lent)) → r.number ≢ 0
-      → record { answered = r; lent = lent } ≡ checked job bytes lent
+  pub way-early : {a : Answer} → refused a ≡ first early_refusals (early_of job lent) → record { answered = a; lent = lent } ≡ checked job bytes lent
   unfolding checked
-  way-early e z = sym (outcome-early check_early check_late check_done all_zero call lent (same-early ∙ early-refused (early_of job lent) e z))
+  way-early e = sym (outcome-early check_early check_late check_done all_zero call lent (same-early ∙ sym e))
 
   pub early-passes : Passed job → LongEnough (fixed_lengths job.n lent) → first check_early call ≡ passed
   early-passes p long = same-early ∙ (early-passes-iff (early_of job lent)).1 (p, long)
 
   -- 11
-  module _ {m : KeyMatch} (e : m ≡ key_match (key_of job) bytes) where
-    pub refuses-11 : {place : ℕ} → m ≡ Differs place → {r : Answer} → r ≡ answer 11 place 0 → first check_late call ≡ refused r
+  module _ {m : Result ℕ Fault} (e : m ≡ key_match (key_of job) bytes) where
+    pub refuses-11 : {fault : Fault} → m ≡ Err fault → first check_late call ≡ refused (answer_refusing (refused_without_count fault))
     unfolding check_late
-    refuses-11 {place} d q =
-        let (f, l) = differs-key (key_of job) bytes e d in
-        first-refuses other_key _ call (at-refuses 11 place (sym f) (λ z. omega arith) ∙ ap (λ a. refused a) (sym q))
+    refuses-11 {fault} d =
+        let (is, f, l) = differs-key (key_of job) bytes e d in
+        first-refuses other_key _ call (rw is (at-refuses 11 fault.place (sym f) (λ z. omega arith)))
 
-    pub passes-11 : {next : ℕ} → m ≡ Begins next → other_key.test call ≡ passed
+    pub passes-11 : {next : ℕ} → m ≡ Ok next → other_key.test call ≡ passed
     passes-11 b = at-passes 11 refl (begins-key (key_of job) bytes e b).0
 
   module _ (begins : other_key.test call ≡ passed) where
     -- 12 to 15
-    pub refuses-12 : {number place : ℕ} → plan_read job bytes ≡ bad number place → {r : Answer} → r ≡ answer number place 0
-        → (first check_late call ≡ refused r) × (r.number ≢ 0)
+    pub refuses-12 : {fault : Fault} → plan_read job bytes ≡ bad_from_fault fault
+        → first check_late call ≡ refused (answer_refusing (refused_without_count fault))
     unfolding check_late
-    refuses-12 {number} {place} f q =
-        let refuses = read-bad call f ∙ ap (λ a. refused a) (sym q) in
-        let some = let agree = read-agree call in agree.numbered _ ((agree.same _).0 refuses) in
-        (first_passes other_key _ call begins ∙ first-refuses bad_plan _ call refuses, λ z. omega arith)
+    refuses-12 f = first_passes other_key _ call begins ∙ first-refuses bad_plan _ call (read-bad call f)
 
     module _ {plan : Plan} {at : ℕ} (read : plan_read job bytes ≡ got plan at) where
       -- the refusals of the plan that was read are left
@@ -74,11 +72,9 @@ module _ (job : Job) (bytes : List ℕ) (lent : Lent) where
       from-8 = first_passes other_key _ call begins ∙ first_passes bad_plan _ call (read-got call read) ∙ first-plans call read plan_refusals
 
       -- 8
-      pub refuses-8 : length lent.factor_rows < length (flat plan.lists) → {r : Answer} → r ≡ answer 8 0 (length (flat plan.lists))
-          → first check_late call ≡ refused r
+      pub refuses-8 : length lent.factor_rows < length (flat plan.lists) → first check_late call ≡ refused (answer 8 0 (length (flat plan.lists)))
       unfolding plan_refusals
-      refuses-8 l q =
-          from-8 ∙ first-refuses _ _ (call, plan) (over-refuses (length lent.factor_rows) _ _ l ∙ ap (λ a. refused a) (sym q))
+      refuses-8 l = from-8 ∙ first-refuses _ _ (call, plan) (over-refuses (length lent.factor_rows) _ _ l)
 
       -- 16 to 20 and 9 are left, on that plan
       pub from-16 : length (flat plan.lists) ≤ length lent.factor_rows → first check_late call ≡ first judge_refusals (plan_from job plan)
