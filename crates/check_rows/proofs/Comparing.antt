@@ -37,9 +37,6 @@ pub record Counts (f : ℕ → Bool) (l : List ℕ) (count k : ℕ) : Type 0 whe
   pub counted : count + length (keep f (drop k l)) ≡ length (keep f l)
   pub few : count ≤ k
 
-pub counts-begin : (f : ℕ → Bool) (l : List ℕ) → Counts f l 0 0
-counts-begin f l = record { counted = omega arith; few = omega arith }
-
 module _ {f : ℕ → Bool} {l : List ℕ} {count k : ℕ} (s : Counts f l count k) where
   module _ (h : k < length l) where
     pub counts-one : f (get_or l k 0) ≡ true → Counts f l (count + 1) (k + 1)

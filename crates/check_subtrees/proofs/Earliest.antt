@@ -43,9 +43,6 @@ earliest-next f {i = i} {x = x} inv h q e =
       seen = omega arith;
     }
 
-pub earliest-all : (f : ℕ → ℕ) {n i : ℕ} {first : Option ℕ} → Earlier f n first i → n ≤ i → first ≡ place_if_any (earliest f n)
-earliest-all f {n} {i} inv u = let q : i ≡ n = omega (arith, inv.seen) in rw q at inv.so_far
-
 -- ---- what it is
 
 -- either f has no step among 1 to n, or r is the least of those it has

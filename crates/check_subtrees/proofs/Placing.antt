@@ -16,7 +16,7 @@ use Rattle.list_laws.proofs.Members.{at_place}
 use Rattle.order_laws.proofs.Steps.{column-at, one-step}
 use Rattle.tree.specs.Parents.{parent_in}
 use Rattle.tree.proofs.Children.{parent_is, parent-low}
-use Rattle.check_subtrees.specs.Steps.{EachOnce, number_for, StepOfEach}
+use Rattle.check_subtrees.specs.Steps.{EachOnce, number_for}
 use Rattle.check_subtrees.specs.Strays.{stray_step_of, PlacedAt}
 use Rattle.check_subtrees.proofs.Judged.{stray-root, stray-late, stray-early, stray-none}
 
@@ -25,9 +25,6 @@ pub record Writing (order steps : List ℕ) (k : ℕ) : Type 0 where
   pub done : (i : ℕ) → i < k → number_for steps (get_or order i 0) ≡ i + 1
   pub seen : k ≤ length order
   pub long : length steps ≡ length order + 1
-
-pub writing_start : (order steps : List ℕ) → length steps ≡ length order + 1 → Writing order steps 0
-writing_start order steps h = record { done = λ i l. absurd (omega arith); seen = omega arith; long = h }
 
 module _ {order : List ℕ} (each : EachOnce (length order) order) where
   -- a step's column has a place in the slice
@@ -50,9 +47,6 @@ module _ {order : List ℕ} (each : EachOnce (length order) order) where
       go i (inl l) u = get_or-set_other steps (get_or order k 0) (get_or order i 0) (k + 1) 0 (other i k l h) ∙ inv.done i l
       go i (inr l) u =
           let e : i ≡ k = omega arith in rw e (get_or-set_same steps (get_or order k 0) (k + 1) 0 (omega (arith, inv.long, column_fits k h)))
-
-pub writing-stop : {order steps : List ℕ} {k : ℕ} → Writing order steps k → length order ≤ k → StepOfEach order steps
-writing-stop inv h = record { each = λ i l. inv.done i (omega arith) }
 
 -- ---- the column at place i, and p its parent
 module _ (parents steps below : List ℕ) (i : ℕ) where

@@ -1,7 +1,7 @@
 -- Proves that the two parts of work, the steps and the counts, judge the columns, and that the least stray step is the answer.
 -- Assumes nothing.
 use Prim.Native.Nat.{ℕ, ◌+◌, ◌-◌, ◌≤◌}
-use mathlib.Core.Path.{◌≡◌, sym, ap, ◌∙◌}
+use mathlib.Core.Path.{◌≡◌, ap, ◌∙◌}
 use mathlib.Core.List.{List, ◌++◌}
 use native.Mathlib.Omega.{arith}
 use lib.ListN.{length, take, drop, length-append, length-drop}
@@ -16,7 +16,7 @@ use Rattle.refusals.specs.Answers.{place_if_any}
 use Rattle.tree.specs.Parents.{parent_in}
 use Rattle.tree.specs.Laid.{Descendants}
 use Rattle.tree.proofs.Parts.{start_is, back_is}
-use Rattle.check_subtrees.specs.Steps.{number_for, StepOfEach, StepsWritable, OrderGiven}
+use Rattle.check_subtrees.specs.Steps.{number_for, StepOfEach, OrderGiven}
 use Rattle.check_subtrees.specs.Strays.{stray_step_of, earliest, Placed}
 use Rattle.check_subtrees.proofs.Counts.{order-has, subtree-count, subtree-few}
 use Rattle.check_subtrees.proofs.Windows.{Listing, step_range}
@@ -26,11 +26,8 @@ module _ {parents order work : List ℕ} (given : OrderGiven parents order work)
   abbrev m : ℕ
   m = length parents + 1
 
-  pub start-long : length (take m work) ≡ m
+  start-long : length (take m work) ≡ m
   start-long = length-take-le m work (omega (arith, given.room))
-
-  pub steps-asked : StepsWritable order (take m work)
-  steps-asked = record { each = rw given.long given.each; long = omega (arith, given.long, start-long) }
 
   module _ {steps below : List ℕ} (stepped : StepOfEach order steps) (counts : Descendants parents below) where
     step_is : (s : ℕ) → 1 ≤ s → s ≤ length parents → number_for steps (column_at_step order s) ≡ s
@@ -78,9 +75,6 @@ module _ {parents order work : List ℕ} (given : OrderGiven parents order work)
       back-length =
           back-kept ∙ (part_length m (m + m) (s ++ drop m work) (omega arith)
           (omega (arith, length-append s (drop m work), length-drop m work, start-length, given.room)) ∙ omega arith)
-
-      pub start-room : m ≡ length (take m both)
-      start-room = sym (ap length at-start ∙ start-length)
 
       pub stray-asked : Placed parents (take m both) (part m (m + m) both)
       stray-asked = rw (at-start, back) (placed stepped counts start-length back-length)

@@ -2,7 +2,7 @@
 -- if it differs it is the first.
 -- Assumes nothing.
 use native.Mathlib.Omega.{arith}
-use Rattle.check_lists.proofs.Passing.{pass-begin, long-p, pass_all, pass-part, pass-next, pass-wrong, pass-hangable, pass_on}
+use Rattle.check_lists.proofs.Passing.{pass-begin, pass_all, pass-part, pass-next, pass-wrong, pass-hangable, pass_on}
 use Rattle.check_lists.proofs.first_wrong_list.Goals as goal
 
 pub loop-m-init : goal.loop-m-init
@@ -18,9 +18,6 @@ pub returns-then-not-is_right : goal.returns-then-not-is_right
 returns-then-not-is_right c =
     pass-wrong c.loop-m.invariant c.loop-m-test.true c.pattern_rows-list.ensures
     c.is_right.ensures c.if-not-is_right.true
-
-pub bounds-parents-m : goal.bounds-parents-m
-bounds-parents-m c = omega (arith, long-p c.loop-m.invariant, c.requires.parents-long)
 
 pub hang-requires : goal.hang-requires
 hang-requires c =

@@ -2,12 +2,8 @@
 -- differs; one with as many is R(m + 1) exactly if all its rows are marked.
 -- Assumes nothing.
 use mathlib.Core.Path.{◌∙◌}
-use native.Mathlib.Omega.{arith}
-use Rattle.check_marks.proofs.Judging.{not-as-many, as_many, list-markable}
+use Rattle.check_marks.proofs.Judging.{not-as-many, as_many}
 use Rattle.check_marks.proofs.is_all_marked.Goals as goal
-
-pub mark_column-requires : goal.mark_column-requires
-mark_column-requires c = c.requires.next
 
 pub returns-then-list-mark_column : goal.returns-then-list-mark_column
 returns-then-list-mark_column c =
@@ -15,9 +11,6 @@ returns-then-list-mark_column c =
       answers = not-as-many c.mark_column.ensures _ c.if-list-mark_column.true;
       changed = c.mark_column.ensures.changed;
     }
-
-pub covered-requires : goal.covered-requires
-covered-requires c = list-markable c.requires (omega arith)
 
 pub returns : goal.returns
 returns c =

@@ -1,11 +1,10 @@
 -- Proves that `count_marked` counts the marked rows: the count and the marked rows among those left make them all.
 -- Assumes nothing.
 use Prim.Native.Nat.{◌+◌, ◌<◌}
-use native.Mathlib.Omega.{arith}
 use lib.ListN.{length, get_or}
 use borrow.Author.Tests.{eq-eqb, ne_eqb}
 use Rattle.child_lists.proofs.Marks.{mark-place}
-use Rattle.check_rows.proofs.Comparing.{counts-begin, counts-one, counts-none, counts_end}
+use Rattle.check_rows.proofs.Comparing.{counts-one, counts-none, counts_end}
 use Rattle.check_rows.proofs.count_marked.Goals as goal
 use Rattle.check_rows.proofs.count_marked.Goals.{In-loop-row, then-work-n, else-work-n}
 
@@ -13,15 +12,6 @@ use Rattle.check_rows.proofs.count_marked.Goals.{In-loop-row, then-work-n, else-
 place : (c : In-loop-row) → c.args.n + c.args.n + get_or c.args.list.now c.loop-row.row-index 0
     < length c.args.work.now
 place c = mark-place c.requires _ c.loop-row-test.true
-
-pub loop-row-init : goal.loop-row-init
-loop-row-init c = counts-begin _ _
-
-pub overflow_add-n-in-loop-row : goal.overflow_add-n-in-loop-row
-overflow_add-n-in-loop-row c = omega (arith, place (goal.at.overflow_add-n-in-loop-row c).In-loop-row, c.well_formed)
-
-pub offset_bounds-work-n : goal.offset_bounds-work-n
-offset_bounds-work-n c = omega (arith, place (goal.at.offset_bounds-work-n c).In-loop-row, c.well_formed)
 
 pub bounds-work-n : goal.bounds-work-n
 bounds-work-n c = place (goal.at.bounds-work-n c).In-loop-row

@@ -1,7 +1,6 @@
 -- Proves that `stray_step` answers by the definition, a case for each way out. Steps and counts are no greater than the number of columns, so every
 -- sum fits.
 -- Assumes nothing.
-use borrow.Author.Rules.{rules}
 use Rattle.check_subtrees.proofs.Placing.{root-judged, late-judged, early-judged, none-judged, Fitting, sums-fit}
 use Rattle.check_subtrees.proofs.stray_step.Goals as goal
 use Rattle.check_subtrees.proofs.stray_step.Goals.{Else-p-eq0, else-own-top-via-then-own-top+else-top-below, else-own-top-via-else-own-top}
@@ -14,23 +13,8 @@ fitting c = sums-fit _ _ _ _ c.requires c.if-p-eq0.false
 pub returns-then-p-eq0 : goal.returns-then-p-eq0
 returns-then-p-eq0 c = root-judged _ c.args.steps.now c.args.below.now _ c.if-p-eq0.true
 
-pub offset_bounds-steps-p : goal.offset_bounds-steps-p
-offset_bounds-steps-p c = let h = fitting (goal.at.offset_bounds-steps-p c).Else-p-eq0 in search rules
-
 pub bounds-steps-p : goal.bounds-steps-p
 bounds-steps-p c = (fitting (goal.at.bounds-steps-p c).Else-p-eq0).step
-
-pub overflow_add-top : goal.overflow_add-top
-overflow_add-top c = let h = fitting (goal.at.overflow_add-top c).Else-p-eq0 in search rules
-
-pub offset_bounds-below-p : goal.offset_bounds-below-p
-offset_bounds-below-p c = let h = fitting (goal.at.offset_bounds-below-p c).Else-p-eq0 in search rules
-
-pub bounds-below-p : goal.bounds-below-p
-bounds-below-p c = (fitting (goal.at.bounds-below-p c).Else-p-eq0).count
-
-pub overflow_add-own-then-own-top : goal.overflow_add-own-then-own-top
-overflow_add-own-then-own-top c = let h = fitting (goal.at.overflow_add-own-then-own-top c).Else-p-eq0 in search rules
 
 pub returns-then-top-below : goal.returns-then-top-below
 returns-then-top-below c =
