@@ -40,11 +40,10 @@ pub fn analyse(
     ) {
         return Answer::from(refused);
     }
-    match lent_plan::planned(job, parents, order, pops, fstarts, frows, work) {
-        Ok(peak) => refusals::done(peak),
-        Err(refused) => {
-            lent::clear_all(parents, order, pops, fstarts, frows, work);
-            Answer::from(refused)
-        }
+    let plan = lent_plan::planned(job, parents, order, pops, fstarts, frows, work);
+    let answer = refusals::answer(plan);
+    if plan.is_err() {
+        lent::clear_all(parents, order, pops, fstarts, frows, work);
     }
+    answer
 }

@@ -1,9 +1,9 @@
 -- Proves that `analyse` makes its tests in the order of their numbers. A job or slices that fail one of 1 to 7 are answered by it; else the
 -- answer is that of making the plan, and a refusal clears the slices.
 -- Assumes nothing.
-use Rattle.std.proofs.Common.{rules, sym, refl}
+use Rattle.std.proofs.Common.{rules, sym, ◌∙◌}
 use Rattle.job_laws.proofs.Outcomes.{early-passes-iff}
-use Rattle.refusals.proofs.Numbered.{number-not-zero}
+use Rattle.refusals.proofs.Numbered.{error-numbered, done-numbered}
 use Rattle.lent_plan.proofs.Ways.{way-early}
 use Rattle.lent_plan.proofs.Made.{made-cleared}
 use Rattle.analysis.proofs.analyse.Goals as goal
@@ -15,15 +15,18 @@ returns-in-Err c = rw c.from.ensures (way-early _ _ c.in-Err.ensures)
 
 -- ---- the plan, or 8 or 9
 
-pub planned-requires : goal.planned-requires
-planned-requires c =
+pub planned-plan-requires : goal.planned-plan-requires
+planned-plan-requires c =
     let (passes, long) = (early-passes-iff _).0 (sym c.in_default.ensures) in
     record { passes = passes; long = long }
 
-pub returns-in-Ok : goal.returns-in-Ok
-returns-in-Ok c = rw c.done.ensures (c.in-Ok.ensures.done refl)
+pub returns-then-is_err : goal.returns-then-is_err
+returns-then-is_err c =
+    let lengths = c.planned-plan.auto in
+    let refused = error-numbered c.planned-plan.result (sym c.is_err.ensures.value ∙ c.if-is_err.true) in
+    rw c.answer-answer.ensures (made-cleared c.planned-plan.ensures (search rules) refused c.clear_all.ensures)
 
-pub returns-in-Err-planned : goal.returns-in-Err-planned
-returns-in-Err-planned c =
-    let lengths = c.planned.auto in
-    rw c.from-in-Err-planned.ensures (made-cleared c.in-Err-planned.ensures (search rules) (number-not-zero _) c.clear_all.ensures)
+pub returns-else-is_err : goal.returns-else-is_err
+returns-else-is_err c =
+    let done = done-numbered c.planned-plan.result (sym c.is_err.ensures.value ∙ c.if-is_err.false) in
+    rw c.answer-answer.ensures (c.planned-plan.ensures.done done)
