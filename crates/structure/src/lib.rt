@@ -8,7 +8,7 @@ ghost use Rattle.papers.specs.Job.{column_of};
 ghost use Rattle.structure.specs.Hanging.{hanging, Hangable};
 ghost use Rattle.structure.specs.Listed.{Storable, Stores, Listable, ColumnsListed};
 
-// Hangs column c under its parent p, before the children that p has already. A root is not hung.
+// Hangs column c under its parent p, before the children that p has already. A root, whose parent is written 0 as in a plan, is not hung.
 pub fn hang(n: usize, p: usize, c: usize, work: &mut [u64])
     requires { Hangable n p c work.old }
     ensures { work.new ≡ hanging n p c work.old }
@@ -42,7 +42,7 @@ pub fn store(
     hang(n, p as usize, m + 1, work);
 }
 
-// The least row of a list, which is its first; 0 if the list is empty.
+// The least row of a list, which is its first; 0 if the list is empty, as a plan writes the parent of a root.
 pub fn least(list: &[u32]) -> u32
     ensures { result ≡ head0 list.now }
 {

@@ -2,11 +2,8 @@
 -- Assumes nothing.
 use native.Mathlib.Omega.{arith}
 use Rattle.column_laws.proofs.Columns.{starts-long}
-use Rattle.rows_needed.proofs.RowLoop.{file-none, filing-first, file-next, file-all}
+use Rattle.rows_needed.proofs.RowLoop.{filing-first, file-next}
 use Rattle.rows_needed.proofs.begin.Goals as goal
-
-pub loop-m-init : goal.loop-m-init
-loop-m-init c = file-none c.requires (c.fill.ensures.after (λ y e. e))
 
 pub bounds-starts-m : goal.bounds-starts-m
 bounds-starts-m c = omega (arith, starts-long c.loop-m.invariant.tested, c.loop-m-test.true)
@@ -18,6 +15,3 @@ pub loop-m-preserved : goal.loop-m-preserved
 loop-m-preserved c =
     file-next c.loop-m.invariant c.loop-m-test.true c.file.ensures
     (omega arith)
-
-pub returns : goal.returns
-returns c = file-all c.loop-m.invariant c.loop-m-test.false

@@ -2,7 +2,6 @@
 -- Each turn leaves fewer rows ahead.
 -- Assumes nothing.
 use Prim.Native.Nat.{◌+◌, ◌<◌}
-use mathlib.Core.Path.{refl}
 use native.Mathlib.Omega.{arith}
 use lib.ListN.{length}
 use Rattle.rows_needed.proofs.Walks.{column, climbing, step_fits, filing, walked, falls}
@@ -15,12 +14,6 @@ place : (c : In-loop-c) → c.args.n + c.args.n + c.args.n + c.loop-c.c
 place c =
     omega (arith, column c.loop-c.invariant.walk c.loop-c-test.true, c.loop-c.invariant.walk.buckets.long, c.loop-c.invariant.long-w)
 
-pub loop-c-init : goal.loop-c-init
-loop-c-init c = record { walk = c.requires; long-p = refl; long-w = refl }
-
-pub overflow_add-next : goal.overflow_add-next
-overflow_add-next c = omega (arith, place (goal.at.overflow_add-next c).In-loop-c, c.well_formed)
-
 pub overflow_add-next-in-loop-c : goal.overflow_add-next-in-loop-c
 overflow_add-next-in-loop-c c = omega (arith, place (goal.at.overflow_add-next-in-loop-c c).In-loop-c, c.well_formed)
 
@@ -32,18 +25,6 @@ bounds-work-n-in-loop-c c = omega (arith, place (goal.at.bounds-work-n-in-loop-c
 
 pub climb-t-requires : goal.climb-t-requires
 climb-t-requires c = climbing c.loop-c.invariant.walk c.loop-c-test.true
-
-pub overflow_add-q : goal.overflow_add-q
-overflow_add-q c = omega (arith, place (goal.at.overflow_add-q c).In-loop-c, c.well_formed)
-
-pub overflow_add-q-in-loop-c : goal.overflow_add-q-in-loop-c
-overflow_add-q-in-loop-c c = omega (arith, place (goal.at.overflow_add-q-in-loop-c c).In-loop-c, c.well_formed)
-
-pub overflow_add-q-in-loop-c-2 : goal.overflow_add-q-in-loop-c-2
-overflow_add-q-in-loop-c-2 c = omega (arith, place (goal.at.overflow_add-q-in-loop-c-2 c).In-loop-c, c.well_formed)
-
-pub offset_bounds-work-n-in-loop-c-2 : goal.offset_bounds-work-n-in-loop-c-2
-offset_bounds-work-n-in-loop-c-2 c = omega (arith, place (goal.at.offset_bounds-work-n-in-loop-c-2 c).In-loop-c, c.well_formed)
 
 pub bounds-work-n-in-loop-c-2 : goal.bounds-work-n-in-loop-c-2
 bounds-work-n-in-loop-c-2 c = omega (arith, place (goal.at.bounds-work-n-in-loop-c-2 c).In-loop-c, c.loop-c.invariant.long-w)
@@ -72,12 +53,3 @@ loop-c-preserved c =
       long-p = omega (arith, c.loop-c.invariant.long-p);
       long-w = omega (arith, c.loop-c.invariant.long-w);
     }
-
-pub shape_of-parents : goal.shape_of-parents
-shape_of-parents c = c.loop-c.invariant.long-p
-
-pub shape_of-work : goal.shape_of-work
-shape_of-work c = c.loop-c.invariant.long-w
-
-pub returns : goal.returns
-returns c = let e = c.loop-c-test.false in rw e at c.loop-c.invariant.walk
