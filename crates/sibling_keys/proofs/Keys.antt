@@ -8,7 +8,7 @@ use mathlib.Core.List.{List, [], ◌∷◌}
 use native.Mathlib.Omega.{arith}
 use native.Mathlib.Numerals.{add-one}
 use lib.ListN.{length, get_or, set, take, drop, length-set, length-take}
-use lib.Seq.{take-suc, take_all, take-set-le, get_or-take, get_or-drop, get_or-set_same, get_or-set_other}
+use lib.Seq.{take-suc, take-set-le, get_or-take, get_or-drop, get_or-set_same, get_or-set_other}
 use Rattle.papers.specs.Lists.{◌∈◌}
 use Rattle.papers.specs.Tree.{t}
 use Rattle.papers.specs.Order.{sibling_key_of}
@@ -16,7 +16,7 @@ use Rattle.list_laws.specs.Parts.{part}
 use Rattle.list_laws.proofs.Members.{at_place}
 use Rattle.list_laws.specs.Parts.{part}
 use Rattle.list_laws.proofs.Tests.{same_or}
-use Rattle.sibling_keys.specs.Kids.{Keyable, Keyed}
+use Rattle.sibling_keys.specs.Kids.{Keyable}
 
 -- ---- the marks
 
@@ -53,9 +53,6 @@ pub keying-start : {k : ℕ} {key : ℕ → ℕ} {kids work : List ℕ} → Keyi
 keying-start = record { same = refl; keys = λ c m. absurd (Memᴰ.not-nil m); seen = omega arith; long = refl }
 
 module _ {k : ℕ} {key : ℕ → ℕ} {kids before after : List ℕ} {i : ℕ} (inv : Keying k key kids before after i) where
-  pub keying-stop : length kids ≤ i → Keyed k key kids before after
-  keying-stop h = let e : take i kids ≡ kids = take_all i kids h in record { same = inv.same; keys = rw e at inv.keys }
-
   -- the places before the keys are read as they were
   pub keying-reads : (w c : ℕ) → w ≤ k → w + c < k → get_or after (w + c) 0 ≡ get_or (part w k before) c 0
   keying-reads w c h b =

@@ -1,12 +1,12 @@
 -- Proves the steps of the pass that finds a column's W: it goes from the first i children to one child more.
 -- Assumes nothing.
-use Prim.Native.Nat.{ℕ, suc, ◌+◌, ◌*◌, ◌<◌, ◌≤◌, max}
+use Prim.Native.Nat.{ℕ, ◌+◌, ◌*◌, ◌<◌, ◌≤◌, max}
 use mathlib.Core.Path.{◌≡◌, refl, ap}
 use mathlib.Core.List.{List, [], ◌∷◌, ◌++◌, map, map-append}
 use native.Mathlib.Omega.{arith}
 use native.Mathlib.Numerals.{add-one}
 use lib.ListN.{length, get_or, take}
-use lib.Seq.{take-suc, take_all}
+use lib.Seq.{take-suc}
 use Rattle.papers.specs.Bounds.{max_columns}
 use Rattle.papers.specs.Lists.{◌∈◌, sum}
 use Rattle.papers.specs.Tree.{t}
@@ -17,7 +17,7 @@ use Rattle.order_laws.proofs.Needs.{in-turn-next, but-last-next}
 use Rattle.tree.proofs.Sums.{sum-nil, sum-cons}
 use Rattle.room.specs.Rows.{row_count_in, ColumnStarts, RowsCounted, most_entries}
 use Rattle.room.proofs.Entries.{entries_fit}
-use Rattle.sibling_keys.specs.Kids.{need_at, Kids}
+use Rattle.sibling_keys.specs.Kids.{Kids}
 
 -- the first i children are done
 pub record Turned (factor rooms kids : List ℕ) (most before below i : ℕ) : Type 0 where
@@ -34,15 +34,6 @@ module _ (factor rooms kids : List ℕ) (j : ℕ) where
   turned-start = record { so_far = refl; but_last = refl; updates = refl; light = omega arith; lighter = omega arith; seen = omega arith }
 
   module _ {most before below i : ℕ} (inv : Turned factor rooms kids most before below i) where
-    -- all children are done: then the front is over the last update
-    pub turned-stop : length kids ≤ i → {u r : ℕ} → u ≡ t (row_count_in factor j + 1) → r ≡ max most (before + u) → r ≡ need_at factor rooms kids j
-    turned-stop h {u} {r} eu er =
-        let all : take i kids ≡ kids = take_all i kids h in
-        let a : most ≡ in_turn (row_count_in factor) (λ c. get_or rooms c 0) 0 kids = rw all at inv.so_far in
-        let b : before ≡ update_but_last (row_count_in factor) kids = rw all at inv.but_last in
-        let e : u ≡ t (suc (row_count_in factor j)) = rw (add-one (row_count_in factor j)) at eu in
-        rw (← a, ← b, ← e) er
-
     module _ (pre : Kids factor rooms kids j) (more : i < length kids) where
       child : get_or kids i 0 ∈ kids
       child = at_place kids i more

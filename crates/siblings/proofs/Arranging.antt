@@ -43,20 +43,6 @@ module _ {mark : ℕ} {factor list₀ work₀ : List ℕ} {scratch₀ w k : ℕ}
   pub none-arranged : mark ≡ 0 → AllArranged mark factor list₀ work₀ list₀ work₀ w
   none-arranged e = record { lists = λ j l u. rw e (sym (arranged-zero (row_count_in factor) kids _ j)); roots = refl; same = refl }
 
-  pub arranging-start : Arranging mark factor list₀ work₀ list₀ work₀ scratch₀ scratch₀ w k 1
-  arranging-start = record {
-    same = refl;
-    done = λ i l u. absurd (omega arith);
-    rest = λ i l u. refl;
-    roots = refl;
-    rooms = λ i l u. absurd (omega arith);
-    low = omega arith;
-    high = omega arith;
-    list-long = refl;
-    work-long = refl;
-    scratch-long = refl;
-  }
-
   pub start-at : (i : ℕ) → i ≤ n + 1 → get_or starts i 0 ≡ get_or work₀ i 0
   start-at i h = get_or-take (n + 2) work₀ i 0 (omega arith)
 

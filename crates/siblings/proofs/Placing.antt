@@ -68,10 +68,6 @@ module _ {factor list work : List ℕ} {scratch j w k : ℕ} (pre : SiblingsPlac
   kids-length : length (siblings_at work list j) ≡ e - a
   kids-length = part_length a e list pre.rise pre.inside
 
-  -- the children may be sorted there
-  pub placed-kids : Sortable factor (siblings_at work list j) work scratch j w k
-  placed-kids = record { children = pre.kids; own = pre.own; room = pre.room; enough = omega (arith, kids-length, pre.inside, pre.enough) }
-
   pub placed-done : {mark : ℕ} {ys work' : List ℕ} → SiblingsSorted mark factor (siblings_at work list j) work ys work' j w k
       → SiblingsArranged mark factor list work (take a list ++ (ys ++ drop (e - a) (drop a list))) work' j w k
   placed-done {mark} {ys} d =

@@ -37,18 +37,6 @@ pub record Down (starts list counts : List ℕ) (j left : ℕ) (d₀ : List ℕ)
   pub long : length d ≡ length d₀
   pub room : at + left ≤ length d₀
 
-pub down-start : {starts list counts d₀ : List ℕ} {j left at : ℕ} → Task starts list counts j left at (length d₀) (own_steps starts list j)
-    → Down starts list counts j left d₀ at d₀ j left at
-down-start k =
-    let a = k.asks in
-    record {
-      task = record { asks = record { laid = a.laid; known = a.known; count = a.count; fits = omega arith }; some = k.some };
-      after = omega arith;
-      stored = refl;
-      long = refl;
-      room = a.fits;
-    }
-
 module _ {starts list counts d₀ d : List ℕ} {j left at c size a : ℕ} (inv : Down starts list counts j left d₀ at d c size a) where
   -- c is a column, since 0 has no steps
   down-some : 0 < c

@@ -96,9 +96,6 @@ module _
         pub next-task : Task starts list counts c count place (length d) (own_steps starts list c)
         next-task = child-task inv.later more r (omega (arith, two-fit, inv.long, inv.room))
 
-        pub kept-task : Task starts list counts kept size first (length d) (own_steps starts list kept)
-        kept-task = wider (omega (arith, two-fit, inv.long, inv.room)) inv.task
-
         -- the child is done, the one kept stays
         pub next-kept : {d' : List ℕ} → d' ≡ sets d place (own_steps starts list c)
             → OneKept starts list counts j left d₀ at d' (i + 1) (a + count) kept size first
