@@ -8,10 +8,12 @@ use mathlib.Core.Path.{◌≡◌, refl, sym, ap, ◌∙◌}
 use native.Mathlib.Omega.{arith}
 use lib.ListN.{length, get_or}
 use borrow.Author.Tests.{lt-ltb, le-ltb}
+use Rattle.std.specs.Prelude.{Result, Ok, Err}
 use Rattle.papers.specs.Bounds.{max_groups}
 use Rattle.papers.specs.Numbers.{over, number_read_from, Read, got, bad, within_field, field, Number}
 use Rattle.papers.specs.declared.NumberFault.TheVariants.{Ended, TooLong, NotShortest}
-use Rattle.std.specs.Prelude.{Ok, Err}
+use Rattle.refusals.specs.declared.Fault.{Fault}
+use Rattle.read_fields.specs.Reading.{Told}
 use Rattle.bytes_laws.proofs.Fields as fields
 use Rattle.bytes_laws.proofs.NumberReading.{read-last, read_more, shown-some, last-shown}
 
@@ -81,3 +83,8 @@ field_is low high s at {v} {next} e l h = sym (field-by-number low high s at e (
 -- the field is in its range, and ends within the bytes
 pub field_found : {low high : ℕ} {s : List ℕ} {at v next : ℕ} → got v next ≡ field low high s at → fields.Found low high s at v next
 field_found {low} {high} {s} {at} {v} {next} e = fields.field-got low high s at v next (sym e)
+
+-- what is told of one reading is told of any equal reading
+pub told_of : {A : Type 0} (f : A → ℕ) (Kept : A → Type 0) {found same : Read A} (r : Result (ℕ × ℕ) Fault) → same ≡ found → Told f Kept found r
+    → Told f Kept same r
+told_of f Kept r e t = rw e t

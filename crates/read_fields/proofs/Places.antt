@@ -12,10 +12,6 @@ use mir.Val.{Fits}
 pub none_left : {x : ℕ} → x ≤ 0 → x ≡ 0
 none_left h = omega arith
 
--- one less is left
-pub fewer : (x y : ℕ) → 0 < x - y → x - y - 1 < x
-fewer x y h = omega arith
-
 -- a place inside a slice, and the one behind it
 module _ {l : ℕ} (machine : l < 2 ^ 64) where
   pub inside-fits : {k : ℕ} → k ≤ l → Fits w64 k

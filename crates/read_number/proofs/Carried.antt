@@ -10,7 +10,7 @@ use native.Mathlib.Omega.{arith}
 use native.Mathlib.Nat.{mul-le-mul_left, mul-add, mul_assoc, add_assoc}
 use lib.Dec.{eqb}
 use lib.ListN.{length, get_or}
-use lib.Pow.{pow-add, pow_mono}
+use lib.Pow.{pow-add}
 use borrow.Author.Tests.{eq-eqb, ne_eqb}
 use Rattle.papers.specs.Bounds.{max_groups}
 use Rattle.papers.specs.Numbers.{over, last_group, read_from, number_read_from, Number}
@@ -50,17 +50,6 @@ carried-start s at =
       weight = refl;
       small = omega arith;
     }
-
--- a group and its place stay within machine numbers
-pub carried-below : {s : List ℕ} {at i low w k : ℕ} (b : ℕ) → Carried s at i low w k → b < 128
-    → (w ≤ 2 ^ (7 * max_groups)) × (low + w * b < 2 ^ (7 * suc max_groups))
-carried-below {low = low} {w = w} {k = k} b r h =
-    let p : 2 ^ (7 * (max_groups - k)) ≤ 2 ^ (7 * max_groups) = pow_mono {i = 7 * (max_groups - k)} {j = 7 * max_groups} (omega arith) in
-    let n : b ≤ 127 = omega arith in
-    let u = mul-le-mul_left w n in
-    let e = r.weight in
-    let z = r.small in
-    (omega arith, omega arith)
 
 -- the group at i decides
 ends : {s : List ℕ} {at i low w k : ℕ} (n : Number) → Carried s at i low w k → read_from k (eqb i at) s i ≡ n → carry low w n ≡ number_read_from s at

@@ -69,10 +69,7 @@ lists-start n s at starts rows h =
     }
 
 module _ {n at k j total : ℕ} {s starts₀ rows₀ starts rows : List ℕ} (l : Lists n s at starts₀ rows₀ starts rows k j total) where
-  -- the slices keep their lengths
-  pub starts-long : length starts ≡ length starts₀
-  starts-long = ap length l.begins ∙ length-sets starts₀ 0 (starts_counted_from 0 l.done)
-
+  -- the slice keeps its length
   pub rows_long : length rows ≡ length rows₀
   rows_long = ap length l.listed ∙ length-sets rows₀ 0 (flat l.done)
 

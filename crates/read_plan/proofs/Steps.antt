@@ -2,10 +2,10 @@
 -- Assumes nothing.
 use Prim.Native.Nat.{zero, suc, ℕ, ◌+◌, ◌-◌, ◌^◌, ◌<◌, ◌≤◌}
 use mathlib.Core.List.{List, [], ◌∷◌, ◌++◌, map-append}
-use mathlib.Core.Path.{◌≡◌, refl, ap, ◌∙◌}
+use mathlib.Core.Path.{◌≡◌, refl, ◌∙◌}
 use native.Mathlib.Omega.{arith}
 use lib.ListN.{length, length-map}
-use lib.Seq.{sets, length-sets}
+use lib.Seq.{sets}
 use Rattle.papers.specs.Bounds.{max_columns}
 use Rattle.papers.specs.Numbers.{field, got, bad, onto}
 use Rattle.papers.specs.Plan.{columns_in, pops_in, step_read_from, steps_read_from}
@@ -72,13 +72,6 @@ steps-start n s at order pops h =
     record { done = []; whole = rw e (onto-nil _); count = refl; few = omega arith; inside = h; columns = refl; popped = refl }
 
 module _ {n at k i : ℕ} {s order₀ pops₀ order pops : List ℕ} (l : Steps n s at order₀ pops₀ order pops k i) where
-  -- the slices keep their lengths
-  pub order-long : length order ≡ length order₀
-  order-long = ap length l.columns ∙ length-sets order₀ 0 (columns_in l.done)
-
-  pub pops-long : length pops ≡ length pops₀
-  pops-long = ap length l.popped ∙ length-sets pops₀ 0 (pops_in l.done)
-
   module _ (h : i < n) where
     pub steps-turn : {order' pops' : List ℕ} {m : ℕ} → PartKept (StepKept i order order' pops pops') (step_read_from n s k) m
         → Steps n s at order₀ pops₀ order' pops' m (i + 1)

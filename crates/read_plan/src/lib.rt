@@ -37,8 +37,8 @@ fn read_step(
     Ok(next)
 }
 
-// Reads the n steps from `at` on. Keeps their columns and pops, and answers the place behind them. In the loop the first i are kept, and the
-// next starts at k.
+// Reads the n steps from `at` on. Keeps their columns and pops, and answers the place behind them. In the loop the first i are kept, and
+// the next starts at k.
 fn read_steps(
     plan: &[u8],
     at: usize,

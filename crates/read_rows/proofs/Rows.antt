@@ -94,7 +94,3 @@ module _ {n : ℕ} {s : List ℕ} {j count at t : ℕ} {rows₀ rows : List ℕ}
   -- no more rows are left than the list has
   pub rows_few : left ≤ count
   rows_few = let e = x.counted in omega arith
-
-  -- rows are kept at no greater a place than they are read
-  pub rows-paced : t ≤ at → total ≤ k
-  rows-paced h = let p = x.placed in let q = x.paced in omega arith

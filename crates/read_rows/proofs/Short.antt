@@ -1,16 +1,13 @@
 -- Proves that i rows whose gaps have one byte take i bytes, and that all are in their range if the last is, since they ascend.
 -- Assumes nothing.
-use Prim.Native.Nat.{ℕ, ◌+◌, ◌-◌, ◌^◌, ◌<◌, ◌≤◌}
+use Prim.Native.Nat.{ℕ, ◌+◌, ◌-◌, ◌<◌, ◌≤◌}
 use mathlib.Core.List.{List, [], ◌∷◌, ◌++◌}
-use mathlib.Core.Path.{◌≡◌, refl, ap, ◌∙◌}
+use mathlib.Core.Path.{◌≡◌, refl, ap}
 use native.Mathlib.Omega.{arith}
 use lib.ListN.{length, get_or, set}
-use lib.Seq.{length-sets}
-use Rattle.papers.specs.Bounds.{max_columns}
 use Rattle.list_laws.proofs.Stores.{sets_more}
 use Rattle.read_fields.proofs.Answers.{one-group, field_is}
 use Rattle.read_fields.proofs.Onto.{length_more}
-use Rattle.read_fields.proofs.Places.{before-end}
 use Rattle.read_rows.specs.Rows.{RowsRead, ShortRead}
 use Rattle.read_rows.proofs.Rows.{rows_start, rows-one, rows_both}
 
@@ -33,17 +30,6 @@ short-start s b left at t rows h =
     }
 
 module _ {s : List ℕ} {b left at t : ℕ} {rows₀ rows : List ℕ} {i last : ℕ} (x : ShortRead s b left at t rows₀ rows i last) where
-  pub short-long : length rows ≡ length rows₀
-  short-long = ap length x.kept ∙ length-sets rows₀ t x.list
-
-  -- the next row is a number of 32 bits
-  pub short-narrow : {gap : ℕ} → b ≤ max_columns → left ≤ max_columns → gap < 256 → last + gap < 2 ^ 32
-  short-narrow p q h = let g = x.grows in let f = x.few in omega arith
-
-  -- the next row finds its place
-  pub short-place : {most : ℕ} → i < most → most ≤ length rows₀ - t → t + i < length rows
-  short-place h g = rw short-long (before-end t h g)
-
   pub short-turn : {gap row : ℕ} → i < left → at + i < length s → gap ≡ get_or s (at + i) 0 → 1 ≤ gap → gap < 128 → row ≡ last + gap
       → ShortRead s b left at t rows₀ (set rows (t + i) row) (i + 1) (last + gap)
   short-turn {gap} {row} few there e low short is =

@@ -4,12 +4,9 @@
 use mathlib.Core.Path.{sym}
 use native.Mathlib.Omega.{arith}
 use Rattle.std.proofs.lemmas.Result.{err_from_is_err_and}
-use Rattle.read_fields.proofs.Answers.{field_found}
+use Rattle.read_fields.proofs.Answers.{field_found, told_of}
 use Rattle.read_lists.proofs.Lists.{list-bad, list-got, rows-asked, rows-to-read, total-fits, quick-told, quick-again}
 use Rattle.read_lists.proofs.read_list.Goals as goal
-
-pub overflow_sub-n : goal.overflow_sub-n
-overflow_sub-n c = c.requires.column
 
 pub returns-in_err-count : goal.returns-in_err-count
 returns-in_err-count c =
@@ -30,4 +27,5 @@ read_rows-requires c = rows-to-read c.requires (field_found c.in_ok-count.ensure
 
 pub returns : goal.returns
 returns c =
-    rw (list-got _ _ _ _ (sym c.in_ok-count.ensures)) (quick-again _ c.read_rows.result c.quick_rows.ensures c.read_rows.ensures)
+    told_of _ _ c.read_rows.result (list-got _ _ _ _ (sym c.in_ok-count.ensures))
+    (quick-again _ c.read_rows.result c.quick_rows.ensures c.read_rows.ensures)

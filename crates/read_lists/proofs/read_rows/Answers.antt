@@ -2,13 +2,11 @@
 -- Assumes nothing.
 use Prim.Native.Nat.{◌+◌, ◌-◌}
 use mathlib.Core.Path.{◌≡◌, sym}
-use native.Mathlib.Nat.{lt_of_le_of_lt, lt_of_lt_of_le}
 use mir.Facts.{Fits-bits}
 use native.Mathlib.Omega.{arith}
 use Rattle.std.proofs.lemmas.Result.{err_from_is_err_and}
 use Rattle.read_fields.proofs.Answers.{field_found}
-use Rattle.read_fields.proofs.Places.{next_fits}
-use Rattle.read_rows.proofs.Rows.{rows_start, rows-one, rows_both, rows-paced, row-narrow}
+use Rattle.read_rows.proofs.Rows.{rows_start, rows-one, rows_both, row-narrow}
 use Rattle.read_lists.proofs.Lists.{rows-fault, rows-stop}
 use Rattle.read_lists.proofs.read_rows.Goals as goal
 
@@ -16,12 +14,6 @@ pub loop-i-init : goal.loop-i-init
 loop-i-init c =
     let all : c.args.count - 0 ≡ c.args.count = omega arith in
     rw all (rows_start _ _ _ _ _ _ _ c.requires.inside c.requires.column)
-
-pub overflow_sub-n : goal.overflow_sub-n
-overflow_sub-n c = c.loop-i.invariant.high
-
-pub read_field-requires : goal.read_field-requires
-read_field-requires c = c.loop-i.invariant.inside
 
 pub returns-in_err-gap : goal.returns-in_err-gap
 returns-in_err-gap c =
@@ -33,12 +25,6 @@ overflow_add-row c = Fits-bits 32 tt (row-narrow c.requires.few c.loop-i.invaria
 
 pub keep_row-requires : goal.keep_row-requires
 keep_row-requires c = row-narrow c.requires.few c.loop-i.invariant.high (field_found c.in_ok-gap.ensures).high
-
-pub overflow_add-total : goal.overflow_add-total
-overflow_add-total c =
-    let found = field_found c.in_ok-gap.ensures in
-    next_fits (omega (arith, c.well_formed)) (lt_of_le_of_lt (rows-paced c.loop-i.invariant c.requires.behind)
-    (lt_of_lt_of_le found.on found.inside))
 
 pub loop-i-preserved : goal.loop-i-preserved
 loop-i-preserved c =

@@ -1,10 +1,9 @@
 -- Proves that `read_number` reads the number at `at`, since the groups from i on, added on top of those before, give it. Each turn leaves one group
 -- less that may come.
 -- Assumes nothing.
-use Prim.Native.Nat.{◌-◌}
 use mathlib.Core.Logic.{inl, inr}
 use native.Mathlib.Omega.{arith}
-use Rattle.read_number.proofs.Carried.{carried-start, carried-below, stop-end, stop-long, stop-zero, stop-value, turn}
+use Rattle.read_number.proofs.Carried.{carried-start, stop-end, stop-long, stop-zero, stop-value, turn}
 use Rattle.read_number.proofs.read_number.Goals as goal
 use Rattle.read_number.proofs.read_number.Goals.{else-b-eq0-via-then-b-eq0+else-at-i, else-b-eq0-via-else-b-eq0}
 
@@ -20,27 +19,12 @@ returns-then-at-i c =
     let there = c.loop-i-test.true in
     stop-zero inv there _ c.from-b.ensures (omega arith) c.if-b-eq0.true c.if-at-i.true
 
-pub overflow_mul-result : goal.overflow_mul-result
-overflow_mul-result c = omega (arith, carried-below c.from-b.result c.loop-i.invariant c.if-b-lt128.true)
-
-pub overflow_add-result : goal.overflow_add-result
-overflow_add-result c = omega (arith, carried-below c.from-b.result c.loop-i.invariant c.if-b-lt128.true)
-
 pub returns-then-b-lt128 : goal.returns-then-b-lt128
 returns-then-b-lt128 c =
     let inv = c.loop-i.invariant in
     let there = c.loop-i-test.true in
     stop-value inv there _ c.from-b.ensures (omega arith) c.if-b-lt128.true
     (elim c.else-b-eq0.branch [ else-b-eq0-via-then-b-eq0+else-at-i w ↦ inl (omega arith) | else-b-eq0-via-else-b-eq0 w ↦ inr (omega arith) ])
-
-pub overflow_mul-low : goal.overflow_mul-low
-overflow_mul-low c = omega (arith, carried-below (c.from-b.result - 128) c.loop-i.invariant (omega arith))
-
-pub overflow_add-low : goal.overflow_add-low
-overflow_add-low c = omega (arith, carried-below (c.from-b.result - 128) c.loop-i.invariant (omega arith))
-
-pub overflow_mul-w : goal.overflow_mul-w
-overflow_mul-w c = omega (arith, carried-below 0 c.loop-i.invariant (omega arith))
 
 pub loop-i-preserved : goal.loop-i-preserved
 loop-i-preserved c =
