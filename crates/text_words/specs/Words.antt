@@ -38,10 +38,14 @@ abbrev pub end_of : Bool → ℕ
 end_of true = newline
 end_of false = space
 
+-- a line that begins at `at` has no numbers
+pub record NoNumbers (text : List ℕ) (at : ℕ) : Type 0 where
+  pub none : numbers_at (drop at text) 1 ≡ []
+
 -- What is read at `at`: a number before a space or before a newline; else a line that begins there has no numbers.
 abbrev pub WordRead : List ℕ → ℕ → Option Word → Type 0
 WordRead text at (Some word) = DecimalAt text at (end_of word.ends_line) word.value word.next
-WordRead text at None = numbers_at (drop at text) 1 ≡ []
+WordRead text at None = NoNumbers text at
 
 -- the line that begins at `at` ends just before next
 pub record LineTo (text : List ℕ) (at next : ℕ) : Type 0 where

@@ -6,10 +6,10 @@ use Rattle.text_words.proofs.Numbers.{number-here, none-ended, none-bad, none_ot
 use Rattle.text_words.proofs.read_word.Goals as goal
 
 pub returns-then-text-end : goal.returns-then-text-end
-returns-then-text-end c = none-ended _ _ c.read_digits-count.ensures c.if-text-end.true
+returns-then-text-end c = record { none = none-ended _ _ c.read_digits-count.ensures c.if-text-end.true }
 
 pub returns-then-not-is_decimal : goal.returns-then-not-is_decimal
-returns-then-not-is_decimal c = none-bad _ _ c.read_digits-count.ensures (sym c.is_decimal.ensures ∙ c.if-not-is_decimal.true)
+returns-then-not-is_decimal c = record { none = none-bad _ _ c.read_digits-count.ensures (sym c.is_decimal.ensures ∙ c.if-not-is_decimal.true) }
 
 pub returns-in-32 : goal.returns-in-32
 returns-in-32 c =
@@ -20,4 +20,4 @@ returns-in-10 c =
     number-here _ _ c.read_digits-count.ensures (sym c.is_decimal.ensures ∙ c.if-not-is_decimal.false) c.if-text-end.false c.in-10.is
 
 pub returns-in_default : goal.returns-in_default
-returns-in_default c = none_other _ _ c.read_digits-count.ensures (search rules) (search rules)
+returns-in_default c = record { none = none_other _ _ c.read_digits-count.ensures (search rules) (search rules) }
