@@ -1,13 +1,8 @@
 -- Proves how line 1 is read number by number: after a space the rest of the line decides; at a newline two or three numbers are a head, and any other
 -- count is none.
 -- Assumes nothing.
-use Prim.Native.Nat.{ℕ}
-use mathlib.Core.Path.{◌≡◌, refl, ap, ◌∙◌}
-use mathlib.Core.Bool.{false}
-use Rattle.std.specs.Prelude.{Option, None, Some}
+use Rattle.std.proofs.Common.{ℕ, ◌≡◌, refl, ap, ◌∙◌, false, Option, None, Some, List, [], ◌∷◌, ◌++◌, drop}
 use Rattle.papers.specs.declared.JobHead.{JobHead}
-use mathlib.Core.List.{List, [], ◌∷◌, ◌++◌}
-use lib.ListN.{drop}
 use Rattle.papers.specs.Bounds.{default_mark}
 use Rattle.papers.specs.Text.{newline, space, numbers_at, head_of}
 use Rattle.text_laws.specs.Grammar.{behind}

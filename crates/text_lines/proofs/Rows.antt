@@ -1,14 +1,11 @@
 -- Proves how rows are read one by one to the end of the line: those read, then the rest of the line, are the line's numbers. Each takes at least a
 -- byte, so their count is no greater than the place.
 -- Assumes nothing.
-use Prim.Native.Nat.{ℕ, ◌+◌, ◌<◌, ◌≤◌}
-use mathlib.Core.Path.{◌≡◌, refl, sym, ap, ◌∙◌}
-use mathlib.Core.Logic.{◌≢◌}
-use mathlib.Core.List.{List, [], ◌∷◌, ◌++◌, map, map-append}
-use native.Mathlib.Omega.{arith}
-use lib.ListN.{length, set, drop, length-append, length-map, drop_of_length-le}
+use Rattle.std.proofs.Common.{ℕ, ◌+◌, ◌<◌, ◌≤◌, ◌≡◌, refl, sym, ap, ◌∙◌, ◌≢◌, List, [], ◌∷◌, ◌++◌, map, arith, length, set, drop, length-append}
+use Rattle.std.proofs.Common.{drop_of_length-le, ne_eqb}
+use mathlib.Core.List.{map-append}
+use lib.ListN.{length-map}
 use lib.Seq.{sets, length-sets}
-use borrow.Author.Tests.{ne_eqb}
 use Rattle.papers.specs.Text.{newline, space, cut, after_lines, numbers_at, is_row_line}
 use Rattle.list_laws.proofs.Stores.{sets_more}
 use Rattle.text_laws.specs.Grammar.{behind}

@@ -1,15 +1,11 @@
 -- Proves the loop over the lines of rows: each line begins at the end of the one before, and its rows and start are stored behind theirs. No line so
 -- far has a fault, so the first fault found is the first of all.
 -- Assumes nothing.
-use Prim.Native.Nat.{ℕ, suc, ◌+◌, ◌-◌, ◌<◌, ◌≤◌}
-use mathlib.Core.Path.{◌≡◌, refl, sym, ap, ◌∙◌}
-use mathlib.Core.Bool.{true}
-use mathlib.Core.List.{List, [], ◌∷◌, ◌++◌, map, map-append}
-use native.Mathlib.Omega.{arith}
-use native.Mathlib.Numerals.{add-one}
-use lib.ListN.{length, set, drop, length-append, length-map, length-drop}
-use lib.Seq.{sets, length-sets, set-set}
-use borrow.Author.Tests.{eq-eqb}
+use Rattle.std.proofs.Common.{ℕ, suc, ◌+◌, ◌-◌, ◌<◌, ◌≤◌, ◌≡◌, refl, sym, ap, ◌∙◌, true, List, [], ◌∷◌, ◌++◌, map, arith, add-one, length, set, drop}
+use Rattle.std.proofs.Common.{length-append, length-drop, set-set, eq-eqb}
+use mathlib.Core.List.{map-append}
+use lib.ListN.{length-map}
+use lib.Seq.{sets, length-sets}
 use Rattle.papers.specs.Bounds.{program_rows}
 use Rattle.papers.specs.Lists.{least, flat, starts_counted_from}
 use Rattle.papers.specs.Text.{numbers_at, is_row_line, rows_of_line, after_lines, head_of_text, text_lists, line_fault}

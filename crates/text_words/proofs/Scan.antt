@@ -1,18 +1,10 @@
 -- Proves how digits are read one by one: one more makes the value ten times as great, plus that digit, and so few digits stay below 2^64. Their count
 -- and the first of them decide whether they are a decimal.
 -- Assumes nothing.
-use Prim.Native.Nat.{ℕ, suc, ◌+◌, ◌-◌, ◌*◌, ◌^◌, ◌<◌, ◌≤◌}
-use mathlib.Core.Path.{◌≡◌, refl, sym, ap, ◌∙◌}
-use mathlib.Core.Logic.{◌≢◌}
-use mathlib.Core.Bool.{true, false, not}
-use mathlib.Core.List.{List, [], ◌∷◌, ◌++◌}
-use native.Mathlib.Omega.{arith}
+use Rattle.std.proofs.Common.{ℕ, suc, ◌+◌, ◌-◌, ◌*◌, ◌^◌, ◌<◌, ◌≤◌, ◌≡◌, refl, sym, ap, ◌∙◌, ◌≢◌, true, false, not, List, [], ◌∷◌, ◌++◌, arith, add-one, eqb}
+use Rattle.std.proofs.Common.{length, get_or, take, drop, length-drop, take-suc, get_or-take, get_or-drop, length-take-le, eqb-true}
 use native.Mathlib.Nat.{pow-le-pow_right}
-use native.Mathlib.Numerals.{add-one}
-use lib.Dec.{eqb}
-use lib.ListN.{length, get_or, take, drop, length-drop}
-use lib.Seq.{take-suc, get_or-take, get_or-drop, length-take-le}
-use borrow.Author.Tests.{eqb-true, eqb-false}
+use borrow.Author.Tests.{eqb-false}
 use Rattle.papers.specs.Bounds.{max_digits}
 use Rattle.papers.specs.Text.{is_decimal_number, value_of}
 use Rattle.list_laws.proofs.Tests.{Test, passes, fails, test}

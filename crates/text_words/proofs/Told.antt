@@ -1,10 +1,6 @@
 -- Proves what an answer tells of the text: the number at a place, or that a line that begins there has none.
 -- Assumes nothing.
-use Prim.Native.Nat.{ℕ}
-use mathlib.Core.Path.{◌≡◌, sym, ap, ◌∙◌}
-use mathlib.Core.List.{List, [], ◌∷◌}
-use native.Mathlib.Omega.{arith}
-use lib.ListN.{drop}
+use Rattle.std.proofs.Common.{ℕ, ◌≡◌, sym, ap, ◌∙◌, List, [], ◌∷◌, arith, drop}
 use Rattle.papers.specs.Text.{newline, space, after_lines, numbers_at}
 use Rattle.text_laws.specs.Grammar.{behind}
 use Rattle.text_laws.proofs.ByWords.{numbers-last, numbers-next, after_last, after_next}

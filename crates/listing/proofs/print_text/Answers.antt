@@ -1,8 +1,7 @@
 -- Proves that `print_text` prints the line of a text that is refused; the first places of the buffers hold the job of any other text, and what is
 -- printed of the job is what is printed of the text.
 -- Assumes nothing.
-use Rattle.std.proofs.Common.{sym, ap, length, arith}
-use lib.Seq.{length-take-le}
+use Rattle.std.proofs.Common.{sym, ap, length, arith, length-take-le}
 use Rattle.list_laws.proofs.Writing.{wrote_as}
 use Rattle.listing.proofs.Told.{told-refusal, found-columns, starts-long, rows_long, found-printed}
 use Rattle.listing.proofs.print_text.Goals as goal

@@ -1,8 +1,7 @@
 -- Proves that `print_analysis` prints the line of a refusal, or the listing of the job's plan, which parts of the slices hold after an analysis that
 -- is done.
 -- Assumes nothing.
-use Rattle.std.proofs.Common.{sym, ap, length, arith}
-use lib.Seq.{length-take-le}
+use Rattle.std.proofs.Common.{sym, ap, length, arith, length-take-le}
 use Rattle.job.specs.Given.{job_given}
 use Rattle.list_laws.proofs.Writing.{wrote_as}
 use Rattle.lent.specs.Six.{six_slices}
