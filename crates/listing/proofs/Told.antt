@@ -1,26 +1,23 @@
 -- Proves that the job read from a text is the job that is printed: the first places of the buffers hold its lists, with rows as they are kept, and
 -- this changes neither the analysis nor what is printed.
 -- Assumes nothing.
-use Prim.Native.Nat.{ℕ, ◌+◌, ◌≤◌}
-use mathlib.Core.Path.{◌≡◌, sym, ap, ◌∙◌}
-use mathlib.Core.List.{List, map}
-use native.Mathlib.Omega.{arith}
-use lib.ListN.{length, take, replicate, length-map, length-replicate}
+use Rattle.std.proofs.Common.{ℕ, ◌+◌, ◌≤◌, ◌≡◌, sym, ap, ◌∙◌, List, map, arith, length, take}
+use lib.ListN.{replicate, length-map, length-replicate}
 use lib.Seq.{sets, length-sets}
 use Rattle.papers.specs.declared.Answer.{Answer}
 use Rattle.papers.specs.declared.JobHead.{JobHead}
 use Rattle.papers.specs.Bounds.{program_columns, program_rows}
-use Rattle.papers.specs.Refusals.{answer, passed, first}
-use Rattle.papers.specs.Job.{Job, job_of, head_in}
-use Rattle.papers.specs.Text.{Input, text_job, text_refusals, refusal_line, buffers, program_prints}
+use Rattle.papers.specs.Job.{Job, job_of}
+use Rattle.papers.specs.Text.{Input, text_job, refusal_line, buffers, program_prints}
 use Rattle.list_laws.specs.Wrote.{Wrote}
 use Rattle.list_laws.proofs.Stores.{stored-at-start}
 use Rattle.text_laws.proofs.Printed as printed
 use Rattle.lent.specs.Six.{zeroes}
 use Rattle.text_lines.specs.Narrowed.{narrowed}
-use Rattle.text_reader.specs.declared.JobRead.{JobRead}
-use Rattle.text_reader.specs.declared.JobRead.TheVariants as read
-use Rattle.text_reader.specs.Reading.{JobTold, job_read, text-refused, kept_job}
+use Rattle.refusals.specs.declared.Fault.{Fault}
+use Rattle.refusals.specs.declared.Refused.{Refused}
+use Rattle.refusals.specs.Answers.{answer_refusing, refused_without_count}
+use Rattle.text_reader.specs.Reading.{JobKept, TextRefused, kept_job}
 use Rattle.text_reader.proofs.KeptJobs.{kept-printed}
 use Rattle.text_reader.proofs.Sizes.{Sizes, passed-sizes}
 use Rattle.listing_plan.specs.PlanLines.{printed_from}
@@ -35,61 +32,24 @@ same-job j a b c d e i = record { n = a i; starts = b i; rows = c i; mark = d i;
 
 -- ---- a text that is refused
 
-module _ (input : Input) where
-  pub told-refusal : {starts₀ rows₀ starts rows : List ℕ} {r : JobRead} {number place : ℕ} → JobTold input starts₀ rows₀ starts rows r
-      → r ≡ read.Refused number place → {a : Answer} → a ≡ answer number place 0
-      → program_prints input ≡ refusal_line a
-  told-refusal (job_read p e s k) g f = absurd (let z : ◌≡◌ {A = ℕ} 0 1 = cc in omega arith)
-  told-refusal {number = number} {place = place} (text-refused c q p e) g f =
-      let a : c ≡ number = cc in
-      let b : q ≡ place = cc in
-      rw (f, ← a, ← b) (printed.text-refused input p)
+pub told-refusal : {input : Input} {fault : Fault} → TextRefused input fault → {r : Refused} → r ≡ refused_without_count fault
+    → {a : Answer} → a ≡ answer_refusing r
+    → program_prints input ≡ refusal_line a
+told-refusal {input} t e f = rw (f, e) (printed.text-refused input t.refuses)
 
 -- ---- a text whose job was read
 
--- the first places of two slices hold the job's lists
-pub record JobFound (input : Input) (starts₀ rows₀ starts rows : List ℕ) (head : JobHead) (count : ℕ) : Type 0 where
-  pub passes : first text_refusals input ≡ passed
-  pub columns : head.n ≡ (text_job input.text).n
-  pub marked : head.mark ≡ (text_job input.text).mark
-  pub limited : head.limit ≡ (text_job input.text).limit
-  pub counted : count ≡ length (text_job input.text).rows
-  pub started : starts ≡ sets starts₀ 0 (text_job input.text).starts
-  pub kept : rows ≡ sets rows₀ 0 (map narrowed (text_job input.text).rows)
-
-pub told-job : {input : Input} {starts₀ rows₀ starts rows : List ℕ} {r : JobRead} {head : JobHead} {count : ℕ}
-    → JobTold input starts₀ rows₀ starts rows r → r ≡ read.Job head count
-    → JobFound input starts₀ rows₀ starts rows head count
-told-job {input} {head = head} {count = count} (job_read p e s k) g =
-    let job = text_job input.text in
-    let a : head_in job ≡ head = cc in
-    let b : length job.rows ≡ count = cc in
-    record {
-      passes = p;
-      columns = sym (ap (λ (h : JobHead). h.n) a);
-      marked = sym (ap (λ (h : JobHead). h.mark) a);
-      limited = sym (ap (λ (h : JobHead). h.limit) a);
-      counted = sym b;
-      started = s;
-      kept = k;
-    }
-told-job (text-refused c q p e) g = absurd (let z : ◌≡◌ {A = ℕ} 0 1 = cc in omega arith)
-
--- a job that was read into the program's zeroed buffers
-pub record Found (input : Input) : Type 0 where
-  pub starts : List ℕ
-  pub rows : List ℕ
-  pub head : JobHead
-  pub count : ℕ
-  pub job : JobFound input (replicate (program_columns + 1) 0) (replicate program_rows 0) starts rows head count
-
-module _ {input : Input} {starts rows : List ℕ} {head : JobHead} {count : ℕ} (f : JobFound input (replicate (program_columns + 1) 0)
+-- into the program's zeroed buffers
+module _ {input : Input} {starts rows : List ℕ} {head : JobHead} {count : ℕ} (f : JobKept input (replicate (program_columns + 1) 0)
     (replicate program_rows 0) starts rows head count) where
   sizes : Sizes input.text
   sizes = passed-sizes input f.passes
 
+  columns : head.n ≡ (text_job input.text).n
+  columns = ap (λ (h : JobHead). h.n) f.headed
+
   pub found-columns : head.n ≤ program_columns
-  found-columns = omega (arith, f.columns, sizes.columns)
+  found-columns = omega (arith, columns, sizes.columns)
 
   pub found_rows : count ≤ program_rows
   found_rows = omega (arith, f.counted, sizes.rows)
@@ -111,12 +71,12 @@ module _ {input : Input} {starts rows : List ℕ} {head : JobHead} {count : ℕ}
   job_is : job_of head (take (head.n + 1) starts) (take count rows) ≡ kept_job (text_job input.text)
   job_is =
       let job = text_job input.text in
-      same-job (kept_job job) f.columns
-      (at-start job.starts (replicate (program_columns + 1) 0) (head.n + 1) f.started (omega (arith, f.columns, sizes.starts))
+      same-job (kept_job job) columns
+      (at-start job.starts (replicate (program_columns + 1) 0) (head.n + 1) f.started (omega (arith, columns, sizes.starts))
       (omega (arith, found-columns, wide)))
       (at-start (map narrowed job.rows) (replicate program_rows 0) count f.kept (omega (arith, f.counted, length-map job.rows narrowed))
       (omega (arith, found_rows, long)))
-      f.marked f.limited
+      (ap (λ (h : JobHead). h.mark) f.headed) (ap (λ (h : JobHead). h.limit) f.headed)
 
   -- what is printed of the job is what is printed of the text
   pub found-printed : program_prints input ≡ printed_from (job_of head (take (head.n + 1) starts) (take count rows)) buffers

@@ -4,19 +4,20 @@
 
 ghost use Rattle.std.specs.Prelude.{◌≤◌, length};
 ghost use Rattle.papers.specs.Refusals.{EndsAs};
-ghost use Rattle.papers.specs.Job.{job_of};
+ghost use Rattle.job.specs.Given.{job_given};
 ghost use Rattle.papers.specs.Text.{buffers, program_prints, listed};
 ghost use Rattle.list_laws.specs.Wrote.{Wrote};
 ghost use Rattle.listing_plan.specs.PlanLines.{printed_from};
 ghost use Rattle.listing.specs.JobFits.{JobFits};
 
-use papers::{Answer, JobHead};
-use text_reader::JobRead;
+use job::Job;
+use papers::Answer;
+use refusals::{Refusal, Refused};
 
 // Writes what is printed of a job to the start of bytes, and answers its length.
-fn print_job(head: JobHead, starts: &[u64], rows: &[u32], bytes: &mut [u8]) -> usize
-    requires { JobFits (job_of head starts.now rows.now) bytes.old }
-    ensures { Wrote (printed_from (job_of head starts.now rows.now) buffers) bytes.old bytes.new 0 result }
+fn print_job(job: Job, bytes: &mut [u8]) -> usize
+    requires { JobFits (job_given job) bytes.old }
+    ensures { Wrote (printed_from (job_given job.entry) buffers) bytes.old bytes.new 0 result }
 {
     let mut parents = [0u32; program_sizes::COLUMNS];
     let mut order = [0u32; program_sizes::COLUMNS];
@@ -25,9 +26,7 @@ fn print_job(head: JobHead, starts: &[u64], rows: &[u32], bytes: &mut [u8]) -> u
     let mut frows = [0u32; program_sizes::FACTOR_ROWS];
     let mut work = [0u64; program_sizes::WORK];
     listing_plan::print_analysis(
-        head,
-        starts,
-        rows,
+        job,
         &mut parents,
         &mut order,
         &mut pops,
@@ -47,13 +46,15 @@ fn print_text(text: &[u8], more: bool, bytes: &mut [u8]) -> usize
     let mut starts = [0u64; program_sizes::STARTS];
     let mut rows = [0u32; program_sizes::PATTERN_ROWS];
     match text_reader::read_job(text, more, &mut starts, &mut rows) {
-        JobRead::Refused { number, place } => {
-            let refusal = basics::answered(number, place, 0);
-            return listing_lines::write_refusal(refusal, bytes);
-        }
-        JobRead::Job { head, count } => {
+        Err(fault) => listing_lines::write_refusal(Answer::from(Refused::from(fault)), bytes),
+        Ok((head, count)) => {
             let n = head.n as usize;
-            return print_job(head, &starts[..n + 1], &rows[..count], bytes);
+            let job = Job {
+                head,
+                starts: &starts[..n + 1],
+                rows: &rows[..count],
+            };
+            print_job(job, bytes)
         }
     }
 }
@@ -65,9 +66,13 @@ pub fn listing(text: &[u8], more: bool, bytes: &mut [u8]) -> Answer
     ensures { EndsAs result bytes.new (listed (record { text = text.now; more = more }) bytes.old) }
 {
     if bytes.len() < program_sizes::LISTING_BYTES {
-        return basics::answered(7, 0, 0);
+        return Answer::from(Refused {
+            refusal: Refusal::SliceTooShort,
+            place: 0,
+            count: 0,
+        });
     }
-    slices::clear8(bytes);
+    bytes.fill(0);
     let printed = print_text(text, more, bytes);
-    basics::answered(0, 0, printed as u64)
+    refusals::done(printed as u64)
 }

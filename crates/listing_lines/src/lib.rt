@@ -15,11 +15,11 @@ pub fn write_decimal(x: u64, bytes: &mut [u8], at: usize) -> usize
     ensures { Wrote (decimal_of x) bytes.old bytes.new at result }
 {
     if x < 10 {
-        bytes[at] = (48 + x) as u8;
+        bytes[at] = b'0' + x as u8;
         return at + 1;
     }
     let last = write_decimal(x / 10, bytes, at);
-    bytes[last] = (48 + x % 10) as u8;
+    bytes[last] = b'0' + (x % 10) as u8;
     last + 1
 }
 
@@ -28,35 +28,30 @@ pub fn write_number(x: u64, bytes: &mut [u8], at: usize) -> usize
     requires { at + length (space ∷ decimal_of x) ≤ length bytes.old }
     ensures { Wrote (space ∷ decimal_of x) bytes.old bytes.new at result }
 {
-    bytes[at] = 32;
+    bytes[at] = b' ';
     write_decimal(x, bytes, at + 1)
 }
 
-// Writes the numbers of a slice, each behind a space. In the loop the first i are written, up to next.
+// Writes the numbers of a slice, each behind a space. In the loop those before the row are written, up to next.
 pub fn write_rows(rows: &[u32], bytes: &mut [u8], at: usize) -> usize
     requires { at + length (numbered rows.now) ≤ length bytes.old }
     ensures { Wrote (numbered rows.now) bytes.old bytes.new at result }
 {
     let mut next = at;
-    let mut i = 0;
-    while i < rows.len() {
-        next = write_number(basics::wide32(rows[i]), bytes, next);
-        i += 1;
+    for row in rows {
+        next = write_number(u64::from(*row), bytes, next);
     }
     next
 }
 
-// Writes a word of letters. In the loop the first i are written.
+// Writes a word of letters.
 fn write_word(word: &[u8], bytes: &mut [u8], at: usize) -> usize
     requires { at + length word.now ≤ length bytes.old }
     ensures { Wrote word.now bytes.old bytes.new at result }
 {
-    let mut i = 0;
-    while i < word.len() {
-        bytes[at + i] = word[i];
-        i += 1;
-    }
-    at + i
+    let end = at + word.len();
+    bytes[at..end].copy_from_slice(word);
+    end
 }
 
 // Writes a line of a word and three numbers to the start of a slice.
@@ -68,7 +63,7 @@ fn write_line(word: &[u8], a: u64, b: u64, c: u64, bytes: &mut [u8]) -> usize
     let second = write_number(a, bytes, first);
     let third = write_number(b, bytes, second);
     let end = write_number(c, bytes, third);
-    bytes[end] = 10;
+    bytes[end] = b'\n';
     end + 1
 }
 
@@ -77,8 +72,7 @@ pub fn write_header(n: u64, mark: u64, peak: u64, bytes: &mut [u8]) -> usize
     requires { length (printed word_plan (n ∷ mark ∷ peak ∷ [])) ≤ length bytes.old }
     ensures { Wrote (printed word_plan (n ∷ mark ∷ peak ∷ [])) bytes.old bytes.new 0 result }
 {
-    let word = [112u8, 108, 97, 110];
-    write_line(&word, n, mark, peak, bytes)
+    write_line(b"plan", n, mark, peak, bytes)
 }
 
 // Writes the line of a refusal: `refused`, its number, place and count.
@@ -86,6 +80,5 @@ pub fn write_refusal(answer: Answer, bytes: &mut [u8]) -> usize
     requires { length (refusal_line answer) ≤ length bytes.old }
     ensures { Wrote (refusal_line answer) bytes.old bytes.new 0 result }
 {
-    let word = [114u8, 101, 102, 117, 115, 101, 100];
-    write_line(&word, answer.number, answer.place, answer.count, bytes)
+    write_line(b"refused", answer.number, answer.place, answer.count, bytes)
 }

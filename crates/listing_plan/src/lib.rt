@@ -1,11 +1,12 @@
 // Prints what is printed of a job: analyses it in lent slices, then writes its listing from them, or the line of its refusal.
 #![tactic(auto)]
 
-ghost use Rattle.papers.specs.Job.{job_of};
+ghost use Rattle.job.specs.Given.{job_given};
 ghost use Rattle.list_laws.specs.Wrote.{Wrote};
 ghost use Rattle.lent.specs.Six.{six_slices};
 ghost use Rattle.listing_plan.specs.PlanLines.{plan_lines, printed_from, PlanFits, PrintFits};
 
+use job::Job;
 use papers::JobHead;
 
 // Writes the listing of a plan, which the slices hold, to the start of bytes, and answers its length.
@@ -29,9 +30,7 @@ fn print_plan(
 
 // Analyses a job in lent slices, writes its listing or the line of its refusal to the start of bytes, and answers its length.
 pub fn print_analysis(
-    head: JobHead,
-    starts: &[u64],
-    rows: &[u32],
+    job: Job,
     parents: &mut [u32],
     order: &mut [u32],
     pops: &mut [u32],
@@ -40,23 +39,23 @@ pub fn print_analysis(
     work: &mut [u64],
     bytes: &mut [u8],
 ) -> usize
-    requires { PrintFits (job_of head starts.now rows.now)
+    requires { PrintFits (job_given job)
         (six_slices parents.old order.old pops.old fstarts.old frows.old work.old) bytes.old }
-    ensures { Wrote (printed_from (job_of head starts.now rows.now)
+    ensures { Wrote (printed_from (job_given job.entry)
         (six_slices parents.old order.old pops.old fstarts.old frows.old
         work.old))
         bytes.old bytes.new 0 result }
 {
     let answer = analysis::analyse(
-        head, starts, rows, parents, order, pops, fstarts, frows, work,
+        job.head, job.starts, job.rows, parents, order, pops, fstarts, frows, work,
     );
     if answer.number != 0 {
         return listing_lines::write_refusal(answer, bytes);
     }
-    let n = head.n as usize;
+    let n = job.head.n as usize;
     let last = fstarts[n] as usize;
     print_plan(
-        head,
+        job.head,
         answer.count,
         &order[..n],
         &pops[..n],

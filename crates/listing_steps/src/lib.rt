@@ -23,7 +23,7 @@ pub fn write_step(
     let second = listing_lines::write_number(pops, bytes, first);
     let third = listing_lines::write_number(room, bytes, second);
     let end = listing_lines::write_rows(rows, bytes, third);
-    bytes[end] = 10;
+    bytes[end] = b'\n';
     end + 1
 }
 
@@ -64,15 +64,13 @@ pub fn write_steps(
     below[0] = 0;
     let mut depth = 0;
     let mut next = at;
-    let mut k = 0;
-    while k < order.len() {
+    for k in 0..order.len() {
         let j = order[k] as usize;
         let p = pops[k] as usize;
         let rows = room::rows_of(fstarts, j);
         let used = room::in_use(&below[..], depth, p, rows);
         next = write_column(j, p as u64, used, fstarts, frows, bytes, next);
         depth = room::hold(below, depth, p, rows);
-        k += 1;
     }
     next
 }

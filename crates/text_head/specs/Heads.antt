@@ -1,16 +1,21 @@
 -- Defines what is read of line 1.
 -- Assumes nothing.
-use Rattle.std.specs.Prelude.{ℕ, ◌≡◌, true, false, List, drop}
+use Rattle.std.specs.Prelude.{ℕ, ◌≡◌, true, false, Option, None, Some, List, drop}
 use Rattle.papers.specs.declared.JobHead.{JobHead}
 use Rattle.papers.specs.Text.{numbers_at, head_of}
 use Rattle.text_laws.specs.Grammar.{behind}
 use Rattle.text_words.specs.Words.{LineTo}
-use Rattle.text_head.specs.declared.FirstLine.{FirstLine}
-use Rattle.text_head.specs.declared.FirstLine.TheVariants.{Numbers, Bad}
+
+-- the rest of line 1 at `at` completes this head, after the numbers read before it, and next is the place behind the line
+pub record HeadAt (text : List ℕ) (read : List ℕ) (at : ℕ) (head : JobHead) (next : ℕ) : Type 0 where
+  pub is : head_of (behind read (numbers_at (drop at text) 1)) ≡ record { fine = true; head = head }
+  pub ends : LineTo text at next
+
+-- the numbers read and the rest of line 1 at `at` are no head
+pub record NoHead (text : List ℕ) (read : List ℕ) (at : ℕ) : Type 0 where
+  pub bad : (head_of (behind read (numbers_at (drop at text) 1))).fine ≡ false
 
 -- what the rest of line 1 at `at` tells, after the numbers read before it
-pub data HeadTold (text : List ℕ) (read : List ℕ) (at : ℕ) (r : FirstLine) : Type 0 where
-  head-line : (head : JobHead) (next : ℕ) → r ≡ Numbers head next
-      → head_of (behind read (numbers_at (drop at text) 1)) ≡ record { fine = true; head = head } → LineTo text at next
-      → HeadTold text read at r
-  no-head-line : r ≡ Bad → (head_of (behind read (numbers_at (drop at text) 1))).fine ≡ false → HeadTold text read at r
+abbrev pub HeadTold : List ℕ → List ℕ → ℕ → Option (JobHead × ℕ) → Type 0
+HeadTold text read at (Some (head, next)) = HeadAt text read at head next
+HeadTold text read at None = NoHead text read at

@@ -1,24 +1,19 @@
 -- Proves how rows are read one by one to the end of the line: those read, then the rest of the line, are the line's numbers. Each takes at least a
 -- byte, so their count is no greater than the place.
 -- Assumes nothing.
-use Prim.Native.Nat.{ℕ, ◌+◌, ◌<◌, ◌≤◌}
-use mathlib.Core.Path.{◌≡◌, refl, sym, ap, ◌∙◌}
-use mathlib.Core.Logic.{◌≢◌}
-use mathlib.Core.List.{List, [], ◌∷◌, ◌++◌, map, map-append}
-use native.Mathlib.Omega.{arith}
-use lib.ListN.{length, set, drop, length-append, length-map, drop_of_length-le}
+use Rattle.std.proofs.Common.{ℕ, ◌+◌, ◌<◌, ◌≤◌, ◌≡◌, refl, sym, ap, ◌∙◌, ◌≢◌, List, [], ◌∷◌, ◌++◌, map, arith, length, set, drop, length-append}
+use Rattle.std.proofs.Common.{drop_of_length-le, ne_eqb}
+use mathlib.Core.List.{map-append}
+use lib.ListN.{length-map}
 use lib.Seq.{sets, length-sets}
-use borrow.Author.Tests.{ne_eqb}
 use Rattle.papers.specs.Text.{newline, space, cut, after_lines, numbers_at, is_row_line}
 use Rattle.list_laws.proofs.Stores.{sets_more}
 use Rattle.text_laws.specs.Grammar.{behind}
 use Rattle.text_laws.proofs.ByWords.{behind-none, behind_more}
-use Rattle.text_words.specs.Words.{DecimalAt}
+use Rattle.text_words.specs.Words.{DecimalAt, NoNumbers}
 use Rattle.text_words.proofs.Told.{more_numbers, more-after, line-behind, last-numbers, line-ends}
 use Rattle.text_lines.specs.Narrowed.{narrowed}
-use Rattle.text_lines.specs.declared.Line.{Line}
-use Rattle.text_lines.specs.declared.Line.TheVariants.{Rows, Bad}
-use Rattle.text_lines.specs.Lines.{RowsTold, all-rows, no_rows, LineTold, row_line, no-row-line}
+use Rattle.text_lines.specs.Lines.{RowsAt, RowLine, NoRowLine}
 
 -- `count` numbers are read so far, up to k, and kept from place t on
 pub record RowsRead (text : List ℕ) (at t : ℕ) (rows₀ rows : List ℕ) (k count : ℕ) : Type 0 where
@@ -76,30 +71,29 @@ module _ {text : List ℕ} {at t : ℕ} {rows₀ rows : List ℕ} {k count : ℕ
 
   -- reads the last one, before a newline
   pub rows_last : {v next : ℕ} {rows' : List ℕ} → DecimalAt text k newline v next → rows' ≡ set rows (t + count) (narrowed v)
-      → RowsTold text at t rows₀ rows' (Rows (count + 1) next)
+      → RowsAt text at t rows₀ rows' (count + 1) next
   unfolding behind
   rows_last {v} {next} n e =
       let p = x.paced in
       let o = n.on in
-      let c = one-counted v in
       let l = line-ends n in
-      all-rows
-      (x.list ++ (v ∷ []))
-      next
-      (ap (λ (m : ℕ). Rows m next) (sym c))
-      (sym x.whole ∙ ap (behind x.list) (last-numbers n))
-      (omega arith)
-      (record { rest = l.rest ∙ x.after; on = omega arith; inside = l.inside })
-      (omega arith)
-      (one_kept v e)
+      record {
+        list = x.list ++ (v ∷ []);
+        counted = sym (one-counted v);
+        numbers = sym x.whole ∙ ap (behind x.list) (last-numbers n);
+        some = omega arith;
+        ends = record { rest = l.rest ∙ x.after; on = omega arith; inside = l.inside };
+        paced = omega arith;
+        kept = one_kept v e;
+      }
 
   -- bad text, or no text
-  pub rows-bad : numbers_at (drop k text) 1 ≡ [] → RowsTold text at t rows₀ rows Bad
+  pub rows-bad : NoNumbers text k → NoNumbers text at
   unfolding behind
-  rows-bad e = no_rows refl (sym x.whole ∙ ap (behind x.list) e)
+  rows-bad b = record { none = sym x.whole ∙ ap (behind x.list) b.none }
 
-  pub rows_out : length text ≤ k → RowsTold text at t rows₀ rows Bad
-  rows_out h = rows-bad (rw (drop_of_length-le text h) no_text)
+  pub rows_out : length text ≤ k → NoNumbers text at
+  rows_out h = rows-bad (record { none = rw (drop_of_length-le text h) no_text })
 
 -- ---- a line of rows, by its count
 
@@ -108,42 +102,45 @@ counted-rows : {text : List ℕ} {at said next : ℕ} → DecimalAt text at spac
     → numbers_at (drop at text) 1 ≡ said ∷ list
 counted-rows {said = said} n {list} f s = more_numbers n ∙ ap (behind (said ∷ [])) f ∙ behind-some (said ∷ []) list s
 
-module _ {text : List ℕ} {at t : ℕ} {rows₀ : List ℕ} where
-  -- bad text
-  pub line-bad : {rows : List ℕ} → numbers_at (drop at text) 1 ≡ [] → LineTold text at t rows₀ rows Bad
+-- bad text
+pub line-bad : {text : List ℕ} {at : ℕ} → NoNumbers text at → NoRowLine text at
+unfolding is_row_line
+line-bad b = record { bad = rw b.none }
+
+-- the count is alone on the line
+module _ {text : List ℕ} {at said next : ℕ} (n : DecimalAt text at newline said next) where
+  pub line-alone : {t : ℕ} {rows : List ℕ} → said ≡ 0 → RowLine text at t rows rows 0 next
+  line-alone z =
+      let o = n.on in
+      record { list = []; counted = refl; numbers = last-numbers n ∙ rw z; ends = line-ends n; paced = omega arith; kept = refl }
+
+  pub line-lacks : said ≢ 0 → NoRowLine text at
   unfolding is_row_line
-  line-bad e = no-row-line refl (rw e)
+  line-lacks h = record { bad = rw (last-numbers n) (ne_eqb said 0 h) }
 
-  -- the count is alone on the line
-  module _ {said next : ℕ} (n : DecimalAt text at newline said next) where
-    pub line-alone : said ≡ 0 → LineTold text at t rows₀ rows₀ (Rows 0 next)
-    line-alone z = let o = n.on in row_line [] next refl (last-numbers n ∙ rw z) (line-ends n) (omega arith) refl
+-- rows follow the count
+module _ {text : List ℕ} {at said next : ℕ} (n : DecimalAt text at space said next) where
+  pub line-no-rows : NoNumbers text next → NoRowLine text at
+  unfolding behind
+  line-no-rows b = line-bad (record { none = more_numbers n ∙ ap (behind (said ∷ [])) b.none })
 
-    pub line-lacks : {rows : List ℕ} → said ≢ 0 → LineTold text at t rows₀ rows Bad
-    unfolding is_row_line
-    line-lacks h = no-row-line refl (rw (last-numbers n) (ne_eqb said 0 h))
+  module _ {t : ℕ} {rows₀ rows : List ℕ} {count end : ℕ} (x : RowsAt text next t rows₀ rows count end) where
+    listed : numbers_at (drop at text) 1 ≡ said ∷ x.list
+    listed = counted-rows n x.numbers (rw x.counted at x.some)
 
-  -- rows follow the count
-  module _ {said next : ℕ} (n : DecimalAt text at space said next) {rows : List ℕ} where
-    pub line-no-rows : {r : Line} → RowsTold text next t rows₀ rows r → r ≡ Bad → LineTold text at t rows₀ rows Bad
-    unfolding behind
-    line-no-rows (all-rows list end e f s l p k) g = absurd (let z : ◌≡◌ {A = ℕ} 0 1 = cc in omega arith)
-    line-no-rows (no_rows e f) g = line-bad (more_numbers n ∙ ap (behind (said ∷ [])) f)
-
-    pub line-rows : {r : Line} {count end : ℕ} → RowsTold text next t rows₀ rows r → r ≡ Rows count end → count ≡ said
-        → LineTold text at t rows₀ rows (Rows count end)
-    line-rows {count = count} {end = end} (all-rows list m e f s l p k) g h =
-        let a : length list ≡ count = cc in
-        let b : m ≡ end = cc in
+    pub line-rows : count ≡ said → RowLine text at t rows₀ rows count end
+    line-rows h =
         let o = n.on in
-        row_line list end (ap (λ (c : ℕ). Rows c end) (sym a)) (counted-rows n f s ∙ ap (λ (c : ℕ). c ∷ list) (sym (a ∙ h)))
-        (line-behind n (rw b at l)) (omega arith) k
-    line-rows (no_rows e f) g h = absurd (let z : ◌≡◌ {A = ℕ} 0 1 = cc in omega arith)
+        let p = x.paced in
+        record {
+          list = x.list;
+          counted = x.counted;
+          numbers = listed ∙ ap (λ (c : ℕ). c ∷ x.list) (sym h ∙ x.counted);
+          ends = line-behind n x.ends;
+          paced = omega arith;
+          kept = x.kept;
+        }
 
-    pub line-differs : {r : Line} {count end : ℕ} → RowsTold text next t rows₀ rows r → r ≡ Rows count end → count ≢ said
-        → LineTold text at t rows₀ rows Bad
+    pub line-differs : count ≢ said → NoRowLine text at
     unfolding is_row_line
-    line-differs {count = count} (all-rows list m e f s l p k) g h =
-        let a : length list ≡ count = cc in
-        no-row-line refl (rw (counted-rows n f s) (ne_eqb said (length list) (λ z. h (sym a ∙ sym z))))
-    line-differs (no_rows e f) g h = absurd (let z : ◌≡◌ {A = ℕ} 0 1 = cc in omega arith)
+    line-differs h = record { bad = rw listed (ne_eqb said (length x.list) (λ z. h (x.counted ∙ sym z))) }

@@ -1,15 +1,11 @@
 -- Proves the loop over the lines of rows: each line begins at the end of the one before, and its rows and start are stored behind theirs. No line so
 -- far has a fault, so the first fault found is the first of all.
 -- Assumes nothing.
-use Prim.Native.Nat.{ℕ, suc, ◌+◌, ◌-◌, ◌<◌, ◌≤◌}
-use mathlib.Core.Path.{◌≡◌, refl, sym, ap, ◌∙◌}
-use mathlib.Core.Bool.{true, false}
-use mathlib.Core.List.{List, [], ◌∷◌, ◌++◌, map, map-append}
-use native.Mathlib.Omega.{arith}
-use native.Mathlib.Numerals.{add-one}
-use lib.ListN.{length, set, drop, length-append, length-map, length-drop}
-use lib.Seq.{sets, length-sets, set-set}
-use borrow.Author.Tests.{eq-eqb}
+use Rattle.std.proofs.Common.{ℕ, suc, ◌+◌, ◌-◌, ◌<◌, ◌≤◌, ◌≡◌, refl, sym, ap, ◌∙◌, true, List, [], ◌∷◌, ◌++◌, map, arith, add-one, length, set, drop}
+use Rattle.std.proofs.Common.{length-append, length-drop, set-set, eq-eqb}
+use mathlib.Core.List.{map-append}
+use lib.ListN.{length-map}
+use lib.Seq.{sets, length-sets}
 use Rattle.papers.specs.Bounds.{program_rows}
 use Rattle.papers.specs.Lists.{least, flat, starts_counted_from}
 use Rattle.papers.specs.Text.{numbers_at, is_row_line, rows_of_line, after_lines, head_of_text, text_lists, line_fault}
@@ -19,13 +15,12 @@ use Rattle.text_laws.proofs.Lines.{after_next}
 use Rattle.text_laws.proofs.Numbers.{numbers-later}
 use Rattle.text_words.specs.Words.{LineTo}
 use Rattle.text_lines.specs.Narrowed.{narrowed}
-use Rattle.text_rows.specs.declared.Lines.{Lines}
-use Rattle.text_rows.specs.declared.Lines.TheVariants as lines
-use Rattle.text_rows.specs.RowsRead.{lists_of_columns, LinesTold, all_lines, bad-lines}
+use Rattle.text_lines.specs.Lines.{RowLine, NoRowLine}
+use Rattle.refusals.specs.declared.Refusal.TheVariants.{BadText, OverProgramSizes}
+use Rattle.text_rows.specs.RowsRead.{lists_of_columns, AllLines, LinesRefuse}
 use Rattle.text_laws.proofs.TextLists.{lists-none, lists-more, length-lists}
 use Rattle.text_laws.proofs.LineTests.{line-bad, line-over, line-fine}
 use Rattle.text_rows.proofs.Tests.{lines-refuse, end-refuses, end-passes}
-use Rattle.text_rows.proofs.RowLines.{RowLine}
 
 -- the lines of the first j columns, up to k, with `total` rows
 pub record LinesRead (text : List ℕ) (n : ℕ) (starts₀ rows₀ starts rows : List ℕ) (j total k : ℕ) : Type 0 where
@@ -56,10 +51,11 @@ lines_start text n starts rows l =
       kept = rw (lists-none text);
     }
 
-pub told-first : {text starts₀ rows₀ starts rows : List ℕ} {r : Lines} → LinesTold text (set starts₀ 0 0) rows₀ starts rows r
-    → LinesTold text starts₀ rows₀ starts rows r
-told-first {text} {starts₀} (all_lines e p s k) = all_lines e p (s ∙ starts-again starts₀ (lists_of_columns text)) k
-told-first (bad-lines number place e p) = bad-lines number place e p
+-- the first start is stored again with the others
+pub all-first : {text starts₀ rows₀ starts rows : List ℕ} {count : ℕ} → AllLines text (set starts₀ 0 0) rows₀ starts rows count
+    → AllLines text starts₀ rows₀ starts rows count
+all-first {text} {starts₀} a =
+    record { counted = a.counted; passes = a.passes; started = a.started ∙ starts-again starts₀ (lists_of_columns text); kept = a.kept }
 
 module _ {text : List ℕ} {n : ℕ} {starts₀ rows₀ starts rows : List ℕ} {j total k : ℕ} (x : LinesRead text n starts₀ rows₀ starts rows j total k) where
   pub starts-long : length starts ≡ length starts₀
@@ -73,10 +69,9 @@ module _ {text : List ℕ} {n : ℕ} {starts₀ rows₀ starts rows : List ℕ} 
   numbers-here = numbers-later text (suc j) ∙ ap (λ (t : List ℕ). numbers_at t 1) (sym x.rest)
 
   -- the line has bad text
-  pub lines-bad : {starts' rows' : List ℕ} → n ≡ (head_of_text text).head.n → j < n → is_row_line (numbers_at (drop k text) 1) ≡ false
-      → LinesTold text starts₀ rows₀ starts' rows' (lines.Refused 25 (j + 2))
+  pub lines-bad : n ≡ (head_of_text text).head.n → j < n → NoRowLine text k → LinesRefuse text (record { refusal = BadText; place = j + 2 })
   lines-bad e l f =
-      bad-lines 25 (j + 2) refl (lines-refuse text j 25 x.fine (omega arith) (line-bad text (suc j) (ap is_row_line numbers-here ∙ f)) (omega arith))
+      record { refuses = lines-refuse text j 25 x.fine (omega arith) (line-bad text (suc j) (ap is_row_line numbers-here ∙ f.bad)) (omega arith) }
 
   -- the line is a line of rows
   module _ {count next : ℕ} {rows' : List ℕ} (y : RowLine text k total rows rows' count next) where
@@ -107,11 +102,13 @@ module _ {text : List ℕ} {n : ℕ} {starts₀ rows₀ starts rows : List ℕ} 
         y.kept
 
     -- it has too many rows
-    pub lines-over : {starts' : List ℕ} → n ≡ (head_of_text text).head.n → j < n → program_rows < total + count
-        → LinesTold text starts₀ rows₀ starts' rows' (lines.Refused 26 (j + 2))
+    pub lines-over : n ≡ (head_of_text text).head.n → j < n → program_rows < total + count
+        → LinesRefuse text (record { refusal = OverProgramSizes; place = j + 2 })
     lines-over e l h =
-        bad-lines 26 (j + 2) refl (lines-refuse text j 26 x.fine (omega arith) (line-over text (suc j) is-row-line (omega (arith, more-counted)))
-        (omega arith))
+        record {
+          refuses = lines-refuse text j 26 x.fine (omega arith) (line-over text (suc j) is-row-line (omega (arith, more-counted)))
+              (omega arith);
+        }
 
     -- it has few enough rows
     pub lines-turn : {starts' : List ℕ} → j < n → total + count ≤ program_rows → starts' ≡ set starts (j + 1) (total + count)
@@ -146,11 +143,15 @@ module _ {text : List ℕ} {n : ℕ} {starts₀ rows₀ starts rows : List ℕ} 
     left-long = rw (← all_read, ← x.rest) (length-drop k text)
 
     -- text follows them
-    pub lines_left : {starts' rows' : List ℕ} → k < length text → LinesTold text starts₀ rows₀ starts' rows' (lines.Refused 25 (n + 2))
-    lines_left h = bad-lines 25 (n + 2) refl (rw e (end-refuses text all-fine (omega (arith, left-long))))
+    pub lines_left : k < length text → LinesRefuse text (record { refusal = BadText; place = n + 2 })
+    lines_left h = record { refuses = rw e (end-refuses text all-fine (omega (arith, left-long))) }
 
     -- no text follows them
-    pub lines-done : length text ≤ k → LinesTold text starts₀ rows₀ starts rows (lines.Rows total)
+    pub lines-done : length text ≤ k → AllLines text starts₀ rows₀ starts rows total
     lines-done h =
-        all_lines (ap lines.Rows (rw all_read at x.counted)) (end-passes text all-fine (omega (arith, left-long))) (rw all_read at x.started)
-        (rw all_read at x.kept)
+        record {
+          counted = rw all_read at x.counted;
+          passes = end-passes text all-fine (omega (arith, left-long));
+          started = rw all_read at x.started;
+          kept = rw all_read at x.kept;
+        }

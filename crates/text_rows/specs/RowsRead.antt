@@ -1,16 +1,16 @@
 -- Defines what is read of the lines of rows of a job text, and what is kept of them. Rows are kept narrowed. After a refusal it promises nothing of
 -- the slices.
 -- Assumes nothing.
-use Rattle.std.specs.Prelude.{ℕ, ◌<◌, ◌≤◌, ◌≡◌, false, List, [], ◌∷◌, map, length}
+use Rattle.std.specs.Prelude.{ℕ, ◌<◌, ◌≤◌, ◌≡◌, false, Result, Ok, Err, List, [], ◌∷◌, map, length}
 use Rattle.std.proofs.lemmas.List.Edits.{sets}
 use Rattle.papers.specs.Bounds.{program_columns}
 use Rattle.papers.specs.Lists.{flat, starts_counted_from}
-use Rattle.papers.specs.Refusals.{answer, passed, refused, first}
+use Rattle.papers.specs.Refusals.{passed, refused, first}
 use Rattle.papers.specs.Text.{Input, head_of_text, text_lists, bad_line, text_after}
 use Rattle.text_words.specs.Words.{LineTo}
 use Rattle.text_lines.specs.Narrowed.{narrowed}
-use Rattle.text_rows.specs.declared.Lines.{Lines}
-use Rattle.text_rows.specs.declared.Lines.TheVariants as lines
+use Rattle.refusals.specs.declared.Fault.{Fault}
+use Rattle.refusals.specs.Answers.{answer_refusing, refused_without_count}
 
 -- the lists of a text's columns
 abbrev pub lists_of_columns : List ℕ → List (List ℕ)
@@ -27,11 +27,18 @@ pub record LinesAsked (text : List ℕ) (at n : ℕ) (starts : List ℕ) : Type 
   pub few : n ≤ program_columns
   pub long : program_columns < length starts
 
+-- all lines of rows are read, and nothing stands behind them: `count` rows, which are kept with their starts
+pub record AllLines (text starts₀ rows₀ starts rows : List ℕ) (count : ℕ) : Type 0 where
+  pub counted : count ≡ length (flat (lists_of_columns text))
+  pub passes : first (bad_line ∷ text_after ∷ []) (whole text) ≡ passed
+  pub started : starts ≡ sets starts₀ 0 (starts_counted_from 0 (lists_of_columns text))
+  pub kept : rows ≡ sets rows₀ 0 (map narrowed (flat (lists_of_columns text)))
+
+-- the tests of the lines and of the end give this fault
+pub record LinesRefuse (text : List ℕ) (fault : Fault) : Type 0 where
+  pub refuses : first (bad_line ∷ text_after ∷ []) (whole text) ≡ refused (answer_refusing (refused_without_count fault))
+
 -- what is told of the lines of rows and of the end
-pub data LinesTold (text starts₀ rows₀ starts rows : List ℕ) (r : Lines) : Type 0 where
-  all_lines : r ≡ lines.Rows (length (flat (lists_of_columns text))) → first (bad_line ∷ text_after ∷ []) (whole text) ≡ passed
-      → starts ≡ sets starts₀ 0 (starts_counted_from 0 (lists_of_columns text)) → rows ≡ sets rows₀ 0 (map narrowed (flat (lists_of_columns text)))
-      → LinesTold text starts₀ rows₀ starts rows r
-  bad-lines : (number place : ℕ) → r ≡ lines.Refused number place
-      → first (bad_line ∷ text_after ∷ []) (whole text) ≡ refused (answer number place 0)
-      → LinesTold text starts₀ rows₀ starts rows r
+abbrev pub LinesTold : List ℕ → List ℕ → List ℕ → List ℕ → List ℕ → Result ℕ Fault → Type 0
+LinesTold text starts₀ rows₀ starts rows (Ok count) = AllLines text starts₀ rows₀ starts rows count
+LinesTold text starts₀ rows₀ starts rows (Err fault) = LinesRefuse text fault

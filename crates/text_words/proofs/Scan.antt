@@ -1,44 +1,18 @@
 -- Proves how digits are read one by one: one more makes the value ten times as great, plus that digit, and so few digits stay below 2^64. Their count
 -- and the first of them decide whether they are a decimal.
 -- Assumes nothing.
-use Prim.Native.Nat.{ℕ, suc, ◌+◌, ◌-◌, ◌*◌, ◌^◌, ◌<◌, ◌≤◌, min}
-use mathlib.Core.Path.{◌≡◌, refl, sym, ap, ◌∙◌}
-use mathlib.Core.Logic.{◌⊎◌, ◌≢◌, inl, inr}
-use mathlib.Core.Bool.{Bool, true, false, not}
-use mathlib.Core.List.{List, [], ◌∷◌, ◌++◌}
-use native.Mathlib.Omega.{arith}
+use Rattle.std.proofs.Common.{ℕ, suc, ◌+◌, ◌-◌, ◌*◌, ◌^◌, ◌<◌, ◌≤◌, ◌≡◌, refl, sym, ap, ◌∙◌, ◌≢◌, true, false, not, List, [], ◌∷◌, ◌++◌, arith, add-one, eqb}
+use Rattle.std.proofs.Common.{length, get_or, take, drop, length-drop, take-suc, get_or-take, get_or-drop, length-take-le, eqb-true}
 use native.Mathlib.Nat.{pow-le-pow_right}
-use native.Mathlib.Numerals.{add-one}
-use lib.Dec.{leb, eqb}
-use lib.ListN.{length, get_or, take, drop, length-drop}
-use lib.Seq.{take-suc, get_or-take, get_or-drop, length-take-le}
-use borrow.Author.Tests.{le-leb, lt-leb, eqb-true, eqb-false}
+use borrow.Author.Tests.{eqb-false}
 use Rattle.papers.specs.Bounds.{max_digits}
-use Rattle.papers.specs.Text.{is_decimal_digit, is_decimal_number, value_of}
-use Rattle.list_laws.proofs.Tests.{below_or, Test, passes, fails, test, true-false}
+use Rattle.papers.specs.Text.{is_decimal_number, value_of}
+use Rattle.list_laws.proofs.Tests.{Test, passes, fails, test}
 use Rattle.text_laws.specs.Grammar.{DigitByte, Decimal}
 use Rattle.text_laws.proofs.Parts.{all_append}
-use Rattle.text_laws.proofs.Decimals.{value-append, value-below, digit-iff}
+use Rattle.text_laws.proofs.Decimals.{value-append, value-below}
 use Rattle.text_laws.proofs.DecimalWords.{decimal-word-iff}
-use Rattle.text_words.specs.Words.{DigitsAt, DigitsRead, Stop}
-
--- ---- a digit
-
-pub digit-high : (b : ℕ) → 48 ≤ b → leb b 57 ≡ is_decimal_digit b
-unfolding is_decimal_digit
-digit-high b h = rw (le-leb 48 b h)
-
-pub digit_low : (b : ℕ) → b < 48 → leb 48 b ≡ is_decimal_digit b
-unfolding is_decimal_digit
-digit_low b h = rw (lt-leb 48 b h)
-
-pub digit-yes : (b : ℕ) {r : Bool} → r ≡ is_decimal_digit b → r ≡ true → DigitByte b
-digit-yes b {r} e t = (digit-iff b).0 (sym e ∙ t)
-
-pub digit-no : (b : ℕ) {r : Bool} → r ≡ is_decimal_digit b → r ≡ false → ¬ DigitByte b
-digit-no b {r} e f d = true-false ((digit-iff b).1 d) (sym e ∙ f)
-
--- ---- digits
+use Rattle.text_words.specs.Words.{DigitsAt, DigitsRead}
 
 module _ (text : List ℕ) (at : ℕ) where
   -- no digit yet
@@ -115,11 +89,3 @@ module _ (text : List ℕ) (at : ℕ) where
           };
           valued = rw (add-one, parts, value-append 0 (take i (drop at text)) (b ∷ []), ← d.valued);
         }
-
-    -- the digits stop at the end of the text, or after 13
-    pub digits-stop : i ≡ min (length text - at) max_digits → Stop text at i
-    digits-stop e = go (below_or (length text - at) max_digits)
-      where
-        go : (length text - at < max_digits) ⊎ (max_digits ≤ length text - at) → Stop text at i
-        go (inl l) = let h = d.there.inside in inr (inl (omega arith))
-        go (inr l) = inl (omega arith)

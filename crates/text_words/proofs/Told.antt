@@ -1,32 +1,10 @@
 -- Proves what an answer tells of the text: the number at a place, or that a line that begins there has none.
 -- Assumes nothing.
-use Prim.Native.Nat.{ℕ}
-use mathlib.Core.Path.{◌≡◌, sym, ap, ◌∙◌}
-use mathlib.Core.List.{List, [], ◌∷◌}
-use native.Mathlib.Omega.{arith}
-use lib.ListN.{drop}
+use Rattle.std.proofs.Common.{ℕ, ◌≡◌, sym, ap, ◌∙◌, List, [], ◌∷◌, arith, drop}
 use Rattle.papers.specs.Text.{newline, space, after_lines, numbers_at}
 use Rattle.text_laws.specs.Grammar.{behind}
 use Rattle.text_laws.proofs.ByWords.{numbers-last, numbers-next, after_last, after_next}
-use Rattle.text_words.specs.declared.Word.{Word}
-use Rattle.text_words.specs.declared.Word.TheVariants.{More, Last, Bad}
-use Rattle.text_words.specs.Words.{LineTo, DecimalAt, WordRead, before-space, before-newline, no_number}
-
-module _ {text : List ℕ} {at : ℕ} {r : Word} where
-  pub word_more : {x next : ℕ} → WordRead text at r → r ≡ More x next → DecimalAt text at space x next
-  word_more {x} {next} (before-space y m e n) g = let a : y ≡ x = cc in let b : m ≡ next = cc in rw (← a, ← b) n
-  word_more (before-newline y m e n) g = absurd (let z : ◌≡◌ {A = ℕ} 0 1 = cc in omega arith)
-  word_more (no_number e n) g = absurd (let z : ◌≡◌ {A = ℕ} 0 1 = cc in omega arith)
-
-  pub word-last : {x next : ℕ} → WordRead text at r → r ≡ Last x next → DecimalAt text at newline x next
-  word-last (before-space y m e n) g = absurd (let z : ◌≡◌ {A = ℕ} 0 1 = cc in omega arith)
-  word-last {x} {next} (before-newline y m e n) g = let a : y ≡ x = cc in let b : m ≡ next = cc in rw (← a, ← b) n
-  word-last (no_number e n) g = absurd (let z : ◌≡◌ {A = ℕ} 0 1 = cc in omega arith)
-
-  pub word-bad : WordRead text at r → r ≡ Bad → numbers_at (drop at text) 1 ≡ []
-  word-bad (before-space y m e n) g = absurd (let z : ◌≡◌ {A = ℕ} 0 1 = cc in omega arith)
-  word-bad (before-newline y m e n) g = absurd (let z : ◌≡◌ {A = ℕ} 0 1 = cc in omega arith)
-  word-bad (no_number e n) g = n
+use Rattle.text_words.specs.Words.{LineTo, DecimalAt}
 
 -- a space follows the number, and then the rest of the line
 module _ {text : List ℕ} {at x next : ℕ} (n : DecimalAt text at space x next) where

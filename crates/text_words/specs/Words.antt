@@ -1,11 +1,10 @@
 -- Defines what is read at a place of a text: digits, the number that they make with the byte behind them, and the line that begins there.
 -- Assumes nothing.
-use Rattle.std.specs.Prelude.{ℕ, ◌+◌, ◌<◌, ◌≤◌, ◌≡◌, ◌⊎◌, List, [], ◌∷◌, ◌++◌, length, get_or, take, drop}
+use Rattle.std.specs.Prelude.{ℕ, ◌+◌, ◌<◌, ◌≤◌, ◌≡◌, ◌⊎◌, Bool, true, false, Option, None, Some, List, [], ◌∷◌, ◌++◌, length, get_or, take, drop}
 use Rattle.papers.specs.Bounds.{max_digits}
 use Rattle.papers.specs.Text.{newline, space, value_of, decimal_of, after_lines, numbers_at}
 use Rattle.text_laws.specs.Grammar.{All, DigitByte, Short}
 use Rattle.text_words.specs.declared.Word.{Word}
-use Rattle.text_words.specs.declared.Word.TheVariants.{More, Last, Bad}
 
 -- the first `count` bytes from `at` on are digits, no more than a decimal may have
 pub record DigitsAt (text : List ℕ) (at count : ℕ) : Type 0 where
@@ -34,11 +33,19 @@ pub record DecimalAt (text : List ℕ) (at b x next : ℕ) : Type 0 where
   pub on : at < next
   pub inside : next ≤ length text
 
+-- the byte that ends a number: a newline if that ends the line too, else a space
+abbrev pub end_of : Bool → ℕ
+end_of true = newline
+end_of false = space
+
+-- a line that begins at `at` has no numbers
+pub record NoNumbers (text : List ℕ) (at : ℕ) : Type 0 where
+  pub none : numbers_at (drop at text) 1 ≡ []
+
 -- What is read at `at`: a number before a space or before a newline; else a line that begins there has no numbers.
-pub data WordRead (text : List ℕ) (at : ℕ) (r : Word) : Type 0 where
-  before-space : (x next : ℕ) → r ≡ More x next → DecimalAt text at space x next → WordRead text at r
-  before-newline : (x next : ℕ) → r ≡ Last x next → DecimalAt text at newline x next → WordRead text at r
-  no_number : r ≡ Bad → numbers_at (drop at text) 1 ≡ [] → WordRead text at r
+abbrev pub WordRead : List ℕ → ℕ → Option Word → Type 0
+WordRead text at (Some word) = DecimalAt text at (end_of word.ends_line) word.value word.next
+WordRead text at None = NoNumbers text at
 
 -- the line that begins at `at` ends just before next
 pub record LineTo (text : List ℕ) (at next : ℕ) : Type 0 where

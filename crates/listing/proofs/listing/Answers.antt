@@ -6,13 +6,13 @@ use Rattle.listing.proofs.listing.Goals as goal
 pub returns-then-bytes-lt-LISTING_BYTES : goal.returns-then-bytes-lt-LISTING_BYTES
 returns-then-bytes-lt-LISTING_BYTES c =
     way-short (record { text = c.args.text.now; more = c.args.more }) c.args.bytes.now
-    c.if-bytes-lt-LISTING_BYTES.true c.answered.ensures
+    c.if-bytes-lt-LISTING_BYTES.true c.from.ensures
 
 pub print_text-printed-requires : goal.print_text-printed-requires
 print_text-printed-requires c =
-    prints-fit _ c.args.bytes.now c.if-bytes-lt-LISTING_BYTES.false c.clear8.ensures
+    prints-fit _ c.args.bytes.now c.if-bytes-lt-LISTING_BYTES.false (c.fill.ensures.after (λ y e. e))
 
 pub returns : goal.returns
 returns c =
     way-printed (record { text = c.args.text.now; more = c.args.more }) c.args.bytes.now
-    c.if-bytes-lt-LISTING_BYTES.false c.clear8.ensures c.print_text-printed.ensures c.answered-2.ensures
+    c.if-bytes-lt-LISTING_BYTES.false (c.fill.ensures.after (λ y e. e)) c.print_text-printed.ensures c.done.ensures

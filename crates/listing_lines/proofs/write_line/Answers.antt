@@ -1,14 +1,10 @@
 -- Proves that `write_line` writes the line part by part: at each place a law of Lines tells what is left of it.
 -- Assumes nothing.
-use Prim.Native.Nat.{◌+◌, ◌≤◌}
-use mathlib.Core.List.{[], ◌∷◌}
-use native.Mathlib.Omega.{arith}
-use lib.ListN.{length}
-use borrow.Author.Rules.{rules}
+use Rattle.std.proofs.Common.{[], ◌∷◌, ◌+◌, ◌≤◌, length, arith, rules}
 use Rattle.papers.specs.Text.{printed}
 use Rattle.list_laws.proofs.Writing.{Reached}
 use Rattle.listing_lines.proofs.Lines.{tail, word_fits, behind-word, number_fits, behind-number, behind-one, behind-two}
-use Rattle.listing_lines.proofs.Lines.{end_fits, line-done, line-long}
+use Rattle.listing_lines.proofs.Lines.{end_fits, line-done}
 use Rattle.listing_lines.proofs.write_line.Goals as goal
 use Rattle.listing_lines.proofs.write_line.Goals.{After-write_number-end, Start}
 
@@ -53,9 +49,6 @@ overflow_add-result c =
     let l = (line-done (numbers-written (goal.at.overflow_add-result c).After-write_number-end).left).place in
     let p = c.requires in
     search rules
-
-pub shape_of-bytes : goal.shape_of-bytes
-shape_of-bytes c = line-long (numbers-written (goal.at.shape_of-bytes c).After-write_number-end).left
 
 pub returns : goal.returns
 returns c = line-done (numbers-written (goal.at.returns c).After-write_number-end).left

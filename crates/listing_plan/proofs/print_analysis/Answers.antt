@@ -1,20 +1,17 @@
 -- Proves that `print_analysis` prints the line of a refusal, or the listing of the job's plan, which parts of the slices hold after an analysis that
 -- is done.
 -- Assumes nothing.
-use mathlib.Core.Path.{sym, ap}
-use native.Mathlib.Omega.{arith}
-use lib.ListN.{length}
-use lib.Seq.{length-take-le}
-use Rattle.papers.specs.Job.{job_of}
+use Rattle.std.proofs.Common.{sym, ap, length, arith, length-take-le}
+use Rattle.job.specs.Given.{job_given}
 use Rattle.list_laws.proofs.Writing.{wrote_as}
 use Rattle.lent.specs.Six.{six_slices}
-use Rattle.listing_plan.proofs.Analysed.{refused-printed, Done, done-lies, done-columns, done-steps, done-printable, done-printed}
+use Rattle.listing_plan.proofs.Analysed.{refused-printed, Done, done-lies, done-steps, done-printable, done-printed}
 use Rattle.listing_plan.proofs.print_analysis.Goals as goal
 use Rattle.listing_plan.proofs.print_analysis.Goals.{Else-answer-ne0}
 
 -- the analysis is done
 abbrev done : (c : Else-answer-ne0)
-    → Done (job_of c.args.head c.args.starts.now c.args.rows.now)
+    → Done (job_given c.args.job)
     (six_slices c.args.parents.now c.args.order.now c.args.pops.now c.args.fstarts.now
     c.args.frows.now c.args.work.now)
 done c = record { answered = _; after = _; ends = c.analyse-answer.ensures; zero = c.if-answer-ne0.false }
@@ -27,9 +24,6 @@ pub returns-then-answer-ne0 : goal.returns-then-answer-ne0
 returns-then-answer-ne0 c =
     wrote_as (refused-printed _ _ c.analyse-answer.ensures c.if-answer-ne0.true)
     c.write_refusal.ensures
-
-pub offset_bounds-fstarts-n : goal.offset_bounds-fstarts-n
-offset_bounds-fstarts-n c = omega (arith, done-columns (done (goal.at.offset_bounds-fstarts-n c).Else-answer-ne0))
 
 pub bounds-fstarts-n : goal.bounds-fstarts-n
 bounds-fstarts-n c = omega (arith, (done-lies (done (goal.at.bounds-fstarts-n c).Else-answer-ne0)).starts-long)
@@ -45,9 +39,6 @@ slice_bounds-print_plan-end-3 c = (done-lies (done (goal.at.slice_bounds-print_p
 
 pub slice_bounds-print_plan-end-4 : goal.slice_bounds-print_plan-end-4
 slice_bounds-print_plan-end-4 c = sym (length-take-le _ _ (done-lies (done (goal.at.slice_bounds-print_plan-end-4 c).Else-answer-ne0)).pops-long)
-
-pub overflow_add-n : goal.overflow_add-n
-overflow_add-n c = omega (arith, done-columns (done (goal.at.overflow_add-n c).Else-answer-ne0))
 
 pub slice_bounds-print_plan-end-5 : goal.slice_bounds-print_plan-end-5
 slice_bounds-print_plan-end-5 c = (done-lies (done (goal.at.slice_bounds-print_plan-end-5 c).Else-answer-ne0)).starts-long

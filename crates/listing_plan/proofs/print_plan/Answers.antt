@@ -1,9 +1,6 @@
 -- Proves that `print_plan` prints the listing: the header, then the steps behind it.
 -- Assumes nothing.
-use Prim.Native.Nat.{ℕ}
-use mathlib.Core.List.{List, [], ◌∷◌}
-use native.Mathlib.Omega.{arith}
-use lib.ListN.{length}
+use Rattle.std.proofs.Common.{ℕ, List, [], ◌∷◌, length, arith}
 use Rattle.papers.specs.Text.{word_plan, printed}
 use Rattle.list_laws.proofs.Writing.{wrote-both, first_fits, second_fits}
 use Rattle.listing_steps.specs.Steps.{lines_to}

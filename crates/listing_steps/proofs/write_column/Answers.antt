@@ -1,10 +1,6 @@
 -- Proves that `write_column` writes the line with the column's own rows, since the part of the rows that it hands on is the column's list.
 -- Assumes nothing.
-use Prim.Native.Nat.{ℕ, ◌+◌, ◌-◌, ◌<◌}
-use mathlib.Core.Path.{◌≡◌}
-use mathlib.Core.List.{List}
-use native.Mathlib.Omega.{arith}
-use lib.ListN.{get_or, take, drop}
+use Rattle.std.proofs.Common.{◌≡◌, ℕ, ◌+◌, ◌-◌, ◌<◌, List, get_or, take, drop, arith}
 use Rattle.papers.specs.Job.{column_of}
 use Rattle.column_laws.proofs.Columns.{column-part}
 use Rattle.listing_steps.proofs.write_column.Goals as goal

@@ -1,11 +1,10 @@
 -- Proves that `write_step` writes the line part by part: at each place a law of Lines tells what is left of it.
 -- Assumes nothing.
-use mathlib.Core.List.{[], ◌∷◌}
-use borrow.Author.Rules.{rules}
+use Rattle.std.proofs.Common.{[], ◌∷◌, rules}
 use Rattle.papers.specs.Text.{decimal_of, printed}
 use Rattle.list_laws.proofs.Writing.{Reached}
 use Rattle.listing_lines.proofs.Lines.{tail, word_fits, behind-word, number_fits, numbers_fit, behind-numbers, behind-one, behind-two}
-use Rattle.listing_lines.proofs.Lines.{end_fits, line-done, line-long}
+use Rattle.listing_lines.proofs.Lines.{end_fits, line-done}
 use Rattle.listing_steps.proofs.write_step.Goals as goal
 use Rattle.listing_steps.proofs.write_step.Goals.{After-write_rows-end}
 
@@ -46,9 +45,6 @@ overflow_add-result c =
     let l = (line-done (rows_written (goal.at.overflow_add-result c).After-write_rows-end).left).place in
     let p = c.requires in
     search rules
-
-pub shape_of-bytes : goal.shape_of-bytes
-shape_of-bytes c = line-long (rows_written (goal.at.shape_of-bytes c).After-write_rows-end).left
 
 pub returns : goal.returns
 returns c = line-done (rows_written (goal.at.returns c).After-write_rows-end).left

@@ -1,21 +1,11 @@
--- Proves that `write_steps` writes all lines: after k steps their lines are written, and below holds the sums of the updates then held. Each turn
--- leaves one step less.
+-- Proves that `write_steps` writes all lines: after k steps their lines are written, and below holds the sums of the updates then held.
 -- Assumes nothing.
-use mathlib.Core.Path.{◌∙◌}
-use native.Mathlib.Omega.{arith}
-use lib.ListN.{length-set}
 use Rattle.room.proofs.Stacks.{stacked-over}
-use Rattle.listing_steps.proofs.Printing.{printing-start, printing-long, printing-stop, printing-fits, printing-turn}
+use Rattle.listing_steps.proofs.Printing.{printing-start, printing-stop, printing-fits, printing-turn}
 use Rattle.listing_steps.proofs.write_steps.Goals as goal
 
 pub loop-k-init : goal.loop-k-init
 loop-k-init c = printing-start _ _ _ _ c.args.below.now _ _ c.requires.wide
-
-pub overflow_cast-j : goal.overflow_cast-j
-overflow_cast-j c = omega (arith, c.shared_slice_known-in-loop-k-1.given c.loop-k.k)
-
-pub overflow_cast-p : goal.overflow_cast-p
-overflow_cast-p c = omega (arith, c.shared_slice_known-in-loop-k-2-1.given c.loop-k.k)
 
 pub rows_of-rows-requires : goal.rows_of-rows-requires
 rows_of-rows-requires c = c.requires.printable.stepped.column c.loop-k.k c.loop-k-test.true
@@ -44,12 +34,6 @@ loop-k-preserved c =
     printing-turn _ _ _ _ c.loop-k.invariant c.requires.printable c.loop-k-test.true
     c.rows_of-rows.ensures c.in_use-used.ensures c.write_column-next.ensures
     c.hold-depth.ensures
-
-pub shape_of-below : goal.shape_of-below
-shape_of-below c = c.loop-k.invariant.stacked.long ∙ length-set c.args.below.now 0 0
-
-pub shape_of-bytes : goal.shape_of-bytes
-shape_of-bytes c = printing-long _ _ _ _ c.loop-k.invariant
 
 pub returns : goal.returns
 returns c = printing-stop _ _ _ _ c.loop-k.invariant c.loop-k-test.false

@@ -1,14 +1,8 @@
--- Proves that `write_steps` writes all lines: after k steps their lines are written, and below holds the sums of the updates then held. Each turn
--- leaves one step less.
+-- Proves that `write_steps` writes all lines: after k steps their lines are written, and below holds the sums of the updates then held.
 -- Assumes nothing.
-use Prim.Native.Nat.{◌-◌}
-use lib.ListN.{length}
 use Rattle.listing_steps.proofs.Printing.{Printing}
 use Rattle.listing_steps.proofs.write_steps.Given as goal
 
 abbrev pub invariant-loop-k : goal.invariant-loop-k
 invariant-loop-k l =
     Printing l.order l.pops l.fstarts l.frows l.initial.below l.initial.bytes l.at l.below l.bytes l.depth l.next l.k
-
-abbrev pub decreases-loop-k : goal.decreases-loop-k
-decreases-loop-k l = length l.order - l.k

@@ -1,18 +1,15 @@
 -- Proves that `read_mark` reads the third number of line 1, the mark, which ends the line: a fourth number is bad.
 -- Assumes nothing.
-use borrow.Author.Rules.{rules}
-use Rattle.text_words.proofs.Told.{word_more, word-last, word-bad}
+use Rattle.std.proofs.Common.{rules, true, false, ◌≡◌}
 use Rattle.text_head.proofs.Heads.{head-bad, head_three, head-four}
 use Rattle.text_head.proofs.read_mark.Goals as goal
 
-pub returns-in-Last : goal.returns-in-Last
-returns-in-Last c = head_three (word-last c.read_word.ensures c.in-Last.is) _ _
+pub returns-in_err-word : goal.returns-in_err-word
+returns-in_err-word c = rw c.from_residual.ensures (head-bad c.in_err-word.ensures)
 
-pub enum_told-1 : goal.enum_told-1
-enum_told-1 c = search rules
+pub returns-then-not-word : goal.returns-then-not-word
+returns-then-not-word c =
+    let e : c.in_ok-word.word.ends_line ≡ false = search rules in head-four (rw e at c.in_ok-word.ensures) _ _
 
-pub returns-in-More : goal.returns-in-More
-returns-in-More c = head-four (word_more c.read_word.ensures c.in-More.is) _ _
-
-pub returns-in-Bad : goal.returns-in-Bad
-returns-in-Bad c = head-bad (word-bad c.read_word.ensures c.in-Bad.is)
+pub returns : goal.returns
+returns c = let e : c.in_ok-word.word.ends_line ≡ true = search rules in head_three (rw e at c.in_ok-word.ensures) _ _

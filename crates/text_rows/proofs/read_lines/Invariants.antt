@@ -1,12 +1,8 @@
 -- Proves that `read_lines` reads the lines of rows: those of the first j columns are read and have no fault, and the rest of the text begins with the
--- next. Each turn leaves one column less.
+-- next.
 -- Assumes nothing.
-use Prim.Native.Nat.{◌-◌}
 use Rattle.text_rows.proofs.LinesRead.{LinesRead}
 use Rattle.text_rows.proofs.read_lines.Given as goal
 
 abbrev pub invariant-loop-j : goal.invariant-loop-j
 invariant-loop-j l = LinesRead l.text l.n l.initial.starts l.initial.rows l.starts l.rows l.j l.total l.k
-
-abbrev pub decreases-loop-j : goal.decreases-loop-j
-decreases-loop-j l = l.n - l.j
