@@ -44,9 +44,10 @@ pub fn count(sheet: &Sheet, part: usize) -> usize
 
 // The numbers of a part that a call is handed, then zeros.
 fn list(sheet: &Sheet, part: usize) -> Part {
-    let mut list = *sheet::part(sheet, part);
-    for x in list.iter_mut().skip(count(sheet, part)) {
-        *x = 0;
+    let mut list = [0; 300];
+    let numbers = sheet::part(sheet, part).iter();
+    for (x, number) in list.iter_mut().zip(numbers).take(count(sheet, part)) {
+        *x = *number;
     }
     list
 }
