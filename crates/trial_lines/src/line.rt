@@ -110,7 +110,8 @@ fn decode(text: &[u8], numbers: &mut Numbers) {
     }
 }
 
-// Reads the next line of the input into numbers. Answers whether there was one.
+// Reads the next line of the input into numbers. Answers whether there was one. By the crate io, as the output is written: std's reader
+// would also assume the C library's number and text of an error.
 pub fn next(numbers: &mut Numbers) -> bool {
     let mut head = [0u8; 6];
     if io::read_full(0, &mut head) < 6 {

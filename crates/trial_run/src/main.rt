@@ -9,10 +9,11 @@ mod damage; // damage.rt: an argument changed
 mod notes; // notes.rt: what else is told of a case
 
 use notes::Notes;
-use std::io;
+use std::fmt;
+use std::fmt::Write;
 use trial_elimination::sheet;
 use trial_elimination::sheet::Sheet;
-use trial_tallies::Tally;
+use trial_tallies::{Output, Tally};
 
 // The numbers that a run refuses with.
 const REFUSED: [usize; 10] = [1, 4, 5, 6, 7, 14, 21, 22, 23, 24];
@@ -37,21 +38,31 @@ fn hold_all(tally: &mut Tally<Notes>, count: usize) {
 }
 
 // Prints what else was counted, and how much is wrong.
-fn print_notes(rt: &impl Print, tally: &Tally<Notes>) -> io::Result<()> {
+fn print_notes(out: &mut Output, tally: &Tally<Notes>) -> fmt::Result {
     let notes = &tally.notes;
-    println!(rt; "done with a column repeated: {}", notes.repeated)?;
-    println!(rt; "refused 22 for an update below the top: {}", notes.deep)?;
-    println!(rt; "places together {}", notes.places)?;
-    println!(rt; "counts together {}", notes.counts)?;
-    println!(rt; "mismatches {}", tally.wrong())
+    writeln!(out, "done with a column repeated: {}", notes.repeated)?;
+    writeln!(
+        out,
+        "refused 22 for an update below the top: {}",
+        notes.deep
+    )?;
+    writeln!(out, "places together {}", notes.places)?;
+    writeln!(out, "counts together {}", notes.counts)?;
+    writeln!(out, "mismatches {}", tally.wrong())
 }
 
-fn main(rt: HostRuntime) -> io::Result<()> {
+fn print(tally: &Tally<Notes>) -> fmt::Result {
+    let mut out = Output;
+    tally.print_mismatches(&mut out)?;
+    writeln!(out, "cases {}", tally.cases())?;
+    writeln!(out, "done: {}", tally.right(0))?;
+    tally.print_numbers(&mut out, "refused", &REFUSED)?;
+    print_notes(&mut out, tally)
+}
+
+// Ends in the same way if the output takes nothing.
+fn main() {
     let mut tally = Tally::new(Notes::new());
     hold_all(&mut tally, 12000);
-    tally.print_mismatches(&rt)?;
-    println!(rt; "cases {}", tally.cases())?;
-    println!(rt; "done: {}", tally.right(0))?;
-    tally.print_numbers(&rt, "refused", &REFUSED)?;
-    print_notes(&rt, &tally)
+    let _ = print(&tally);
 }

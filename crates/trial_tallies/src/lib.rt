@@ -2,7 +2,22 @@
 // wrap, so no function asks anything of its caller.
 #![tactic(auto)]
 
-use std::{fmt, io};
+use std::fmt;
+use std::fmt::Write;
+
+// The standard output. The crate io writes to it, and assumes no more of the C library than its `write`; std's own printing would also
+// assume its number and its text of an error.
+#[derive(Drop)]
+pub struct Output;
+
+impl Write for Output {
+    fn write_str(&mut self, text: &str) -> fmt::Result {
+        if io::write_all(1, text.as_bytes()) {
+            return Ok(());
+        }
+        Err(fmt::Error)
+    }
+}
 
 // A case with anything wrong: how many cases there were up to it, its number, how much is wrong, and two numbers that name it.
 #[derive(Clone, Copy, Drop)]
@@ -91,17 +106,17 @@ impl<N> Tally<N> {
     }
 
     // Prints a line for each of the first twenty cases with anything wrong.
-    pub fn print_mismatches(&self, rt: &impl Print) -> io::Result<()> {
+    pub fn print_mismatches(&self, out: &mut Output) -> fmt::Result {
         for mismatch in self.mismatches.iter().flatten() {
-            println!(rt; "{mismatch}")?;
+            writeln!(out, "{mismatch}")?;
         }
         Ok(())
     }
 
     // Prints how many cases have each of these numbers and nothing wrong, each in a line of its own that begins with a word.
-    pub fn print_numbers(&self, rt: &impl Print, word: &str, numbers: &[usize]) -> io::Result<()> {
+    pub fn print_numbers(&self, out: &mut Output, word: &str, numbers: &[usize]) -> fmt::Result {
         for number in numbers {
-            println!(rt; "{word} {number}: {}", self.right(*number))?;
+            writeln!(out, "{word} {number}: {}", self.right(*number))?;
         }
         Ok(())
     }
