@@ -8,19 +8,22 @@ mod plans; // plans.rt: plans written and checked
 
 use papers::Answer;
 use plans::Plan;
+use std::fmt;
+use std::fmt::Write;
 use trial_elimination::sheet::{Sheet, set};
 use trial_elimination::{fill, sheet};
-use trial_tallies::Tally;
+use trial_tallies::Output;
 
-// Places of the tally: plans that passed the check, runs in the peak that were done, runs in one less that were refused with 23, and the
-// sum of all peaks.
-const CHECKED: u64 = 0;
+// The sum of all peaks is noted beside the tally.
+type Tally = trial_tallies::Tally<u64>;
 
-const DONE: u64 = 1;
+// What is tried of a plan, as the number of its case: plans that passed the check, runs in the peak that were done, runs in one less that
+// were refused with 23.
+const CHECKED: usize = 0;
 
-const BELOW: u64 = 2;
+const DONE: usize = 1;
 
-const PEAKS: usize = 3;
+const BELOW: usize = 2;
 
 // Counts what is wrong in a run in one less than the peak: it must be refused with 23, as the simulation is.
 fn wrong_below(case: &Sheet) -> usize {
@@ -36,11 +39,11 @@ fn hold_runs(tally: &mut Tally, case: &mut Sheet, checked: Answer, seed: u64, ke
     let peak = checked.count as usize;
     set(case, sheet::HEAD, sheet::ROOM, peak);
     let wrong = trial_run_call::wrong_in_call(case, checked, false);
-    trial_tallies::tell(tally, DONE, wrong, seed, key);
+    tally.tell(DONE as u64, wrong, seed, key);
     if peak != 0 {
         set(case, sheet::HEAD, sheet::ROOM, peak - 1);
         let wrong = wrong_below(case);
-        trial_tallies::tell(tally, BELOW, wrong, seed, key);
+        tally.tell(BELOW as u64, wrong, seed, key);
     }
 }
 
@@ -55,10 +58,11 @@ fn hold_plan(
     seed: u64,
 ) {
     let checked = plans::check(case, job, plan, count, key);
-    trial_tallies::tell(tally, CHECKED, checked.number as usize, seed, key as u64);
+    let mark = u64::from(key);
+    tally.tell(CHECKED as u64, checked.number as usize, seed, mark);
     if checked.number == 0 {
-        trial_tallies::count(tally, PEAKS, checked.count);
-        hold_runs(tally, case, checked, seed, key as u64);
+        tally.notes = tally.notes.saturating_add(checked.count);
+        hold_runs(tally, case, checked, seed, mark);
     }
 }
 
@@ -75,7 +79,7 @@ fn hold_mark(tally: &mut Tally, case: &mut Sheet, job: &Sheet, mark: u8, seed: u
 fn hold_seed(tally: &mut Tally, case: &mut Sheet, seed: usize) {
     let n = seed % 25;
     let mut grid = [0usize; 625];
-    let mut job = [0usize; 10200];
+    let mut job = sheet::EMPTY;
     trial_lists::draw_pattern(&mut grid, n, seed);
     fill::write_lists(&mut job, &grid, n);
     for mark in 0..3 {
@@ -84,22 +88,25 @@ fn hold_seed(tally: &mut Tally, case: &mut Sheet, seed: usize) {
 }
 
 fn hold_all(tally: &mut Tally, seeds: usize) {
-    let mut case = [0usize; 10200];
+    let mut case = sheet::EMPTY;
     for seed in 0..seeds {
         hold_seed(tally, &mut case, seed);
     }
 }
 
+fn print(tally: &Tally) -> fmt::Result {
+    let mut out = Output;
+    tally.print_mismatches(&mut out)?;
+    writeln!(out, "plans that passed the check: {}", tally.right(CHECKED))?;
+    writeln!(out, "runs in the peak, done: {}", tally.right(DONE))?;
+    writeln!(out, "runs in one less, refused 23: {}", tally.right(BELOW))?;
+    writeln!(out, "peaks together {}", tally.notes)?;
+    writeln!(out, "mismatches {}", tally.wrong())
+}
+
+// Ends in the same way if the output takes nothing.
 fn main() {
-    let mut tally = [0u64; 32];
+    let mut tally = Tally::new(0);
     hold_all(&mut tally, 500);
-    trial_tallies::print(
-        &tally,
-        b"plans that passed the check: @
-runs in the peak, done: A
-runs in one less, refused 23: B
-peaks together C
-mismatches _
-",
-    );
+    let _ = print(&tally);
 }

@@ -1,20 +1,65 @@
 // For the test programs: lists as a call takes them, what lent slices hold before a call and must hold after it, and how much of that is
-// wrong. Only this is proved: every function is safe and ends, and one keeps a length.
+// wrong. Only this is proved: every function is safe and ends.
 #![tactic(auto)]
 
-ghost use Rattle.std.specs.Prelude.{length, ◌≡◌};
+ghost use Rattle.std.specs.Prelude.{◌≤◌};
 
 use papers::{Answer, JobHead};
-use trial_elimination::grid::add;
-use trial_elimination::sheet::{Sheet, get, length};
+use std::array;
+use trial_elimination::sheet;
+use trial_elimination::sheet::{Part, Sheet};
 
-// A part of a sheet as rows, columns or pops, as many as the part has.
-pub fn words(sheet: &Sheet, part: usize) -> [u32; 300] {
-    let mut list = [0u32; 300];
-    for i in 0..length(sheet, part) % 301 {
-        list[i % 300] = (get(sheet, part, i) % 4294967296) as u32;
+// The six slices that an analysis or a check is lent, as arrays with places enough.
+#[derive(Drop)]
+pub struct Slices<const WORDS: usize, const LONGS: usize> {
+    pub parents: [u32; WORDS],
+    pub order: [u32; WORDS],
+    pub pops: [u32; WORDS],
+    pub starts: [u64; LONGS],
+    pub rows: [u32; WORDS],
+    pub work: [u64; LONGS],
+}
+
+impl<const WORDS: usize, const LONGS: usize> Slices<WORDS, LONGS> {
+    // Slices that hold a number at every place.
+    pub fn of(number: u32) -> Slices<WORDS, LONGS> {
+        let long = u64::from(number);
+        Slices {
+            parents: [number; WORDS],
+            order: [number; WORDS],
+            pops: [number; WORDS],
+            starts: [long; LONGS],
+            rows: [number; WORDS],
+            work: [long; LONGS],
+        }
+    }
+}
+
+// How many numbers of a part a call is handed: as many as the part has.
+pub fn count(sheet: &Sheet, part: usize) -> usize
+    ensures { result ≤ 300 }
+{
+    sheet::length(sheet, part) % 301
+}
+
+// The numbers of a part that a call is handed, then zeros.
+fn list(sheet: &Sheet, part: usize) -> Part {
+    let mut list = [0; 300];
+    let numbers = sheet::part(sheet, part).iter();
+    for (x, number) in list.iter_mut().zip(numbers).take(count(sheet, part)) {
+        *x = *number;
     }
     list
+}
+
+// A part of a sheet as rows, columns or pops.
+pub fn words(sheet: &Sheet, part: usize) -> [u32; 300] {
+    list(sheet, part).map(|x| (x % 4294967296) as u32)
+}
+
+// A part of a sheet as starts.
+pub fn longs(sheet: &Sheet, part: usize) -> [u64; 300] {
+    list(sheet, part).map(|x| x as u64)
 }
 
 // The head of a job.
@@ -24,15 +69,6 @@ pub fn head(n: usize, mark: u64, limit: u64) -> JobHead {
         mark,
         limit,
     }
-}
-
-// A part of a sheet as starts, as many as the part has.
-pub fn longs(sheet: &Sheet, part: usize) -> [u64; 300] {
-    let mut list = [0u64; 300];
-    for i in 0..length(sheet, part) % 301 {
-        list[i % 300] = get(sheet, part, i) as u64;
-    }
-    list
 }
 
 // What the lent slices must hold after a call: the result, then zeros; what they held before; or zeros alone.
@@ -52,83 +88,49 @@ pub fn no_result(kept: bool) -> Held {
 }
 
 // What a place of a lent slice holds before a call: never 0, and never part of the result of a small pattern.
-fn before(i: usize) -> u32 {
-    (i % 7 + 9000) as u32
+fn before(i: usize) -> u16 {
+    (i % 7 + 9000) as u16
 }
 
-fn wide(x: u32) -> u64 {
-    x as u64
-}
-
-pub fn filled32() -> [u32; 300] {
-    let mut slice = [0u32; 300];
-    for i in 0..300 {
-        slice[i] = before(i);
-    }
-    slice
-}
-
-// Works in place, since copying so many bytes is slow. A part can only be lent if the length stays.
-pub fn fill64(slice: &mut [u64; 300])
-    ensures { length slice.new ≡ length slice.old }
-{
-    for i in 0..300 {
-        slice[i] = wide(before(i));
-    }
+// A slice before a call.
+pub fn filled<T: From<u16>>() -> [T; 300] {
+    array::from_fn(|i| T::from(before(i)))
 }
 
 // What a place must hold after a call: behind the lent length what it held before, in front of that what the slice must hold.
 fn after(held: Held, lent: usize, i: usize, res: usize) -> u64 {
     if lent <= i {
-        return wide(before(i));
+        return u64::from(before(i));
     }
     match held {
         Held::Result => res as u64,
-        Held::Before => wide(before(i)),
+        Held::Before => u64::from(before(i)),
         Held::Zeros => 0,
     }
 }
 
-// Where the comparison of a slice ends: four places behind its lent length, if there are as many.
-fn end(lent: usize) -> usize {
-    if lent < 296 {
-        return lent + 4;
-    }
-    300
-}
-
-// Counts the places of a slice that do not hold what they must after a call. A part of the sheet holds the result, then zeros.
-pub fn wrong32(found: &[u32; 300], lent: usize, held: Held, sheet: &Sheet, part: usize) -> usize {
-    let mut wrong = 0;
-    for i in 0..end(lent) {
-        if wide(found[i % 300]) != after(held, lent, i, get(sheet, part, i)) {
-            wrong = add(wrong, 1);
-        }
-    }
-    wrong
-}
-
-pub fn wrong64(found: &[u64; 300], lent: usize, held: Held, sheet: &Sheet, part: usize) -> usize {
-    let mut wrong = 0;
-    for i in 0..end(lent) {
-        if found[i % 300] != after(held, lent, i, get(sheet, part, i)) {
-            wrong = add(wrong, 1);
-        }
-    }
-    wrong
+// Counts the places of a slice that do not hold what they must after a call, up to four places behind its lent length. A part of the sheet
+// holds the result, then zeros.
+pub fn wrong<T: Copy + Into<u64>>(
+    found: &[T; 300],
+    lent: usize,
+    held: Held,
+    sheet: &Sheet,
+    part: usize,
+) -> usize {
+    let results = sheet::part(sheet, part).iter();
+    found
+        .iter()
+        .zip(results)
+        .enumerate()
+        .take(lent.saturating_add(4))
+        .filter(|&(i, (x, res))| (*x).into() != after(held, lent, i, *res))
+        .count()
 }
 
 // Counts how many of number, place and count differ.
 pub fn differences(a: Answer, b: Answer) -> usize {
-    let mut wrong = 0;
-    if a.number != b.number {
-        wrong = add(wrong, 1);
-    }
-    if a.place != b.place {
-        wrong = add(wrong, 1);
-    }
-    if a.count != b.count {
-        wrong = add(wrong, 1);
-    }
-    wrong
+    usize::from(a.number != b.number)
+        + usize::from(a.place != b.place)
+        + usize::from(a.count != b.count)
 }

@@ -6,10 +6,7 @@ use super::sheet::{Sheet, set, set_length};
 
 // Tests whether row i, below the diagonal, is coupled to column j.
 fn coupled(grid: &Grid, i: usize, j: usize) -> bool {
-    if j < i {
-        return cell(grid, i, j) == 1;
-    }
-    false
+    j < i && cell(grid, i, j) == 1
 }
 
 // Couples every row that is coupled to column k and is below row j to column j.

@@ -10,15 +10,8 @@ pub fn put(grid: &mut Grid, row: usize, column: usize, value: usize) {
     grid[row % 25 * 25 + column % 25] = value;
 }
 
-// The sum of two numbers below a million.
+// The sum of two numbers below a million. No `+` or `saturating_add` in its place: of a greater number only the last six digits count, and
+// so the cases that a program draws stay what they are.
 pub fn add(a: usize, b: usize) -> usize {
     a % 1000000 + b % 1000000
-}
-
-// The difference, or 0 if it would be negative.
-pub fn less(a: usize, b: usize) -> usize {
-    if a < b {
-        return 0;
-    }
-    a - b
 }

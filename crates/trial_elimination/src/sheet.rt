@@ -1,8 +1,14 @@
-// A sheet: the lists of a pattern, its plan and the arguments of a run in one list of numbers, 34 parts of 300 places. Places wrap, so
-// every number is a place.
-use super::grid::{add, less};
+// A sheet: the lists of a pattern, its plan and the arguments of a run, 34 parts of 300 numbers. Parts and places wrap, so every number is
+// a place.
+use super::grid::add;
 
-pub type Sheet = [usize; 10200];
+// A part of a sheet.
+pub type Part = [usize; 300];
+
+pub type Sheet = [Part; 34];
+
+// A sheet that holds nothing.
+pub const EMPTY: Sheet = [[0; 300]; 34];
 
 // The head holds a room, n, and behind n the lengths of the parts up to the stack list. Of the stack list, and of work, a sheet holds
 // nothing else: they are zero.
@@ -32,12 +38,17 @@ pub const KEYS: usize = 7;
 
 pub const SIZES: usize = 8;
 
+// A part of a sheet.
+pub fn part(sheet: &Sheet, part: usize) -> &Part {
+    &sheet[part % 34]
+}
+
 pub fn get(sheet: &Sheet, part: usize, place: usize) -> usize {
-    sheet[part % 34 * 300 + place % 300]
+    sheet[part % 34][place % 300]
 }
 
 pub fn set(sheet: &mut Sheet, part: usize, place: usize, value: usize) {
-    sheet[part % 34 * 300 + place % 300] = value;
+    sheet[part % 34][place % 300] = value;
 }
 
 // The part that holds the columns of the subtree of j, step by step; of the whole order if j is 0.
@@ -62,12 +73,12 @@ pub fn set_length(sheet: &mut Sheet, part: usize, length: usize) {
 
 // Where the rows of column c begin in the list of all rows.
 pub fn begin(sheet: &Sheet, c: usize) -> usize {
-    get(sheet, STARTS, less(c, 1))
+    get(sheet, STARTS, c.saturating_sub(1))
 }
 
 // How many rows column c has.
 pub fn row_count(sheet: &Sheet, c: usize) -> usize {
-    less(get(sheet, STARTS, c), begin(sheet, c))
+    get(sheet, STARTS, c).saturating_sub(begin(sheet, c))
 }
 
 // The parent of column c: its least row, 0 if it has none.
@@ -80,11 +91,5 @@ pub fn parent(sheet: &Sheet, c: usize) -> usize {
 
 // How many columns have c as their parent.
 pub fn children(sheet: &Sheet, c: usize) -> usize {
-    let mut count = 0;
-    for k in 0..n(sheet) {
-        if parent(sheet, k + 1) == c {
-            count = add(count, 1);
-        }
-    }
-    count
+    (0..n(sheet)).filter(|k| parent(sheet, k + 1) == c).count()
 }

@@ -2,6 +2,7 @@
 ghost use Rattle.std.specs.Prelude.{◌≤◌};
 
 use papers::{Answer, JobHead};
+use trial_elimination::grid::add;
 
 pub type Numbers = [u64; 4096];
 
@@ -54,11 +55,6 @@ pub fn kept(numbers: &Numbers) -> bool {
     at(numbers, KEPT) == 1
 }
 
-// The sum of two numbers below a million.
-pub fn add(a: usize, b: usize) -> usize {
-    a % 1000000 + b % 1000000
-}
-
 fn size(numbers: &Numbers, place: usize) -> usize {
     (at(numbers, place) % 1000000) as usize
 }
@@ -80,50 +76,42 @@ pub fn result(slice: usize) -> usize {
 
 // Where a list begins.
 pub fn first(numbers: &Numbers, list: usize) -> usize {
-    let mut place = LISTS;
-    for k in 0..list {
-        place = add(place, count(numbers, k));
-    }
-    place
+    (0..list).map(|k| count(numbers, k)).fold(LISTS, add)
 }
 
 // A number with one more digit behind it.
 fn followed(number: u64, digit: u8) -> u64 {
-    let two = std::num::wrapping_add_u64(number, number);
-    let four = std::num::wrapping_add_u64(two, two);
-    let eight = std::num::wrapping_add_u64(four, four);
-    let ten = std::num::wrapping_add_u64(eight, two);
-    std::num::wrapping_add_u64(ten, (digit % 16) as u64)
+    number.wrapping_mul(10).wrapping_add(u64::from(digit % 16))
 }
 
 // How many bytes follow the five digits and the space with which a line begins.
 fn length(head: &[u8; 6]) -> usize
     ensures { result ≤ 8192 }
 {
-    let mut number = 0;
-    for i in 0..5 {
-        number = followed(number, head[i]);
-    }
+    let number = head
+        .iter()
+        .take(5)
+        .fold(0, |number, digit| followed(number, *digit));
     (number % 8193) as usize
 }
 
 // Reads the numbers of a text in which each number ends with a space or a newline.
-fn decode(text: &[u8; 8192], length: usize, numbers: &mut Numbers) {
-    let mut place = 0;
+fn decode(text: &[u8], numbers: &mut Numbers) {
+    let mut place = 0usize;
     let mut number = 0;
-    for i in 0..length {
-        let byte = text[i % 8192];
-        if byte <= b' ' {
+    for byte in text {
+        if *byte <= b' ' {
             numbers[place % 4096] = number;
-            place = add(place, 1);
+            place = place.wrapping_add(1);
             number = 0;
         } else {
-            number = followed(number, byte);
+            number = followed(number, *byte);
         }
     }
 }
 
-// Reads the next line of the input into numbers. Answers whether there was one.
+// Reads the next line of the input into numbers. Answers whether there was one. By the crate io, as the output is written: std's reader
+// would also assume the C library's number and text of an error.
 pub fn next(numbers: &mut Numbers) -> bool {
     let mut head = [0u8; 6];
     if io::read_full(0, &mut head) < 6 {
@@ -131,7 +119,8 @@ pub fn next(numbers: &mut Numbers) -> bool {
     }
     let length = length(&head);
     let mut text = [0u8; 8192];
-    io::read_full(0, &mut text[..length]);
-    decode(&text, length, numbers);
+    let text = &mut text[..length];
+    io::read_full(0, text);
+    decode(text, numbers);
     true
 }

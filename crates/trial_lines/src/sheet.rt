@@ -1,7 +1,7 @@
 // Lists as a call takes them, and lent slices: what they hold before a call, and what they must hold after it.
 use super::line;
-use super::line::{Numbers, add, at};
-use trial_tallies::plus;
+use super::line::{Numbers, at};
+use trial_elimination::grid::add;
 
 pub type Words = [u32; 512];
 
@@ -12,45 +12,40 @@ pub type Bytes = [u8; 4096];
 // What every place holds before a call.
 pub const BEFORE: u32 = 7;
 
-pub fn longs(numbers: &Numbers, list: usize) -> Longs {
-    let mut out = [0u64; 1152];
+// The numbers of a list, each narrowed. A list of more than N numbers goes on at the first place.
+fn list<T: Copy, const N: usize, F: Fn(u64) -> T>(
+    numbers: &Numbers,
+    list: usize,
+    narrow: F,
+) -> [T; N]
+    requires { F.IsAlwaysCallable narrow }
+{
+    let mut out = [narrow(0); N];
     let first = line::first(numbers, list);
     for i in 0..line::count(numbers, list) {
-        out[i % 1152] = at(numbers, add(first, i));
+        if let Some(place) = i.checked_rem(N) {
+            out[place] = narrow(at(numbers, add(first, i)));
+        }
     }
     out
 }
 
-pub fn words(numbers: &Numbers, list: usize) -> Words {
-    let mut out = [0u32; 512];
-    let first = line::first(numbers, list);
-    for i in 0..line::count(numbers, list) {
-        out[i % 512] = (at(numbers, add(first, i)) % 4294967296) as u32;
-    }
-    out
+pub fn longs(numbers: &Numbers, part: usize) -> Longs {
+    list(numbers, part, |x| x)
 }
 
-pub fn bytes(numbers: &Numbers, list: usize) -> Bytes {
-    let mut out = [0u8; 4096];
-    let first = line::first(numbers, list);
-    for i in 0..line::count(numbers, list) {
-        out[i % 4096] = (at(numbers, add(first, i)) % 256) as u8;
-    }
-    out
+pub fn words(numbers: &Numbers, part: usize) -> Words {
+    list(numbers, part, |x| (x % 4294967296) as u32)
 }
 
-fn wide(x: u32) -> u64 {
-    x as u64
-}
-
-fn wide8(x: u8) -> u64 {
-    x as u64
+pub fn bytes(numbers: &Numbers, part: usize) -> Bytes {
+    list(numbers, part, |x| (x % 256) as u8)
 }
 
 // What a place of a slice must hold if there is no result at it: what it held before if the case says that slices keep that, else 0.
 fn rest(numbers: &Numbers) -> u64 {
     if line::kept(numbers) {
-        return wide(BEFORE);
+        return u64::from(BEFORE);
     }
     0
 }
@@ -59,7 +54,7 @@ fn rest(numbers: &Numbers) -> u64 {
 // rest.
 fn after(numbers: &Numbers, slice: usize, first: usize, i: usize) -> u64 {
     if line::lent(numbers, slice) <= i {
-        return wide(BEFORE);
+        return u64::from(BEFORE);
     }
     if i < line::count(numbers, line::result(slice)) {
         return at(numbers, add(first, i));
@@ -67,36 +62,15 @@ fn after(numbers: &Numbers, slice: usize, first: usize, i: usize) -> u64 {
     rest(numbers)
 }
 
-// Counts the places of a slice that do not hold what they must; looks at four places behind its lent length as well.
-pub fn wrong32(found: &Words, numbers: &Numbers, slice: usize) -> u64 {
-    let mut wrong = 0;
+// Counts the places of a slice that do not hold what they must; looks at four places behind its lent length as well. A length beyond the
+// slice goes on at the first place.
+pub fn wrong<T: Copy + Into<u64>>(found: &[T], numbers: &Numbers, slice: usize) -> usize {
     let first = line::first(numbers, line::result(slice));
-    for i in 0..add(line::lent(numbers, slice), 4) {
-        if wide(found[i % 512]) != after(numbers, slice, first, i) {
-            wrong = plus(wrong, 1);
-        }
-    }
-    wrong
-}
-
-pub fn wrong64(found: &Longs, numbers: &Numbers, slice: usize) -> u64 {
-    let mut wrong = 0;
-    let first = line::first(numbers, line::result(slice));
-    for i in 0..add(line::lent(numbers, slice), 4) {
-        if found[i % 1152] != after(numbers, slice, first, i) {
-            wrong = plus(wrong, 1);
-        }
-    }
-    wrong
-}
-
-pub fn wrong8(found: &Bytes, numbers: &Numbers, slice: usize) -> u64 {
-    let mut wrong = 0;
-    let first = line::first(numbers, line::result(slice));
-    for i in 0..add(line::lent(numbers, slice), 4) {
-        if wide8(found[i % 4096]) != after(numbers, slice, first, i) {
-            wrong = plus(wrong, 1);
-        }
-    }
-    wrong
+    found
+        .iter()
+        .cycle()
+        .take(add(line::lent(numbers, slice), 4))
+        .enumerate()
+        .filter(|&(i, x)| (*x).into() != after(numbers, slice, first, i))
+        .count()
 }

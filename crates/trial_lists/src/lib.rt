@@ -3,17 +3,17 @@
 
 pub mod shapes; // shapes.rt: named shapes, and random rows
 
-use shapes::{choice, next};
+use shapes::{Shape, choice, next};
 use trial_elimination::fill;
 use trial_elimination::grid::Grid;
 
 // Takes away one row in eight.
 fn thin(grid: &mut Grid, seed: usize) -> usize {
     let mut state = seed;
-    for place in 0..625 {
+    for cell in grid.iter_mut() {
         state = next(state);
         if choice(state, 8) == 0 {
-            grid[place] = 0;
+            *cell = 0;
         }
     }
     state
@@ -24,7 +24,7 @@ pub fn draw_pattern(grid: &mut Grid, n: usize, seed: usize) -> usize {
     let a = next(seed);
     let b = next(a);
     let c = next(b);
-    shapes::shape(grid, choice(a, 13), n);
+    shapes::draw(grid, Shape::from(choice(a, 13)), n);
     if choice(b, 4) == 0 {
         shapes::tree(grid, n, c);
     }
@@ -35,13 +35,15 @@ pub fn draw_pattern(grid: &mut Grid, n: usize, seed: usize) -> usize {
 // A pattern as it is, with its fill, or with most of its fill.
 pub fn draw_grid(grid: &mut Grid, n: usize, seed: usize) -> usize {
     let a = next(draw_pattern(grid, n, seed));
-    let filled = choice(a, 3);
-    if filled == 0 {
-        return a;
+    match choice(a, 3) {
+        0 => a,
+        1 => {
+            fill::eliminate(grid);
+            a
+        }
+        _ => {
+            fill::eliminate(grid);
+            thin(grid, a)
+        }
     }
-    fill::eliminate(grid);
-    if filled == 1 {
-        return a;
-    }
-    thin(grid, a)
 }

@@ -1,5 +1,5 @@
 // Patterns to try: named shapes and random ones, made from a seed.
-use trial_elimination::grid::{Grid, add, less, put};
+use trial_elimination::grid::{Grid, add, put};
 
 // The number after a seed, below 2^31. Its low digits repeat soon, so a choice uses the high ones.
 pub fn next(seed: usize) -> usize {
@@ -14,47 +14,77 @@ pub fn choice(seed: usize, count: usize) -> usize {
     seed / 65536 % count
 }
 
-// The parent of j in a binary tree over 1 to n whose root is n and whose levels follow each other downwards.
-fn halved(j: usize, n: usize) -> usize {
-    less(add(n, 1), less(add(n, 1), j) / 2)
+// The named shapes. Behind the first two come those that have one row in each column.
+#[derive(Clone, Copy, Drop)]
+pub enum Shape {
+    Nothing,
+    Everything,
+    Chain,
+    // A star with its centre last, or first.
+    LastCentre,
+    FirstCentre,
+    // Chains of four.
+    Chains,
+    // Leaves under a chain.
+    Leaves,
+    Caterpillar,
+    BinaryTree,
+    Band,
+    // Blocks of four under the last column.
+    Blocks,
+    // Columns of up to three of the last rows.
+    LastRows,
 }
 
-// The one row of column j in a shape that has one: chain, star with its centre last, chains of four, leaves under a chain, caterpillar,
-// binary tree. 0 in any other shape.
-fn only_row(shape: usize, j: usize, n: usize) -> usize {
-    match shape {
-        2 => add(j, 1),
-        3 => n,
-        5 => add(j, (j % 4 + 3) / 4),
-        6 => add(add(n / 2, less(j, n / 2)), 1),
-        7 => add(j, 2 - j % 2),
-        8 => halved(j, n),
-        _ => 0,
+// The shape of a drawn number; of a number beyond the shapes nothing.
+impl From<usize> for Shape {
+    fn from(number: usize) -> Shape {
+        match number {
+            1 => Shape::Everything,
+            2 => Shape::Chain,
+            3 => Shape::LastCentre,
+            4 => Shape::FirstCentre,
+            5 => Shape::Chains,
+            6 => Shape::Leaves,
+            7 => Shape::Caterpillar,
+            8 => Shape::BinaryTree,
+            9 => Shape::Band,
+            10 => Shape::Blocks,
+            11 => Shape::LastRows,
+            _ => Shape::Nothing,
+        }
     }
 }
 
-// Tests whether a named shape has row i in column j: shape 0 has nothing, then everything, star with its centre first, band, blocks of four
-// under the last column, columns of up to three of the last rows, and the shapes with one row.
-fn in_shape(shape: usize, i: usize, j: usize, n: usize) -> bool {
-    match shape {
-        1 => true,
-        4 => j == 1,
-        9 => i <= add(j, 2),
-        10 => less(i, 1) / 4 == less(j, 1) / 4 || i == n,
-        11 => n < add(i, j % 4),
-        _ => i == only_row(shape, j, n),
+// The parent of j in a binary tree over 1 to n whose root is n and whose levels follow each other downwards.
+fn halved(j: usize, n: usize) -> usize {
+    let top = add(n, 1);
+    top.saturating_sub(top.saturating_sub(j) / 2)
+}
+
+impl Shape {
+    // Tests whether it has row i in column j of n.
+    fn has(self, i: usize, j: usize, n: usize) -> bool {
+        match self {
+            Shape::Nothing => false,
+            Shape::Everything => true,
+            Shape::Chain => i == add(j, 1),
+            Shape::LastCentre => i == n,
+            Shape::FirstCentre => j == 1,
+            Shape::Chains => i == add(j, (j % 4 + 3) / 4),
+            Shape::Leaves => i == add(add(n / 2, j.saturating_sub(n / 2)), 1),
+            Shape::Caterpillar => i == add(j, 2 - j % 2),
+            Shape::BinaryTree => i == halved(j, n),
+            Shape::Band => i <= add(j, 2),
+            Shape::Blocks => i.saturating_sub(1) / 4 == j.saturating_sub(1) / 4 || i == n,
+            Shape::LastRows => n < add(i, j % 4),
+        }
     }
 }
 
 // Couples row i to column j, if it is below the diagonal and at most n.
 fn couple(grid: &mut Grid, i: usize, j: usize, n: usize) {
-    if j == 0 {
-        return;
-    }
-    if n < i {
-        return;
-    }
-    if j < i {
+    if j != 0 && j < i && i <= n {
         put(grid, i, j, 1);
     }
 }
@@ -65,9 +95,9 @@ fn cells(n: usize) -> usize {
 }
 
 // A named shape over n columns.
-pub fn shape(grid: &mut Grid, shape: usize, n: usize) {
+pub fn draw(grid: &mut Grid, shape: Shape, n: usize) {
     for place in 0..cells(n) {
-        if in_shape(shape, place % 25, place / 25, n) {
+        if shape.has(place % 25, place / 25, n) {
             couple(grid, place % 25, place / 25, n);
         }
     }
@@ -78,7 +108,12 @@ pub fn tree(grid: &mut Grid, n: usize, seed: usize) {
     let mut state = seed;
     for j in 1..25 {
         state = next(state);
-        couple(grid, add(add(j, 1), choice(state, less(n, j))), j, n);
+        couple(
+            grid,
+            add(add(j, 1), choice(state, n.saturating_sub(j))),
+            j,
+            n,
+        );
     }
 }
 

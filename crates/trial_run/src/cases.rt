@@ -2,7 +2,7 @@
 // damage to every argument, and rooms about the one needed. A function that draws answers the next seed.
 use super::damage::damage;
 use super::lot::draw_lot;
-use trial_elimination::grid::{add, less};
+use trial_elimination::grid::add;
 use trial_elimination::sheet::{Sheet, set};
 use trial_elimination::{fill, orders, sheet};
 use trial_lists::shapes::{choice, next};
@@ -12,15 +12,15 @@ const MOST: usize = 18446744073709551615;
 
 // Puts a number that is never right at every place of the arguments; the stack list has none.
 fn clear(case: &mut Sheet) {
-    for place in 0..1500 {
-        case[place] = 7000;
+    for part in case.iter_mut().take(5) {
+        part.fill(7000);
     }
 }
 
 // Columns, pops and stack list have n places or a few more.
 fn draw_lengths(case: &mut Sheet, seed: usize) -> usize {
     let mut state = seed;
-    for part in 3..6 {
+    for part in sheet::COLUMNS..=sheet::STACK {
         state = next(state);
         let length = add(sheet::n(case), choice(state, 4));
         sheet::set_length(case, part, length);
@@ -53,22 +53,21 @@ fn draw_steps(case: &mut Sheet, seed: usize) -> usize {
 // Leaves half of the cases as they are; changes one argument of the others, or two.
 fn draw_damage(case: &mut Sheet, seed: usize) -> usize {
     let a = next(seed);
-    let harm = choice(a, 6);
-    if harm < 3 {
-        return a;
+    match choice(a, 6) {
+        0..=2 => a,
+        3 | 4 => damage(case, a),
+        _ => {
+            let b = damage(case, a);
+            damage(case, b)
+        }
     }
-    let b = damage(case, a);
-    if harm < 5 {
-        return b;
-    }
-    damage(case, b)
 }
 
 // Draws a room where this much is needed: this, one less, one more, something below, and the least and the greatest of all.
 fn room_of(needed: usize, lot: usize, seed: usize) -> usize {
     match lot {
         0 => 0,
-        1 => less(needed, 1),
+        1 => needed.saturating_sub(1),
         2 => add(needed, 1),
         3 => choice(seed, add(needed, 1)),
         4 => 9223372036854775808,

@@ -1,5 +1,5 @@
 // Changes one argument of a case.
-use trial_elimination::grid::{add, less};
+use trial_elimination::grid::add;
 use trial_elimination::sheet;
 use trial_elimination::sheet::{Sheet, get, length, set};
 use trial_lists::shapes::{choice, next};
@@ -27,7 +27,7 @@ fn place_of(part: usize, places: usize, seed: usize) -> usize {
 // than n, or one from 0 to n.
 fn other(x: usize, n: usize, lot: usize, seed: usize) -> usize {
     match lot {
-        0 | 1 => less(x, 1),
+        0 | 1 => x.saturating_sub(1),
         2 | 3 => add(x, 1),
         4 => 0,
         5 => 4294967295,
@@ -41,16 +41,13 @@ fn other(x: usize, n: usize, lot: usize, seed: usize) -> usize {
 
 // A number that the place can hold: starts and n have 64 bits, lengths go up to 300.
 fn narrow(part: usize, place: usize, x: usize) -> usize {
-    if part == sheet::STARTS {
+    if part == sheet::STARTS || (part == sheet::HEAD && place == sheet::N) {
         return x;
     }
-    if part != sheet::HEAD {
-        return x % 4294967296;
+    if part == sheet::HEAD {
+        return x % 301;
     }
-    if place == sheet::N {
-        return x;
-    }
-    x % 301
+    x % 4294967296
 }
 
 pub fn damage(case: &mut Sheet, seed: usize) -> usize {

@@ -1,22 +1,15 @@
 // Draws random steps.
-use trial_elimination::grid::{add, less};
+use trial_elimination::grid::add;
 use trial_elimination::sheet;
 use trial_elimination::sheet::{Sheet, get, set};
 use trial_lists::shapes::{choice, next};
-
-fn least(a: usize, b: usize) -> usize {
-    if a < b {
-        return a;
-    }
-    b
-}
 
 // Draws the column after column c: any of n, c or the next, or one of the last two.
 fn column(kind: usize, c: usize, n: usize, seed: usize) -> usize {
     match kind {
         0 => add(choice(seed, n), 1),
-        1 => least(add(c, choice(seed, 2)), n),
-        _ => less(n, choice(seed, 2)),
+        1 => add(c, choice(seed, 2)).min(n),
+        _ => n.saturating_sub(choice(seed, 2)),
     }
 }
 
@@ -37,15 +30,12 @@ fn write_steps(case: &mut Sheet, n: usize, kind: usize, pops: usize, seed: usize
 // Takes one off the pops of the step that is refused with 21, or with a number up to the given one. Answers whether there was such a step.
 fn mend_step(case: &mut Sheet, upto: u64) -> bool {
     let right = trial_simulation::simulate(case);
-    if right.number < 21 {
+    if right.number < 21 || upto < right.number {
         return false;
     }
-    if upto < right.number {
-        return false;
-    }
-    let step = less(right.place as usize, 1);
+    let step = (right.place as usize).saturating_sub(1);
     let pops = get(case, sheet::POPS, step);
-    set(case, sheet::POPS, step, less(pops, 1));
+    set(case, sheet::POPS, step, pops.saturating_sub(1));
     true
 }
 

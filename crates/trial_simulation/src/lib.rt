@@ -29,33 +29,35 @@ fn short(case: &Sheet, n: usize) -> bool {
         || length(case, sheet::STACK) < n
 }
 
-// The refusal of a run before its steps: 1 or 4 to 7. Number 0 means that there is none.
-fn early_answer(case: &Sheet, n: usize) -> Answer {
+// Refuses a run before its steps: 1 or 4 to 7.
+fn test(case: &Sheet, n: usize) -> Result<(), Answer> {
     if MOST_COLUMNS < n {
-        return answer(1, 0, 0);
+        return Err(answer(1, 0, 0));
     }
-    let of_lists = lists::lists_answer(case, n);
-    if of_lists.number != 0 {
-        return of_lists;
-    }
+    lists::test(case, n)?;
     if short(case, n) {
-        return answer(7, 0, 0);
+        return Err(answer(7, 0, 0));
     }
-    answer(0, 0, 0)
+    Ok(())
+}
+
+// A run: the greatest room of its steps, or the answer that refuses it.
+fn run(case: &Sheet) -> Result<usize, Answer> {
+    let n = sheet::n(case);
+    test(case, n)?;
+    steps::run(case, n)
 }
 
 // What a run must answer.
 pub fn simulate(case: &Sheet) -> Answer {
-    let n = sheet::n(case);
-    let early = early_answer(case, n);
-    if early.number != 0 {
-        return early;
+    match run(case) {
+        Ok(greatest) => answer(0, 0, greatest),
+        Err(refused) => refused,
     }
-    steps::steps_answer(case, n)
 }
 
 // Tests whether a run must leave what the stack list holds: it does so if it is refused before its steps. From the steps on, the list must
 // be zero after it.
 pub fn keeps(case: &Sheet) -> bool {
-    early_answer(case, sheet::n(case)).number != 0
+    test(case, sheet::n(case)).is_err()
 }

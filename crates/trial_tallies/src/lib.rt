@@ -2,61 +2,122 @@
 // wrap, so no function asks anything of its caller.
 #![tactic(auto)]
 
-// The place of a number counts the cases that have this number and nothing wrong. The places behind the numbers count what else a program
-// prints. Place 30 counts all cases, place 31 those with anything wrong.
-pub type Tally = [u64; 32];
+use std::fmt;
+use std::fmt::Write;
 
-const CASES: usize = 30;
+// The standard output. The crate io writes to it, and assumes no more of the C library than its `write`; std's own printing would also
+// assume its number and its text of an error.
+#[derive(Drop)]
+pub struct Output;
 
-pub const WRONG: usize = 31;
-
-// The sum of two numbers below 2^32.
-pub fn plus(a: u64, b: u64) -> u64 {
-    a % 4294967296 + b % 4294967296
-}
-
-pub fn count(tally: &mut Tally, place: usize, more: u64) {
-    tally[place % 32] = plus(tally[place % 32], more);
-}
-
-// A byte of a text. Bytes from 64 to 95 are replaced by numbers of a tally: `@` by that at place 0, `A` by that at 1 and so on up to `Z`,
-// then `[`, `\`, `]`, `^` and `_`.
-fn put(tally: &Tally, byte: u8) {
-    if byte / 32 == 2 {
-        io::print_decimal(1, tally[(byte % 32) as usize]);
-        return;
-    }
-    let one = [byte];
-    io::write_all(1, &one);
-}
-
-// Prints a text with numbers of a tally in it.
-pub fn print(tally: &Tally, text: &[u8]) {
-    for i in 0..text.len() {
-        put(tally, text[i]);
+impl Write for Output {
+    fn write_str(&mut self, text: &str) -> fmt::Result {
+        if io::write_all(1, text.as_bytes()) {
+            return Ok(());
+        }
+        Err(fmt::Error)
     }
 }
 
-// Prints a case with anything wrong: how many cases there were up to it, its number, how much is wrong, and two numbers that name it.
-fn mismatch(case: u64, number: u64, wrong: usize, a: u64, b: u64) {
-    let mut told = [0u64; 32];
-    told[0] = case;
-    told[1] = number;
-    told[2] = wrong as u64;
-    told[3] = a;
-    told[4] = b;
-    print(&told, b"mismatch @ A B C D\n");
+// A case with anything wrong: how many cases there were up to it, its number, how much is wrong, and two numbers that name it.
+#[derive(Clone, Copy, Drop)]
+struct Mismatch {
+    case: u64,
+    number: u64,
+    wrong: usize,
+    a: u64,
+    b: u64,
 }
 
-// Counts a case, by its number if nothing of it is wrong. Prints the first twenty with anything wrong.
-pub fn tell(tally: &mut Tally, number: u64, wrong: usize, a: u64, b: u64) {
-    count(tally, CASES, 1);
-    if wrong == 0 {
-        count(tally, (number % 32) as usize, 1);
-        return;
+impl fmt::Display for Mismatch {
+    fn fmt<W: fmt::Write>(&self, f: &mut fmt::Formatter<W>) -> fmt::Result {
+        let Mismatch {
+            case,
+            number,
+            wrong,
+            a,
+            b,
+        } = *self;
+        write!(f, "mismatch {case} {number} {wrong} {a} {b}")
     }
-    count(tally, WRONG, 1);
-    if tally[WRONG] <= 20 {
-        mismatch(tally[CASES], number, wrong, a, b);
+}
+
+// Counts all cases, by their number those with nothing wrong, and those with anything wrong, of which it keeps the first twenty. The notes
+// are what else a program counts.
+#[derive(Drop)]
+pub struct Tally<N> {
+    cases: u64,
+    right: [u64; 32],
+    wrong: u64,
+    mismatches: [Option<Mismatch>; 20],
+    pub notes: N,
+}
+
+impl<N> Tally<N> {
+    pub fn new(notes: N) -> Tally<N> {
+        Tally {
+            cases: 0,
+            right: [0; 32],
+            wrong: 0,
+            mismatches: [None; 20],
+            notes,
+        }
+    }
+
+    // How many cases there are.
+    pub fn cases(&self) -> u64 {
+        self.cases
+    }
+
+    // How many cases have this number and nothing wrong.
+    pub fn right(&self, number: usize) -> u64 {
+        self.right[number % 32]
+    }
+
+    // How many cases have anything wrong.
+    pub fn wrong(&self) -> u64 {
+        self.wrong
+    }
+
+    // Counts something wrong that has no case.
+    pub fn count_wrong(&mut self) {
+        self.wrong = self.wrong.saturating_add(1);
+    }
+
+    // Counts a case, by its number if nothing of it is wrong. Keeps it if it is one of the first twenty with anything wrong.
+    pub fn tell(&mut self, number: u64, wrong: usize, a: u64, b: u64) {
+        self.cases = self.cases.saturating_add(1);
+        if wrong == 0 {
+            let right = &mut self.right[(number % 32) as usize];
+            *right = right.saturating_add(1);
+            return;
+        }
+        if let Some(place) = self.mismatches.get_mut(self.wrong as usize) {
+            let case = self.cases;
+            *place = Some(Mismatch {
+                case,
+                number,
+                wrong,
+                a,
+                b,
+            });
+        }
+        self.count_wrong();
+    }
+
+    // Prints a line for each of the first twenty cases with anything wrong.
+    pub fn print_mismatches(&self, out: &mut Output) -> fmt::Result {
+        for mismatch in self.mismatches.iter().flatten() {
+            writeln!(out, "{mismatch}")?;
+        }
+        Ok(())
+    }
+
+    // Prints how many cases have each of these numbers and nothing wrong, each in a line of its own that begins with a word.
+    pub fn print_numbers(&self, out: &mut Output, word: &str, numbers: &[usize]) -> fmt::Result {
+        for number in numbers {
+            writeln!(out, "{word} {number}: {}", self.right(*number))?;
+        }
+        Ok(())
     }
 }
