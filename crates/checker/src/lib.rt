@@ -6,6 +6,7 @@ ghost use Rattle.papers.specs.Job.{job_of};
 ghost use Rattle.papers.specs.Check.{checked};
 ghost use Rattle.lent.specs.Six.{six_slices};
 
+use job::Job;
 use papers::{Answer, JobHead};
 
 // Checks a plan's bytes. Tests 1 to 7, the bytes (11 to 15), the rows (8), then the plan (16 to 20, 9). When done, the
@@ -29,26 +30,27 @@ pub fn check_plan(
         (six_slices parents.old order.old pops.old fstarts.old frows.old
         work.old)) }
 {
-    let fault = lent_tests::early_fault(
+    let job = Job {
         head,
         starts,
         rows,
+    };
+    if let Err(refused) = lent_tests::early_fault(
+        job,
         parents.len(),
         order.len(),
         pops.len(),
         fstarts.len(),
         work.len(),
-    );
-    if fault.number != 0 {
-        return fault;
+    ) {
+        return Answer::from(refused);
     }
-    let answer = check_bytes::judge_bytes(
-        head, starts, rows, plan, parents, order, pops, fstarts, frows, work,
-    );
-    if answer.number != 0 {
+    let judged = check_bytes::judge_bytes(job, plan, parents, order, pops, fstarts, frows, work);
+    let answer = refusals::answer(judged);
+    if judged.is_err() {
         lent::clear_all(parents, order, pops, fstarts, frows, work);
         return answer;
     }
-    slices::clear64(work);
+    work.fill(0);
     answer
 }

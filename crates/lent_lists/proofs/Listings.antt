@@ -16,8 +16,8 @@ use Rattle.list_laws.proofs.Stores.{length-starts}
 use Rattle.list_laws.proofs.UpTo.{length-up_to}
 use Rattle.job_laws.proofs.Starts.{start-at}
 use Rattle.job_laws.proofs.Laid.{length-lists, laid-starts}
-use Rattle.slices.specs.From.{zeros_from}
-use Rattle.slices.proofs.From.{cleared-from, stored-from}
+use Rattle.list_laws.specs.From.{zeros_from}
+use Rattle.list_laws.proofs.From.{cleared-from, stored-from}
 use Rattle.structure.specs.Listed.{Listable, ColumnsListed}
 use Rattle.lent.specs.Six.{six_slices}
 use Rattle.lent.proofs.Alike.{part-long}

@@ -13,3 +13,4 @@ pub mod Slices
 pub mod Sorts
 pub mod SortOrder
 pub mod Leasts
+pub mod From

@@ -9,7 +9,8 @@ ghost use Rattle.papers.specs.Call.{solver_answer, called};
 ghost use Rattle.solver.specs.Within.{WithinSizes};
 
 use papers::{Answer, JobHead};
-use read_key::KeyReading;
+use read_key::KeyFound;
+use refusals::Refusal;
 
 // Checks a plan's bytes for a job, in zeroed buffers of the program's sizes.
 fn check_in_buffers(head: JobHead, starts: &[u64], rows: &[u32], plan: &[u8]) -> Answer
@@ -35,17 +36,22 @@ fn check_in_buffers(head: JobHead, starts: &[u64], rows: &[u32], plan: &[u8]) ->
     )
 }
 
-// Checks a plan's bytes for the job of a key that was read through and is within the sizes. Reads the key's lists again, which start at
-// `at` and have `count` rows, into buffers of their own.
-fn check_for_key(key: &[u8], head: JobHead, count: u64, at: usize, plan: &[u8]) -> Answer
-    requires { WithinSizes key.now head count at }
+// Checks a plan's bytes for the job of a key that was read through and is within the sizes. Reads the key's lists again, into buffers of
+// their own.
+fn check_for_key(key: &[u8], found: KeyFound, plan: &[u8]) -> Answer
+    requires { WithinSizes key.now found.head found.rows found.lists }
     ensures { result ≡ solver_answer (record { key = key.now; plan = plan.now }) }
 {
-    let n = head.n as usize;
+    let n = found.head.n as usize;
     let mut starts = [0u64; program_sizes::STARTS];
     let mut rows = [0u32; program_sizes::PATTERN_ROWS];
-    read_plan::read_lists(key, at, head.n, &mut starts, &mut rows);
-    check_in_buffers(head, &starts[..n + 1], &rows[..count as usize], plan)
+    read_plan::read_lists(key, found.lists, found.head.n, &mut starts, &mut rows);
+    check_in_buffers(
+        found.head,
+        &starts[..n + 1],
+        &rows[..found.rows as usize],
+        plan,
+    )
 }
 
 // The one number is this many times the answer's number, plus its place.
@@ -56,22 +62,14 @@ const PLACES: u64 = 4294967296;
 pub fn check(key: &[u8], plan: &[u8]) -> u64
     ensures { result ≡ called key.now plan.now }
 {
-    match read_key::read_key(key) {
-        KeyReading::Unreadable => {
-            return 27 * PLACES;
-        }
-        KeyReading::Whole {
-            head,
-            rows: count,
-            lists,
-        } => {
-            if (program_sizes::COLUMNS as u64) < head.n
-                || (program_sizes::PATTERN_ROWS as u64) < count
-            {
-                return 26 * PLACES;
-            }
-            let answer = check_for_key(key, head, count, lists, plan);
-            return answer.number * PLACES + answer.place;
-        }
+    let Some(found) = read_key::read_key(key) else {
+        return Refusal::KeyUnreadable as u64 * PLACES;
+    };
+    if (program_sizes::COLUMNS as u64) < found.head.n
+        || (program_sizes::PATTERN_ROWS as u64) < found.rows
+    {
+        return Refusal::OverProgramSizes as u64 * PLACES;
     }
+    let answer = check_for_key(key, found, plan);
+    answer.number * PLACES + answer.place
 }

@@ -13,8 +13,8 @@ use Rattle.list_laws.specs.Wrote.{Wrote}
 use Rattle.list_laws.proofs.Writing.{wrote-long}
 use Rattle.job_laws.proofs.Firsts.{first-none, first-last, over-refuses, over-passes-iff}
 use Rattle.job_laws.proofs.Outcomes.{outcome-late, outcome-done}
-use Rattle.slices.specs.From.{zeros_from}
-use Rattle.slices.proofs.From.{cleared-from, stored-from}
+use Rattle.list_laws.specs.From.{zeros_from}
+use Rattle.list_laws.proofs.From.{cleared-from, stored-from}
 use Rattle.write_stored.specs.Stored.{stored}
 
 module _ (written bytes : List ℕ) where

@@ -1,24 +1,26 @@
 -- Proves that `check_plan` answers right: 1 to 7 end it at once; in every other case the tests decide, and then it
 -- clears all slices, or work alone.
 -- Assumes nothing.
-use native.Mathlib.Omega.{arith}
-use Rattle.job_laws.proofs.Outcomes.{early-passed}
+use Rattle.std.proofs.Common.{sym, ◌∙◌, arith}
+use Rattle.refusals.proofs.Numbered.{error-numbered, done-numbered}
+use Rattle.job_laws.proofs.Outcomes.{early-passes-iff}
 use Rattle.lent.proofs.Alike.{zeros-alike}
 use Rattle.check_bytes.proofs.Ways.{way-early, way-refused, way-done}
 use Rattle.checker.proofs.check_plan.Goals as goal
 
-pub returns-then-fault-ne0 : goal.returns-then-fault-ne0
-returns-then-fault-ne0 c = way-early _ _ _ c.early_fault-fault.ensures c.if-fault-ne0.true
+pub returns-in-Err : goal.returns-in-Err
+returns-in-Err c = rw c.from.ensures (way-early _ _ _ c.in-Err.ensures)
 
-pub judge_bytes-answer-requires : goal.judge_bytes-answer-requires
-judge_bytes-answer-requires c =
-    let (passes, long) = early-passed _ c.early_fault-fault.ensures c.if-fault-ne0.false in
+pub judge_bytes-judged-requires : goal.judge_bytes-judged-requires
+judge_bytes-judged-requires c =
+    let (passes, long) = (early-passes-iff _).0 (sym c.in_default.ensures) in
     record { passes = passes; long = long }
 
-pub returns-then-answer-ne0 : goal.returns-then-answer-ne0
-returns-then-answer-ne0 c =
-    let k = c.judge_bytes-answer.auto in
-    way-refused c.judge_bytes-answer.ensures c.if-answer-ne0.true
+pub returns-then-is_err : goal.returns-then-is_err
+returns-then-is_err c =
+    let k = c.judge_bytes-judged.auto in
+    let refused = error-numbered c.judge_bytes-judged.result (sym c.is_err.ensures.value ∙ c.if-is_err.true) in
+    rw c.answer-answer.ensures (way-refused c.judge_bytes-judged.ensures refused
     (zeros-alike _ _ (record {
       parents = omega arith;
       order = omega arith;
@@ -26,9 +28,10 @@ returns-then-answer-ne0 c =
       starts = omega arith;
       rows = omega arith;
       work = omega arith;
-    }) c.clear_all.ensures)
+    }) c.clear_all.ensures))
 
 pub returns : goal.returns
 returns c =
-    way-done c.judge_bytes-answer.ensures c.if-answer-ne0.false
-    (let kept = c.judge_bytes-answer.auto in cc c.clear64.ensures)
+    let done = done-numbered c.judge_bytes-judged.result (sym c.is_err.ensures.value ∙ c.if-is_err.false) in
+    rw c.answer-answer.ensures (way-done c.judge_bytes-judged.ensures done
+    (let kept = c.judge_bytes-judged.auto in cc (c.fill.ensures.after (λ y e. e))))

@@ -3,7 +3,7 @@
 -- Assumes nothing.
 use native.Mathlib.Omega.{arith}
 use Rattle.std.proofs.Common.{◌+◌, ◌≤◌, ◌∙◌, ◌++◌, length, drop}
-use Rattle.slices.proofs.From.{cleared-from}
+use Rattle.list_laws.proofs.From.{cleared-from}
 use Rattle.lent.proofs.Alike.{part-long}
 use Rattle.lent_lists.proofs.Listings.{listable, some-listed, last_fits, parts-behind, parts-long, others-long, all_listed}
 use Rattle.lent_lists.proofs.list_columns.Goals as goal

@@ -7,7 +7,7 @@ use native.Mathlib.Omega.{arith}
 use lib.ListN.{length, take, drop, length-take, length-drop, drop_of_length-le}
 use lib.Seq.{sets, sets-eq, take_at, drop_at}
 use Rattle.papers.specs.Lists.{zeros, then_zeros}
-use Rattle.slices.specs.From.{zeros_from}
+use Rattle.list_laws.specs.From.{zeros_from}
 
 -- clears the part of so many places from k on, which ends the slice
 pub cleared-from : (k : ℕ) (l : List ℕ) {rest : List ℕ} → k ≤ length l → rest ≡ zeros (take (length l - k) (drop k l))
