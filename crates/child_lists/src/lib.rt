@@ -26,9 +26,9 @@ pub fn covered(n: usize, j: usize, list: &[u32], work: &[u64]) -> bool
         .all(|row| work[n + n + *row as usize] == j as u64)
 }
 
-// Joins the rows of the children from c on to the len rows of x, and answers the list that they make. A child whose rows are all marked brings
-// nothing and is skipped; of a child that is joined, the rows are marked. The two buffers take turns: each join goes from the one into the
-// other. A while: the children are linked.
+// Joins the rows of the children from c on to the len rows of x, and answers the list that they make. A child whose rows are all marked
+// brings nothing and is skipped; of a child that is joined, the rows are marked. The two buffers take turns: each join goes from the one
+// into the other. A while: the children are linked.
 pub fn join_children<'a>(
     n: usize,
     j: usize,

@@ -16,8 +16,8 @@ pub fn pattern_rows<'a>(m: usize, starts: &[u64], rows: &'a [u32]) -> &'a [u32]
     &rows[s..e]
 }
 
-// Gathers R(m + 1): joins the pattern rows with those that the longest child hands on, then with those of the other children. Rows are marked
-// only if there are several children. The list is in one of the buffers; without a child it is the pattern rows.
+// Gathers R(m + 1): joins the pattern rows with those that the longest child hands on, then with those of the other children. Rows are
+// marked only if there are several children. The list is in one of the buffers; without a child it is the pattern rows.
 pub fn gather<'a>(
     n: usize,
     m: usize,

@@ -5,7 +5,8 @@
 ghost use Rattle.needed_climb.specs.Row.{Climbing, Climbed};
 
 // Climbs from column k, which has row i, from parent to parent up to a column that is marked for row i. Marks and counts each column on the
-// way: all of them have row i. A column that has no parent yet, which is written 0, gets row i as its parent. A while: it climbs over parents.
+// way: all of them have row i. A column that has no parent yet, which is written 0, gets row i as its parent. A while: it climbs over
+// parents.
 pub fn climb(i: usize, k: usize, count: u64, parents: &mut [u32], work: &mut [u64]) -> u64
     requires { Climbing i k parents.old work.old count }
     ensures { Climbed i k parents.old work.old count parents.new work.new result }

@@ -23,8 +23,8 @@ pub fn file(n: usize, c: usize, q: u64, starts: &[u64], rows: &[u32], work: &mut
     }
 }
 
-// Does all columns whose next pattern row is i: climbs from each, and files it under its row after i. Answers the count with those of row i.
-// A while: the columns are linked.
+// Does all columns whose next pattern row is i: climbs from each, and files it under its row after i. Answers the count with those of row
+// i. A while: the columns are linked.
 pub fn walk(
     n: usize,
     i: usize,
