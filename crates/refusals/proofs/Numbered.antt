@@ -4,7 +4,10 @@ use Rattle.std.proofs.Common.{ℕ, ◌<◌, ◌≡◌, ◌≢◌, refl, true, fa
 use Rattle.std.specs.Result.{is_err}
 use Rattle.std.proofs.lemmas.Bool.{false≢true, true≢false}
 use Rattle.refusals.specs.declared.Refusal.{Refusal}
-use Rattle.refusals.specs.declared.Refusal.TheVariants.{TooManyColumns, UnknownMark, LimitTooHigh, StartsAtFault, RowOutOfRange, RowNotAscending, SliceTooShort, FactorRowsDoNotFit, PeakOverLimit, BytesDoNotFit, NotTheKey, BytesEnd, NumberTooLong, ValueOutOfRange, BytesFollow, ColumnRepeated, ListNotTheFill, SubtreeScattered, PopsNotChildren, PeakNotDeclared, TooFewUpdates, RowOutsideFront, RoomExceeded, UpdatesLeft, BadText, OverProgramSizes, KeyUnreadable}
+use Rattle.refusals.specs.declared.Refusal.TheVariants.{TooManyColumns, UnknownMark, LimitTooHigh, StartsAtFault, RowOutOfRange, RowNotAscending, SliceTooShort}
+use Rattle.refusals.specs.declared.Refusal.TheVariants.{FactorRowsDoNotFit, PeakOverLimit, BytesDoNotFit, NotTheKey, BytesEnd, NumberTooLong, ValueOutOfRange}
+use Rattle.refusals.specs.declared.Refusal.TheVariants.{BytesFollow, ColumnRepeated, ListNotTheFill, SubtreeScattered, PopsNotChildren, PeakNotDeclared}
+use Rattle.refusals.specs.declared.Refusal.TheVariants.{TooFewUpdates, RowOutsideFront, RoomExceeded, UpdatesLeft, BadText, OverProgramSizes, KeyUnreadable}
 use Rattle.refusals.specs.declared.Refused.{Refused}
 use Rattle.refusals.specs.Answers.{number_of, answer_from}
 
