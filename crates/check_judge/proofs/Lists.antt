@@ -55,8 +55,8 @@ module _ (job : Job) (valid : Passed job) (plan : Plan) {peak : ℕ} {order pops
       pub refuses-17 : {p : ℕ} → column ≡ Some p → {r : Answer} → r ≡ answer 17 p 0 → r ≡ ruling (first judge_refusals (plan_from job plan)) peak
       unfolding judge_refusals
       refuses-17 is q =
-          ruling-refused peak (decides (column_repeated ∷ []) list_wrong _ (plan_from job plan) (unrepeated, tt) (place-refuses 17 _ (e plan.lists plan-lists) is))
-          q
+          ruling-refused peak
+          (decides (column_repeated ∷ []) list_wrong _ (plan_from job plan) (unrepeated, tt) (place-refuses 17 _ (e plan.lists plan-lists) is)) q
 
       pub passes-17 : column ≡ None → list_wrong.test (plan_from job plan) ≡ passed
       passes-17 is = place-passes 17 _ (e plan.lists plan-lists) is

@@ -69,7 +69,8 @@ module _ {job : Job} {plan : Plan} {limit claimed : ℕ} {parents order pops fst
 
       pub refuses-19 : {p : ℕ} → step ≡ Some p → {r : Answer} → r ≡ answer 19 p 0 → r ≡ ruling (first tree_refusals (plan_from job plan)) claimed
       unfolding tree_refusals
-      refuses-19 is q = ruling-refused claimed (decides (subtree_scattered ∷ []) pops_wrong _ (plan_from job plan) (whole, tt) (place-refuses 19 _ found-19 is)) q
+      refuses-19 is q =
+          ruling-refused claimed (decides (subtree_scattered ∷ []) pops_wrong _ (plan_from job plan) (whole, tt) (place-refuses 19 _ found-19 is)) q
 
       pub passes-19 : step ≡ None → pops_wrong.test (plan_from job plan) ≡ passed
       passes-19 is = place-passes 19 _ found-19 is

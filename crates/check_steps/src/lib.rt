@@ -23,8 +23,8 @@ pub fn first_repeat(order: &[u32], work: &mut [u64]) -> Option<u64>
     None
 }
 
-// Test 19: finds the first step whose pops are not its column's number of children. work holds the numbers of children. In the loop the pops
-// of the first i steps are right.
+// Test 19: finds the first step whose pops are not its column's number of children. work holds the numbers of children. In the loop the
+// pops of the first i steps are right.
 pub fn first_wrong_pops(
     parents: &[u32],
     order: &[u32],
