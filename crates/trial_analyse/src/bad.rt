@@ -5,20 +5,14 @@
 // row, which is 5, and faults in two columns, of which the earlier decides; 7, which comes after the tests of the job and before 8 and 9.
 use super::call::{Lengths, Right, wrong_in_call};
 use super::cases::Tally;
+use std::array;
 use trial_comparison::no_result;
 use trial_elimination::sheet::EMPTY;
 use trial_lines::line::Numbers;
 use trial_lines::{line, sheet};
 
 fn lengths(numbers: &Numbers) -> Lengths {
-    [
-        line::lent(numbers, 0),
-        line::lent(numbers, 1),
-        line::lent(numbers, 2),
-        line::lent(numbers, 3),
-        line::lent(numbers, 4),
-        line::lent(numbers, 5),
-    ]
+    array::from_fn(|slice| line::lent(numbers, slice))
 }
 
 // Counts what is wrong in the call of a bad job, which has no result.

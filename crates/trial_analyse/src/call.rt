@@ -24,13 +24,15 @@ fn length(lent: &Lengths, slice: usize) -> usize
 
 // The six slices before a call.
 fn before() -> Slices<300, 300> {
+    let words = filled();
+    let longs = filled();
     Slices {
-        parents: filled(),
-        order: filled(),
-        pops: filled(),
-        starts: filled(),
-        rows: filled(),
-        work: filled(),
+        parents: words,
+        order: words,
+        pops: words,
+        starts: longs,
+        rows: words,
+        work: longs,
     }
 }
 
