@@ -4,25 +4,19 @@
 // start falls, and at n for the last start; 5, a row up to its column or beyond n; 6, a row up to the one before it; both faults in one
 // row, which is 5, and faults in two columns, of which the earlier decides; 7, which comes after the tests of the job and before 8 and 9.
 use super::call::{Lengths, Right, wrong_in_call};
+use super::cases::Tally;
+use std::array;
 use trial_comparison::no_result;
+use trial_elimination::sheet::EMPTY;
 use trial_lines::line::Numbers;
 use trial_lines::{line, sheet};
-use trial_tallies::Tally;
 
 fn lengths(numbers: &Numbers) -> Lengths {
-    [
-        line::lent(numbers, 0),
-        line::lent(numbers, 1),
-        line::lent(numbers, 2),
-        line::lent(numbers, 3),
-        line::lent(numbers, 4),
-        line::lent(numbers, 5),
-    ]
+    array::from_fn(|slice| line::lent(numbers, slice))
 }
 
 // Counts what is wrong in the call of a bad job, which has no result.
 fn wrong(numbers: &Numbers, starts: &[u64], rows: &[u32]) -> usize {
-    let nothing = [0usize; 10200];
     let right = Right {
         answer: line::right(numbers),
         held: no_result(line::kept(numbers)),
@@ -32,7 +26,7 @@ fn wrong(numbers: &Numbers, starts: &[u64], rows: &[u32]) -> usize {
         starts,
         rows,
         &lengths(numbers),
-        &nothing,
+        &EMPTY,
         right,
     )
 }
@@ -43,5 +37,5 @@ pub fn hold(tally: &mut Tally, numbers: &Numbers, job: usize) {
     let a = line::count(numbers, line::STARTS) % 1153;
     let b = line::count(numbers, line::ROWS) % 513;
     let wrong = wrong(numbers, &starts[..a], &rows[..b]);
-    trial_tallies::tell(tally, line::right(numbers).number, wrong, 0, job as u64);
+    tally.tell(line::right(numbers).number, wrong, 0, job as u64);
 }

@@ -2,12 +2,11 @@
 // order as the digits of a number, the peak, how many rows there are, and every row with its column, as two digits. The pieces are:
 // nothing; one pair; three columns without rows; dense; star; columns 1 with {3, 4} and 2 with {3}, where row 4 fills column 3; columns 1
 // with {3}, 2 with {4} and 3 with {4}, whose numbering is no order; and the nine columns of the rules' example, under two marks.
-use super::cases::{hold_pattern, work_out};
+use super::cases::{Tally, hold_pattern, work_out};
 use trial_elimination::grid::{Grid, add, put};
 use trial_elimination::sheet;
 use trial_elimination::sheet::{Sheet, get};
 use trial_lines::line::{Numbers, at};
-use trial_tallies::Tally;
 
 // Places in a line.
 const N: usize = 0;
@@ -36,11 +35,9 @@ fn draw(grid: &mut Grid, piece: &Numbers) {
 
 // The columns of an order of up to nine, as the digits of one number.
 fn digits(sheet: &Sheet, n: usize) -> usize {
-    let mut number = 0;
-    for k in 0..n {
-        number = number % 100000000 * 10 + get(sheet, sheet::COLUMNS, k) % 10;
-    }
-    number
+    (0..n)
+        .map(|k| get(sheet, sheet::COLUMNS, k))
+        .fold(0, |number, c| number % 100000000 * 10 + c % 10)
 }
 
 // Tests whether the elimination gives a pattern the order and the peak of a piece.
@@ -65,10 +62,10 @@ fn hold_piece(tally: &mut Tally, sheet: &mut Sheet, pattern: &Grid, piece: &Numb
 
 pub fn hold(tally: &mut Tally, piece: &Numbers) {
     let mut pattern = [0usize; 625];
-    let mut sheet = [0usize; 10200];
+    let mut sheet = sheet::EMPTY;
     draw(&mut pattern, piece);
     if !same(&mut sheet, &pattern, piece) {
-        trial_tallies::count(tally, trial_tallies::WRONG, 1);
+        tally.count_wrong();
     }
     hold_piece(tally, &mut sheet, &pattern, piece);
 }

@@ -2,8 +2,7 @@
 ghost use Rattle.std.specs.Prelude.{◌≤◌};
 
 use papers::{Answer, JobHead};
-use trial_comparison::{Held, fill64, filled32, wrong32, wrong64};
-use trial_elimination::grid::add;
+use trial_comparison::{Held, Slices, differences, filled, wrong};
 use trial_elimination::sheet;
 use trial_elimination::sheet::Sheet;
 
@@ -23,37 +22,34 @@ fn length(lent: &Lengths, slice: usize) -> usize
     lent[slice % 6] % 301
 }
 
-// Counts the places of parents, order and pops that are wrong after a call.
-fn wrong_steps(
-    parents: &[u32; 300],
-    order: &[u32; 300],
-    pops: &[u32; 300],
-    lent: &Lengths,
-    right: Right,
-    res: &Sheet,
-) -> usize {
-    let held = right.held;
-    let a = wrong32(parents, length(lent, 0), held, res, sheet::PARENTS);
-    let b = wrong32(order, length(lent, 1), held, res, sheet::COLUMNS);
-    let c = wrong32(pops, length(lent, 2), held, res, sheet::POPS);
-    add(a, add(b, c))
+// The six slices before a call.
+fn before() -> Slices<300, 300> {
+    let words = filled();
+    let longs = filled();
+    Slices {
+        parents: words,
+        order: words,
+        pops: words,
+        starts: longs,
+        rows: words,
+        work: longs,
+    }
 }
 
-// Counts the places of factor starts, factor rows and work that are wrong after a call. Work must be zero, like the stack list of a
-// sheet.
-fn wrong_lists(
-    starts: &[u64; 300],
-    rows: &[u32; 300],
-    work: &[u64; 300],
-    lent: &Lengths,
-    right: Right,
-    res: &Sheet,
-) -> usize {
-    let held = right.held;
-    let a = wrong64(starts, length(lent, 3), held, res, sheet::STARTS);
-    let b = wrong32(rows, length(lent, 4), held, res, sheet::ROWS);
-    let c = wrong64(work, length(lent, 5), held, res, sheet::STACK);
-    add(a, add(b, c))
+// Counts the places of the six slices that are wrong after a call. Work must be zero, like the stack list of a sheet.
+fn wrong_slices(slices: &Slices<300, 300>, lent: &Lengths, held: Held, res: &Sheet) -> usize {
+    let parents = wrong(&slices.parents, length(lent, 0), held, res, sheet::PARENTS);
+    let order = wrong(&slices.order, length(lent, 1), held, res, sheet::COLUMNS);
+    let pops = wrong(&slices.pops, length(lent, 2), held, res, sheet::POPS);
+    let starts = wrong(&slices.starts, length(lent, 3), held, res, sheet::STARTS);
+    let rows = wrong(&slices.rows, length(lent, 4), held, res, sheet::ROWS);
+    let work = wrong(&slices.work, length(lent, 5), held, res, sheet::STACK);
+    parents
+        .saturating_add(order)
+        .saturating_add(pops)
+        .saturating_add(starts)
+        .saturating_add(rows)
+        .saturating_add(work)
 }
 
 // Calls the analysis and counts what is wrong, in its answer and at every place of the six slices.
@@ -65,34 +61,17 @@ pub fn wrong_in_call(
     res: &Sheet,
     right: Right,
 ) -> usize {
-    let mut parents = filled32();
-    let mut order = parents;
-    let mut pops = parents;
-    let mut factor_rows = parents;
-    let mut factor_starts = [1u64; 300];
-    fill64(&mut factor_starts);
-    let mut work = factor_starts;
-    let a = length(lent, 0);
-    let b = length(lent, 1);
-    let c = length(lent, 2);
-    let d = length(lent, 3);
-    let e = length(lent, 4);
-    let f = length(lent, 5);
+    let mut slices = before();
     let found = analysis::analyse(
         head,
         starts,
         rows,
-        &mut parents[..a],
-        &mut order[..b],
-        &mut pops[..c],
-        &mut factor_starts[..d],
-        &mut factor_rows[..e],
-        &mut work[..f],
+        &mut slices.parents[..length(lent, 0)],
+        &mut slices.order[..length(lent, 1)],
+        &mut slices.pops[..length(lent, 2)],
+        &mut slices.starts[..length(lent, 3)],
+        &mut slices.rows[..length(lent, 4)],
+        &mut slices.work[..length(lent, 5)],
     );
-    let x = wrong_steps(&parents, &order, &pops, lent, right, res);
-    let y = wrong_lists(&factor_starts, &factor_rows, &work, lent, right, res);
-    add(
-        trial_comparison::differences(found, right.answer),
-        add(x, y),
-    )
+    differences(found, right.answer).saturating_add(wrong_slices(&slices, lent, right.held, res))
 }

@@ -3,21 +3,40 @@
 use super::call::{Lengths, Right, wrong_in_call};
 use papers::{Answer, JobHead};
 use trial_comparison::Held;
-use trial_elimination::grid::{Grid, add, less};
+use trial_elimination::grid::{Grid, add};
 use trial_elimination::sheet::{Sheet, get, length, set};
 use trial_elimination::{fill, orders, sheet, stack};
 use trial_lists::shapes;
-use trial_tallies::{Tally, count};
 
 // Places in the head of a sheet.
 const MARK: usize = 20;
 
 const SEED: usize = 21;
 
-// Places of the tally: the number of factor rows, and the peaks under each mark.
-const ROWS: usize = 10;
+// What else is counted of all patterns: the factor rows, and the peaks under each mark.
+#[derive(Drop)]
+pub struct Notes {
+    pub rows: u64,
+    pub peaks: [u64; 3],
+}
 
-const PEAKS: usize = 11;
+pub type Tally = trial_tallies::Tally<Notes>;
+
+impl Notes {
+    pub fn new() -> Notes {
+        Notes {
+            rows: 0,
+            peaks: [0; 3],
+        }
+    }
+
+    // Counts the factor rows and the peak of a pattern under a mark.
+    fn note(&mut self, sheet: &Sheet, mark: usize) {
+        self.rows = self.rows.saturating_add(length(sheet, sheet::ROWS) as u64);
+        let peak = &mut self.peaks[mark % 3];
+        *peak = peak.saturating_add(get(sheet, sheet::HEAD, sheet::ROOM) as u64);
+    }
+}
 
 // Writes what the elimination says of a pattern under a mark into a sheet that holds nothing of another pattern. Answers the peak.
 pub fn work_out(sheet: &mut Sheet, pattern: &Grid, n: usize, mark: usize) -> usize {
@@ -31,7 +50,7 @@ pub fn work_out(sheet: &mut Sheet, pattern: &Grid, n: usize, mark: usize) -> usi
 // The limits tried: one below the peak, the peak, one above it, 0, and the greatest.
 fn limit(peak: usize, choice: usize) -> usize {
     match choice % 5 {
-        0 => less(peak, 1),
+        0 => peak.saturating_sub(1),
         1 => peak,
         2 => add(peak, 1),
         3 => 0,
@@ -42,7 +61,7 @@ fn limit(peak: usize, choice: usize) -> usize {
 // The lengths tried for the factor rows: one below the rows needed, exactly these, three above, and 0.
 fn rows_length(needed: usize, choice: usize) -> usize {
     match choice / 5 % 4 {
-        0 => less(needed, 1),
+        0 => needed.saturating_sub(1),
         1 => needed,
         2 => add(needed, 3),
         _ => 0,
@@ -52,7 +71,7 @@ fn rows_length(needed: usize, choice: usize) -> usize {
 // A slice's length: its fixed length and up to three more, or one less if this slice is to be short.
 fn lent(fixed: usize, seed: usize, choice: usize, short: usize) -> usize {
     if choice == short {
-        return less(fixed, 1);
+        return fixed.saturating_sub(1);
     }
     let lot = shapes::next(add(seed, add(choice, short)));
     add(fixed, shapes::choice(lot, 4))
@@ -122,8 +141,7 @@ fn hold_choices(tally: &mut Tally, starts: &[u64], rows: &[u32], sheet: &Sheet) 
         let lent = lengths(sheet, choice);
         let wrong = wrong_in_call(head(sheet, choice), starts, rows, &lent, sheet, right);
         let seed = get(sheet, sheet::HEAD, SEED);
-        let number = right.answer.number;
-        trial_tallies::tell(tally, number, wrong, seed as u64, choice as u64);
+        tally.tell(right.answer.number, wrong, seed as u64, choice as u64);
     }
 }
 
@@ -133,13 +151,6 @@ fn write_result(sheet: &mut Sheet, pattern: &Grid, n: usize, mark: usize, seed: 
     set(sheet, sheet::HEAD, sheet::ROOM, peak);
     set(sheet, sheet::HEAD, MARK, mark);
     set(sheet, sheet::HEAD, SEED, seed);
-}
-
-// Counts the factor rows and the peak.
-fn note(tally: &mut Tally, sheet: &Sheet, mark: usize) {
-    count(tally, ROWS, length(sheet, sheet::ROWS) as u64);
-    let peak = get(sheet, sheet::HEAD, sheet::ROOM);
-    count(tally, add(PEAKS, mark % 3), peak as u64);
 }
 
 // Compares the analysis of a pattern under a mark with what the elimination says. The sheet first holds the job's lists; those of the fill
@@ -155,9 +166,9 @@ pub fn hold_pattern(
     fill::write_lists(sheet, pattern, n);
     let starts = trial_comparison::longs(sheet, sheet::STARTS);
     let rows = trial_comparison::words(sheet, sheet::ROWS);
-    let a = length(sheet, sheet::STARTS) % 301;
-    let b = length(sheet, sheet::ROWS) % 301;
+    let a = trial_comparison::count(sheet, sheet::STARTS);
+    let b = trial_comparison::count(sheet, sheet::ROWS);
     write_result(sheet, pattern, n, mark, seed);
     hold_choices(tally, &starts[..a], &rows[..b], sheet);
-    note(tally, sheet, mark);
+    tally.notes.note(sheet, mark);
 }

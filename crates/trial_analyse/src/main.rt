@@ -9,32 +9,32 @@ mod cases; // cases.rt: a pattern under a mark
 mod bench; // bench.rt: bench pieces
 mod bad; // bad.rt: bad jobs
 
+use cases::{Notes, Tally};
+use std::fmt;
+use std::fmt::Write;
 use trial_elimination::grid::Grid;
+use trial_elimination::sheet;
 use trial_lines::line;
 use trial_lines::line::Numbers;
 use trial_lists::shapes;
-use trial_tallies::Tally;
+use trial_lists::shapes::Shape;
+use trial_tallies::Output;
 
 // How many lines of the input are bad jobs. The lines after them are bench pieces.
 const JOBS: usize = 32;
 
 // A random row is put into a pattern once in this many draws: two kinds are random only, the others get a few in later rounds.
 fn odds(kind: usize, round: usize) -> usize {
-    if kind == 14 {
-        return round % 100 * 2 + 3;
+    match kind {
+        14 => round % 100 * 2 + 3,
+        15 => round % 100 * 3 + 8,
+        _ => 40usize.checked_div(round).unwrap_or(0),
     }
-    if kind == 15 {
-        return round % 100 * 3 + 8;
-    }
-    if round == 0 {
-        return 0;
-    }
-    40 / round
 }
 
 // A pattern of one of sixteen kinds: the named shapes, random trees, and random rows.
 fn draw(grid: &mut Grid, n: usize, kind: usize, round: usize, seed: usize) {
-    shapes::shape(grid, kind, n);
+    shapes::draw(grid, Shape::from(kind), n);
     if kind / 2 == 6 {
         shapes::tree(grid, n, shapes::next(seed));
     }
@@ -45,7 +45,7 @@ fn draw(grid: &mut Grid, n: usize, kind: usize, round: usize, seed: usize) {
 fn hold(tally: &mut Tally, seed: usize) {
     let n = seed % 25;
     let mut grid = [0usize; 625];
-    let mut sheet = [0usize; 10200];
+    let mut sheet = sheet::EMPTY;
     draw(&mut grid, n, seed / 25 % 16, seed / 400, seed);
     for mark in 0..3 {
         cases::hold_pattern(tally, &mut sheet, &grid, n, mark, seed);
@@ -78,17 +78,25 @@ fn hold_lines(tally: &mut Tally, most: usize) {
     }
 }
 
+fn print(tally: &Tally) -> fmt::Result {
+    let mut out = Output;
+    tally.print_mismatches(&mut out)?;
+    writeln!(out, "cases {}", tally.cases())?;
+    write!(out, "done, and refused 1 to 9")?;
+    for number in 0..10 {
+        write!(out, " {}", tally.right(number))?;
+    }
+    writeln!(out)?;
+    writeln!(out, "factor rows {}", tally.notes.rows)?;
+    let [a, b, c] = tally.notes.peaks;
+    writeln!(out, "peaks under mark 0, 1, 2 {a} {b} {c}")?;
+    writeln!(out, "mismatches {}", tally.wrong())
+}
+
+// Ends in the same way if the output takes nothing.
 fn main() {
-    let mut tally = [0u64; 32];
+    let mut tally = Tally::new(Notes::new());
     hold_lines(&mut tally, 1000);
     hold_drawn(&mut tally, 800);
-    trial_tallies::print(
-        &tally,
-        b"cases ^
-done, and refused 1 to 9 @ A B C D E F G H I
-factor rows J
-peaks under mark 0, 1, 2 K L M
-mismatches _
-",
-    );
+    let _ = print(&tally);
 }

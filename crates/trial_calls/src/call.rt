@@ -1,9 +1,10 @@
 // One call of write_key, of write_plan or of the solver's check, compared with what it has to do.
 use papers::Answer;
+use trial_comparison::{Slices, differences};
 use trial_lines::line::Numbers;
 use trial_lines::sheet::{BEFORE, Bytes};
 use trial_lines::{line, sheet};
-use trial_tallies::{Tally, plus};
+use trial_tallies::Tally;
 
 // The bytes that have to stand at the start of the lent slice: the result in the first of the lent slices.
 const WRITTEN: usize = 0;
@@ -20,14 +21,14 @@ const ENTRY: usize = 5;
 #[derive(Clone, Copy, Drop)]
 struct Found {
     answer: Answer,
-    wrong: u64,
+    wrong: usize,
 }
 
 fn compared(numbers: &Numbers, answer: Answer, bytes: &Bytes) -> Found {
-    let wrong = trial_comparison::differences(answer, line::right(numbers)) as u64;
+    let wrong = differences(answer, line::right(numbers));
     Found {
         answer,
-        wrong: plus(wrong, sheet::wrong8(bytes, numbers, WRITTEN)),
+        wrong: wrong.saturating_add(sheet::wrong(bytes, numbers, WRITTEN)),
     }
 }
 
@@ -39,64 +40,51 @@ fn write_key(numbers: &Numbers, starts: &[u64], rows: &[u32]) -> Found {
     compared(numbers, answer, &bytes)
 }
 
-// 1 for a written plan that the check of its own job does not pass. The plan is handed on as the part of the slice that holds it.
-fn fails(numbers: &Numbers, starts: &[u64], rows: &[u32], bytes: &Bytes, count: u64) -> u64 {
-    let plan = slices::part(bytes, (count % 4097) as usize);
-    let mut parents = [0u32; 512];
-    let mut order = [0u32; 512];
-    let mut pops = [0u32; 512];
-    let mut fstarts = [0u64; 1152];
-    let mut frows = [0u32; 512];
-    let mut work = [0u64; 1152];
+// Tests whether the check of its own job refuses a written plan. The plan is handed on as the part of the slice that holds it.
+fn fails(numbers: &Numbers, starts: &[u64], rows: &[u32], plan: &[u8]) -> bool {
+    let mut slices = Slices::<512, 1152>::of(0);
     let answer = checker::check_plan(
         line::head(numbers),
         starts,
         rows,
         plan,
-        &mut parents,
-        &mut order,
-        &mut pops,
-        &mut fstarts,
-        &mut frows,
-        &mut work,
+        &mut slices.parents,
+        &mut slices.order,
+        &mut slices.pops,
+        &mut slices.starts,
+        &mut slices.rows,
+        &mut slices.work,
     );
-    if answer.number == 0 {
-        return 0;
-    }
-    1
+    answer.number != 0
 }
 
 // Writes the plan of the case's job, in slices that are long enough but for the factor rows and the bytes. A written plan is checked.
 fn write_plan(numbers: &Numbers, starts: &[u64], rows: &[u32]) -> Found {
     let mut bytes = [BEFORE as u8; 4096];
-    let mut parents = [BEFORE; 512];
-    let mut order = [BEFORE; 512];
-    let mut pops = [BEFORE; 512];
-    let mut fstarts = [BEFORE as u64; 1152];
-    let mut frows = [BEFORE; 512];
-    let mut work = [BEFORE as u64; 1152];
+    let mut slices = Slices::<512, 1152>::of(BEFORE);
     let a = line::lent(numbers, WRITTEN) % 4097;
     let b = line::lent(numbers, FACTOR_ROWS) % 513;
     let answer = plan_bytes::write_plan(
         line::head(numbers),
         starts,
         rows,
-        &mut parents,
-        &mut order,
-        &mut pops,
-        &mut fstarts,
-        &mut frows[..b],
-        &mut work,
+        &mut slices.parents,
+        &mut slices.order,
+        &mut slices.pops,
+        &mut slices.starts,
+        &mut slices.rows[..b],
+        &mut slices.work,
         &mut bytes[..a],
     );
     let found = compared(numbers, answer, &bytes);
     if answer.number != 0 {
         return found;
     }
-    let count = answer.count;
+    let plan = &bytes[..(answer.count % 4097) as usize];
+    let fails = usize::from(fails(numbers, starts, rows, plan));
     Found {
         answer,
-        wrong: plus(found.wrong, fails(numbers, starts, rows, &bytes, count)),
+        wrong: found.wrong.saturating_add(fails),
     }
 }
 
@@ -114,32 +102,24 @@ fn check(numbers: &Numbers) -> Found {
     };
     Found {
         answer,
-        wrong: trial_comparison::differences(answer, line::right(numbers)) as u64,
+        wrong: differences(answer, line::right(numbers)),
     }
 }
 
 fn call(numbers: &Numbers, starts: &[u64], rows: &[u32]) -> Found {
     match line::lent(numbers, ENTRY) {
-        1 => {
-            return write_key(numbers, starts, rows);
-        }
-        2 => {
-            return write_plan(numbers, starts, rows);
-        }
-        _ => {
-            return check(numbers);
-        }
+        1 => write_key(numbers, starts, rows),
+        2 => write_plan(numbers, starts, rows),
+        _ => check(numbers),
     }
 }
 
 // Holds one case.
-pub fn hold(tally: &mut Tally, numbers: &Numbers) {
+pub fn hold(tally: &mut Tally<()>, numbers: &Numbers) {
     let starts = sheet::longs(numbers, line::STARTS);
     let rows = sheet::words(numbers, line::ROWS);
     let a = line::count(numbers, line::STARTS) % 1153;
     let b = line::count(numbers, line::ROWS) % 513;
-    let found = call(numbers, &starts[..a], &rows[..b]);
-    let answer = found.answer;
-    let wrong = found.wrong as usize;
-    trial_tallies::tell(tally, answer.number, wrong, answer.place, answer.count);
+    let Found { answer, wrong } = call(numbers, &starts[..a], &rows[..b]);
+    tally.tell(answer.number, wrong, answer.place, answer.count);
 }

@@ -7,7 +7,9 @@
 ghost use Rattle.std.specs.Prelude.{◌≤◌, ◌<◌};
 
 use papers::Answer;
-use trial_tallies::Tally;
+use std::fmt;
+use std::fmt::Write;
+use trial_tallies::{Output, Tally};
 
 // The head of a case, `ttttt m lllll` and a newline: bytes of text, 1 if more input follows them, bytes that must be printed.
 pub type Head = [u8; 14];
@@ -18,6 +20,9 @@ pub type Text = [u8; 8448];
 // A slice longer than any listing needs, as it must be after a call: what is printed, then zeros.
 pub type Printed = [u8; 24600];
 
+// The numbers that a listing prints.
+const TOLD: [usize; 9] = [0, 2, 3, 5, 6, 8, 9, 25, 26];
+
 // A digit.
 fn digit(byte: u8) -> usize
     ensures { result < 10 }
@@ -27,11 +32,10 @@ fn digit(byte: u8) -> usize
 
 // The number of the five digits from a place on.
 fn five_digits(head: &Head, first: usize) -> usize {
-    let mut number = 0;
-    for i in 0..5 {
-        number = number % 10000 * 10 + digit(head[(first % 9 + i) % 14]);
-    }
-    number
+    head.iter()
+        .skip(first)
+        .take(5)
+        .fold(0, |number, byte| number % 10000 * 10 + digit(*byte))
 }
 
 fn text_length(head: &Head) -> usize
@@ -64,37 +68,24 @@ fn number_told(printed: &Printed) -> usize
     first * 10 + digit(printed[9])
 }
 
-// Tests whether an answer is not that of a listing of this many bytes, or the bytes differ.
-fn wrong(answer: Answer, printed: usize, same: bool) -> usize {
-    if answer.number != 0 {
-        return 1;
-    }
-    if answer.place != 0 {
-        return 1;
-    }
-    if answer.count != printed as u64 {
-        return 1;
-    }
-    if same {
-        return 0;
-    }
-    1
+// Tests whether an answer is that of a listing of this many bytes.
+fn listed(answer: Answer, printed: usize) -> bool {
+    answer.number == 0 && answer.place == 0 && answer.count == printed as u64
 }
 
 // Lends a slice that holds something at every place, and compares what a call makes of it. The right number names a case with anything
 // wrong.
-fn hold(tally: &mut Tally, head: &Head, text: &Text, right: &Printed) {
+fn hold(tally: &mut Tally<()>, head: &Head, text: &Text, right: &Printed) {
     let mut printed = [7u8; 24600];
-    let given = slices::part(text, text_length(head));
+    let given = &text[..text_length(head)];
     let answer = listing::listing(given, more(head), &mut printed);
-    let same = check::same(&printed, right);
-    let wrong = wrong(answer, printed_length(head), same);
+    let sound = listed(answer, printed_length(head)) && printed == *right;
     let told = number_told(&printed) as u64;
-    trial_tallies::tell(tally, told, wrong, number_told(right) as u64, 0);
+    tally.tell(told, usize::from(!sound), number_told(right) as u64, 0);
 }
 
 // Tries the next case. Answers whether there was one.
-fn hold_next(tally: &mut Tally) -> bool {
+fn hold_next(tally: &mut Tally<()>) -> bool {
     let mut head = [0u8; 14];
     if io::read_full(0, &mut head) < 14 {
         return false;
@@ -110,7 +101,7 @@ fn hold_next(tally: &mut Tally) -> bool {
 }
 
 // Tries all cases, but no more than `most`.
-fn hold_all(tally: &mut Tally, most: usize) {
+fn hold_all(tally: &mut Tally<()>, most: usize) {
     for _ in 0..most {
         if !hold_next(tally) {
             return;
@@ -118,22 +109,17 @@ fn hold_all(tally: &mut Tally, most: usize) {
     }
 }
 
+fn print(tally: &Tally<()>) -> fmt::Result {
+    let mut out = Output;
+    tally.print_mismatches(&mut out)?;
+    writeln!(out, "cases {}", tally.cases())?;
+    tally.print_numbers(&mut out, "told", &TOLD)?;
+    writeln!(out, "mismatches {}", tally.wrong())
+}
+
+// Ends in the same way if the output takes nothing.
 fn main() {
-    let mut tally = [0u64; 32];
+    let mut tally = Tally::new(());
     hold_all(&mut tally, 1000000);
-    trial_tallies::print(
-        &tally,
-        b"cases ^
-told 0: @
-told 2: B
-told 3: C
-told 5: E
-told 6: F
-told 8: H
-told 9: I
-told 25: Y
-told 26: Z
-mismatches _
-",
-    );
+    let _ = print(&tally);
 }
