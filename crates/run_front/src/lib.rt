@@ -35,12 +35,23 @@ pub fn entries_of(factor: Factor<'_>, column: u64) -> u64
     triangle::entries(rows_of(factor, column).len() as u64)
 }
 
-// The place of a row among ascending rows, known to be from lo to hi.
+// The place of a row among ascending rows, known to be from lo to hi. Each turn halves the range. By hand: with `partition_point` a run
+// over lists that hardly meet takes a quarter longer.
 fn bisect(rows: &[u32], row: u32, lo: usize, hi: usize) -> usize
     requires { Sought rows.now row lo hi }
     ensures { Bracket rows.now row result result }
 {
-    lo + rows[lo..hi].partition_point(|r| *r < row)
+    let mut low = lo;
+    let mut high = hi;
+    while low < high {
+        let middle = low + (high - low) / 2;
+        if rows[middle] < row {
+            low = middle + 1;
+        } else {
+            high = middle;
+        }
+    }
+    low
 }
 
 // The place of a row among ascending rows: the first that is not below it. All rows before `from` are below it. The search looks ever

@@ -6,7 +6,7 @@ use mathlib.Core.Path.{◌≡◌, refl, ap, ◌∙◌}
 use mathlib.Core.List.{List, [], ◌∷◌}
 use native.Mathlib.Omega.{arith}
 use lib.ListN.{length, get_or, set, length-append, length-set}
-use lib.Seq.{slice}
+use lib.Seq.{slice, length-slice}
 use Rattle.papers.specs.Lists.{largest}
 use Rattle.papers.specs.Numbers.{bytes_of, encode}
 use Rattle.papers.specs.Key.{gaps_of}
@@ -16,7 +16,7 @@ use Rattle.list_laws.proofs.Writing.{wrote-byte, Writes, writes-all, writes-part
 use Rattle.bytes_laws.proofs.Gaps.{length-gaps}
 use Rattle.bytes_laws.proofs.Numbers.{bytes-length}
 use Rattle.groups.proofs.Written.{bytes_small}
-use Rattle.write_gaps.specs.ListBetween.{ListFits}
+use Rattle.write_gaps.specs.ListBetween.{ListBetween, ListFits}
 use Rattle.write_gaps.specs.LowBytes.{low_bytes, LowsStored}
 use Rattle.write_gaps.proofs.Rows.{RowsLeft, rows_all, rows_next, gaps-next, gaps-none}
 
@@ -77,19 +77,24 @@ module _ {b : ℕ} {rows : List ℕ} {from to : ℕ} {d₀ : List ℕ} {at : ℕ
 
 -- ---- a run of rows
 
-module _ (b : ℕ) (rows : List ℕ) {d₀ : List ℕ} {at : ℕ} {d : List ℕ} {widest : ℕ} (low : LowsStored (gaps_of b rows) d₀ d at widest) where
-  -- each gap has one byte
-  pub run_short : widest < 128 → Wrote (encode (gaps_of b rows)) d₀ d at (at + length rows)
-  run_short h =
-      let same = lows-small (gaps_of b rows) (omega (arith, low.widest)) in
-      record {
-        place = omega (arith, length-gaps b rows, ap length same, length-lows (gaps_of b rows));
-        writes = rw same at low.stores;
-      }
+module _ {b : ℕ} {rows : List ℕ} {from to : ℕ} (l : ListBetween b rows from to) where
+  run_length : length (gaps_of b (slice from to rows)) ≡ to - from
+  run_length = length-gaps b (slice from to rows) ∙ length-slice from to rows l.inside
 
-  -- writes the gaps over their low bytes
-  pub run-over : {d' : List ℕ} {r : ℕ} → Wrote (encode (gaps_of b rows)) d d' at r → Wrote (encode (gaps_of b rows)) d₀ d' at r
-  run-over p =
-      let gaps = gaps_of b rows in
-      let shorter : length (low_bytes gaps) ≤ length (encode gaps) = omega (arith, length-lows gaps, encode-long gaps) in
-      record { place = p.place; writes = p.writes ∙ rw low.stores (sets_over (low_bytes gaps) (encode gaps) d₀ at shorter) }
+  module _ {d₀ : List ℕ} {at : ℕ} {d : List ℕ} {widest : ℕ} (low : LowsStored (gaps_of b (slice from to rows)) d₀ d at widest) where
+    -- each gap has one byte
+    pub run_short : widest < 128 → Wrote (encode (gaps_of b (slice from to rows))) d₀ d at (at + (to - from))
+    run_short h =
+        let same = lows-small (gaps_of b (slice from to rows)) (omega (arith, low.widest)) in
+        record {
+          place = omega (arith, run_length, ap length same, length-lows (gaps_of b (slice from to rows)));
+          writes = rw same at low.stores;
+        }
+
+    -- writes the gaps over their low bytes
+    pub run-over : {d' : List ℕ} {r : ℕ} → Wrote (encode (gaps_of b (slice from to rows))) d d' at r
+        → Wrote (encode (gaps_of b (slice from to rows))) d₀ d' at r
+    run-over p =
+        let gaps = gaps_of b (slice from to rows) in
+        let shorter : length (low_bytes gaps) ≤ length (encode gaps) = omega (arith, length-lows gaps, encode-long gaps) in
+        record { place = p.place; writes = p.writes ∙ rw low.stores (sets_over (low_bytes gaps) (encode gaps) d₀ at shorter) }

@@ -7,7 +7,7 @@ use mathlib.Core.List.{List, [], ◌∷◌}
 use native.Mathlib.Omega.{arith}
 use native.Mathlib.Numerals.{add-one}
 use lib.ListN.{length, get_or, take, length-take, drop_of_length-le}
-use lib.Seq.{slice, slice-cons, length-slice, take-length}
+use lib.Seq.{slice, slice-cons, length-slice}
 use Rattle.papers.specs.Bounds.{max_columns, max_groups}
 use Rattle.papers.specs.Lists.{◌∈◌, Asc}
 use Rattle.papers.specs.Numbers.{bytes_of, encode}
@@ -17,10 +17,6 @@ use Rattle.list_laws.proofs.Writing.{Writes, writes-all, writes-none}
 use Rattle.bytes_laws.proofs.Gaps.{length-gaps}
 use Rattle.bytes_laws.proofs.Writing.{encode-none, writes-number, writes-near}
 use Rattle.write_gaps.specs.ListBetween.{ListBetween}
-
--- the whole list as a part of itself
-pub slice_all : (l : List ℕ) → slice 0 (length l) l ≡ l
-slice_all l = take-length l
 
 -- the rows from i up to `to` are left, and `before` is the row before them
 pub record RowsLeft (rows : List ℕ) (to before i : ℕ) : Type 0 where

@@ -11,12 +11,10 @@ use lib.Seq.{slice, length-slice, length-take-le, take-add, drop-append-le, drop
 use Rattle.papers.specs.Lists.{Asc}
 use Rattle.papers.specs.Numbers.{encode}
 use Rattle.papers.specs.Key.{gaps_of}
-use Rattle.list_laws.specs.Parts.{part}
 use Rattle.list_laws.specs.Wrote.{Wrote}
-use Rattle.list_laws.proofs.Parts.{part_slice, part_length}
 use Rattle.bytes_laws.proofs.Writing.{writes-numbers}
 use Rattle.write_gaps.specs.ListBetween.{ListBetween}
-use Rattle.write_gaps.proofs.Rows.{slice_all, RowsLeft, WritesRows}
+use Rattle.write_gaps.proofs.Rows.{RowsLeft, WritesRows}
 use Rattle.write_lists.specs.Lists.{RunEnd}
 
 -- the last row of a list, or for an empty list the row before it
@@ -46,18 +44,6 @@ slice_cut rows i e to a b h =
     let t : take to rows ≡ take e rows ++ take (to - e) (drop e rows) = ap (λ (k : ℕ). take k rows) (sym n) ∙ take-add e (to - e) rows in
     let r : slice e to rows ≡ take (to - e) (drop e rows) = ap (drop e) t ∙ drop_at (take e rows) (take (to - e) (drop e rows)) e l in
     ap (drop i) t ∙ drop-append-le i (take e rows) (take (to - e) (drop e rows)) (omega arith) ∙ ap (λ (s : List ℕ). slice i e rows ++ s) (sym r)
-
--- a list of column b that is cut out of the rows
-pub part-list : {b : ℕ} {rows : List ℕ} {from to : ℕ} → ListBetween b rows from to → ListBetween b (part from to rows) 0 (length (part from to rows))
-part-list {b} {rows} {from} {to} l =
-    let whole : slice 0 (length (part from to rows)) (part from to rows) ≡ slice from to rows = slice_all (part from to rows) ∙ part_slice from to rows in
-    record {
-      rises = omega arith;
-      inside = omega arith;
-      ascending = rw whole l.ascending;
-      few = omega (arith, l.few, part_length from to rows l.rises l.inside);
-      within = λ row m. l.within row (rw whole at m);
-    }
 
 -- cuts the rows up to e off those from i on
 module _ {rows : List ℕ} {to before i : ℕ} {e : ℕ} (l : RowsLeft rows to before i) (end : RunEnd i to e) where

@@ -2,7 +2,8 @@
 // goes.
 #![tactic(auto)]
 
-ghost use Rattle.std.specs.Prelude.{◌^◌, length};
+ghost use Rattle.std.specs.Prelude.{◌^◌, ◌<◌};
+ghost use Rattle.std.proofs.Math.Seq.{slice};
 ghost use Rattle.papers.specs.Job.{column_of};
 ghost use Rattle.papers.specs.Numbers.{encode};
 ghost use Rattle.papers.specs.Key.{list_numbers, lists_numbers, lists_of};
@@ -15,16 +16,16 @@ const RUN: usize = 16;
 
 // Writes the list of column j, its count and its gaps, from `at` on, and answers the place behind it. In the loop the rows before i are
 // written up to next, and `before` is the last of them, or j. A while: the place moves by as many rows as the run has.
-fn write_list(rows: &[u32], j: u32, bytes: &mut [u8], at: usize) -> usize
-    requires { ListNear rows.now 0 (length rows.now) j at (2 ^ 61) }
-    ensures { Wrote (encode (list_numbers j rows.now)) bytes.old bytes.new at result }
+fn write_list(rows: &[u32], from: usize, to: usize, j: u32, bytes: &mut [u8], at: usize) -> usize
+    requires { ListNear rows.now from to j at (2 ^ 61) }
+    ensures { Wrote (encode (list_numbers j (slice from to rows.now))) bytes.old bytes.new at result }
 {
-    let mut next = write_number::put(bytes, at, rows.len() as u64);
+    let mut next = write_number::put(bytes, at, (to - from) as u64);
     let mut before = j;
-    let mut i = 0;
-    while i < rows.len() {
-        let end = i + RUN.min(rows.len() - i);
-        next = write_gaps::write_run(&rows[i..end], before, bytes, next);
+    let mut i = from;
+    while i < to {
+        let end = i + RUN.min(to - i);
+        next = write_gaps::write_run(rows, i, end, before, bytes, next);
         before = rows[end - 1];
         i = end;
     }
@@ -40,8 +41,14 @@ pub fn write_lists(n: u64, starts: &[u64], rows: &[u32], bytes: &mut [u8], at: u
 {
     let mut next = at;
     for done in 0..n as usize {
-        let list = &rows[starts[done] as usize..starts[done + 1] as usize];
-        next = write_list(list, done as u32 + 1, bytes, next);
+        next = write_list(
+            rows,
+            starts[done] as usize,
+            starts[done + 1] as usize,
+            done as u32 + 1,
+            bytes,
+            next,
+        );
     }
     next
 }

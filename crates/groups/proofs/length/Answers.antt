@@ -10,9 +10,6 @@ use Rattle.groups.proofs.length.Goals as goal
 pub returns-then-x-lt128 : goal.returns-then-x-lt128
 returns-then-x-lt128 c = rw (bytes_small c.args.x c.if-x-lt128.true) refl
 
-pub overflow_sub-bits : goal.overflow_sub-bits
-overflow_sub-bits c = omega (arith, count-of-zeros 64 c.args.x _ (omega (arith, c.requires)) c.requires refl)
-
 pub returns : goal.returns
 returns c =
     omega (

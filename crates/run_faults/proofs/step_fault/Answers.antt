@@ -19,20 +19,10 @@ returns-then-factor-column c = fault-high _ _ _ _ _ _ _ c.args.held _ c.if-facto
 pub returns-then-held-off : goal.returns-then-held-off
 returns-then-held-off c = fault-few _ _ _ _ _ _ _ c.args.held _ (column (goal.at.returns-then-held-off c).Else-factor-column) c.if-held-off.true
 
-pub popped_fit-requires : goal.popped_fit-requires
-popped_fit-requires c =
-    let asked = c.requires in
-    record { tested = asked.tested; kept = asked.kept; enough = c.if-held-off.false; column = column (goal.at.popped_fit-requires c).Else-factor-column }
-
 pub returns-then-not-popped_fit : goal.returns-then-not-popped_fit
 returns-then-not-popped_fit c =
     fault-outside _ _ _ _ _ _ _ c.args.held _ (column (goal.at.returns-then-not-popped_fit c).Else-factor-column) c.if-held-off.false
     c.popped_fit.ensures c.if-not-popped_fit.true
-
-pub room_in_use-requires : goal.room_in_use-requires
-room_in_use-requires c =
-    let asked = c.requires in
-    record { tested = asked.tested; kept = asked.kept; enough = c.if-held-off.false; column = column (goal.at.room_in_use-requires c).Else-factor-column }
 
 pub returns-then-room-room_in_use : goal.returns-then-room-room_in_use
 returns-then-room-room_in_use c =

@@ -1,14 +1,17 @@
--- Proves that `bisect` finds a row's place: the rows of the range that are below the row come first, and it is where they end.
+-- Proves that `bisect` finds a row's place, which is never before low nor behind high. Each turn brings the two closer.
 -- Assumes nothing.
-use Rattle.std.proofs.Common.{rules}
-use Rattle.std.proofs.Math.Dec.{ltb}
-use Rattle.std.proofs.lemmas.List.Sorted.{IsPartitionPoint-from_clause}
-use Rattle.run_front.proofs.Places.{range_parted, parted_there}
+use native.Mathlib.Omega.{arith}
+use Rattle.run_front.proofs.Places.{narrow-above, narrow_below, one_place}
 use Rattle.run_front.proofs.bisect.Goals as goal
 
+pub loop-low-init : goal.loop-low-init
+loop-low-init c = c.requires.between
+
+pub loop-low-preserved-then-rows-middle : goal.loop-low-preserved-then-rows-middle
+loop-low-preserved-then-rows-middle c = narrow-above c.requires.ascending c.loop-low.invariant (omega arith) c.if-rows-middle.true
+
+pub loop-low-preserved : goal.loop-low-preserved
+loop-low-preserved c = narrow_below c.requires.ascending c.loop-low.invariant (omega arith) (omega arith) c.if-rows-middle.false
+
 pub returns : goal.returns
-returns c =
-    let asked = c.requires in
-    let found = c.partition_point.ensures in
-    parted_there asked.ascending asked.between found.bound
-    (IsPartitionPoint-from_clause (λ r. ltb r c.args.row) _ _ found.partitioned (range_parted asked.ascending asked.between) (λ a r f k. search rules))
+returns c = one_place c.loop-low.invariant c.loop-low-test.false

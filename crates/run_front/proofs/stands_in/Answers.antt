@@ -1,20 +1,11 @@
 -- Proves that `stands_in` tests every row of an update: the first i are in the front, and the front's rows before the last one found are below the
 -- next. Each turn leaves fewer rows.
 -- Assumes nothing.
-use Rattle.run_front.proofs.Sweeps.{swept-start, swept-end, to-seek, swept-column, swept-alike, swept-missing}
+use Rattle.run_front.proofs.Sweeps.{swept-end, swept-column, swept-alike, swept-missing}
 use Rattle.run_front.proofs.stands_in.Goals as goal
-
-pub loop-i-init : goal.loop-i-init
-loop-i-init c = swept-start _ _ _
 
 pub loop-i-preserved-then-row-column : goal.loop-i-preserved-then-row-column
 loop-i-preserved-then-row-column c = swept-column c.loop-i.invariant c.loop-i-test.true c.requires.update-ascends c.if-row-column.true
-
-pub seek-place-requires : goal.seek-place-requires
-seek-place-requires c = record {
-  ascending = c.requires.front-ascends;
-  between = to-seek c.loop-i.invariant c.loop-i-test.true;
-}
 
 pub returns-then-same-eq0 : goal.returns-then-same-eq0
 returns-then-same-eq0 c =

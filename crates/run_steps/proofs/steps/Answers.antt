@@ -9,20 +9,6 @@ use Rattle.run_steps.proofs.steps.Goals as goal
 pub loop-done-init : goal.loop-done-init
 loop-done-init c = running-start _ _ _ _ _ _ _ c.requires.stack-long
 
-pub step_fault-requires : goal.step_fault-requires
-step_fault-requires c =
-    let asked = c.requires in
-    let next = c.loop-done-test.true in
-    record {
-      tested = asked.tested;
-      kept = c.loop-done.invariant.kept;
-      column-listed = omega (arith, asked.columns-long);
-      pops-listed = omega (arith, asked.pops-long);
-    }
-
-pub shape_of-stack-in-Err : goal.shape_of-stack-in-Err
-shape_of-stack-in-Err c = c.loop-done.invariant.long
-
 pub returns-in-Err : goal.returns-in-Err
 returns-in-Err c =
     (rw c.refuse.ensures) ∙ answers-fault _ _ _ _ _ _ _ c.loop-done.invariant (omega arith) c.in-Err.ensures (numbered c.in-Err.refusal)
@@ -35,15 +21,9 @@ pub loop-done-preserved : goal.loop-done-preserved
 loop-done-preserved c =
     running-next _ _ _ _ _ _ _ c.loop-done.invariant (omega arith) c.in-Ok.ensures refl (omega arith) c.take_step-held.ensures
 
-pub shape_of-stack-then-held-ne0 : goal.shape_of-stack-then-held-ne0
-shape_of-stack-then-held-ne0 c = c.loop-done.invariant.long
-
 pub returns-then-held-ne0 : goal.returns-then-held-ne0
 returns-then-held-ne0 c =
     (rw c.refuse-then-held-ne0.ensures) ∙ answers-left _ _ _ _ _ _ _ c.loop-done.invariant c.loop-done-test.false c.if-held-ne0.true
-
-pub shape_of-stack : goal.shape_of-stack
-shape_of-stack c = c.loop-done.invariant.long
 
 pub returns : goal.returns
 returns c =

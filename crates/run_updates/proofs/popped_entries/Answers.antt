@@ -6,19 +6,6 @@ use Rattle.run_updates.proofs.Stack.{held-below}
 use Rattle.run_updates.proofs.Popped.{added-start, added-end, added_next, added-within}
 use Rattle.run_updates.proofs.popped_entries.Goals as goal
 
-pub loop-place-init : goal.loop-place-init
-loop-place-init c = added-start _ _ _ _ _ _ c.requires.enough
-
-pub held_column-requires : goal.held_column-requires
-held_column-requires c = record {
-  columns = λ i l. c.requires.kept.columns i (omega arith);
-  low = omega arith;
-  listed = omega arith;
-}
-
-pub entries_of-total-requires : goal.entries_of-total-requires
-entries_of-total-requires c = record { tested = c.requires.tested; column = c.held_column.ensures.column }
-
 pub overflow_add-total : goal.overflow_add-total
 overflow_add-total c =
     let asked = c.requires in

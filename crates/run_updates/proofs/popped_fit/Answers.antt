@@ -6,19 +6,6 @@ use Rattle.run_updates.proofs.Stack.{held-below}
 use Rattle.run_updates.proofs.Popped.{looked-start, looked-end, looked-next, looked-outside}
 use Rattle.run_updates.proofs.popped_fit.Goals as goal
 
-pub loop-place-init : goal.loop-place-init
-loop-place-init c = looked-start _ _ _ _ _ _ _ c.requires.enough
-
-pub held_column-requires : goal.held_column-requires
-held_column-requires c = record {
-  columns = λ i l. c.requires.kept.columns i (omega arith);
-  low = omega arith;
-  listed = omega arith;
-}
-
-pub rows_of-update-requires : goal.rows_of-update-requires
-rows_of-update-requires c = record { tested = c.requires.tested; column = c.held_column.ensures.column }
-
 pub stands_in-requires : goal.stands_in-requires
 stands_in-requires c =
     let asked = c.requires in

@@ -14,11 +14,11 @@ pub low_bytes-widest-requires : goal.low_bytes-widest-requires
 low_bytes-widest-requires c = record { list = c.requires.list; fits = omega (arith, c.if-bytes-end.false) }
 
 pub returns-then-widest-lt128 : goal.returns-then-widest-lt128
-returns-then-widest-lt128 c = run_short _ _ c.low_bytes-widest.ensures c.if-widest-lt128.true
+returns-then-widest-lt128 c = run_short c.requires.list c.low_bytes-widest.ensures c.if-widest-lt128.true
 
 pub write_gaps-requires-2 : goal.write_gaps-requires-2
 write_gaps-requires-2 c = c.requires
 
 pub returns : goal.returns
 returns c =
-    run-over _ _ c.low_bytes-widest.ensures c.write_gaps-2.ensures
+    run-over c.requires.list c.low_bytes-widest.ensures c.write_gaps-2.ensures

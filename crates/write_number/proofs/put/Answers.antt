@@ -7,9 +7,6 @@ use Rattle.groups.proofs.Written.{bytes_small, bytes-two, written_start, inside,
 use Rattle.write_number.proofs.Copies.{both_stored}
 use Rattle.write_number.proofs.put.Goals as goal
 
-pub length-requires : goal.length-requires
-length-requires c = c.requires.fits
-
 pub overflow_add-next : goal.overflow_add-next
 overflow_add-next c = omega (arith, bytes-length c.args.x, c.length.ensures)
 
