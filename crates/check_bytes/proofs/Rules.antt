@@ -126,11 +126,11 @@ module _ {job : Job} {bytes : List ℕ} {lent : Lent} {at : ℕ} (begun : Begun 
         }
 
     -- 12 to 15
-    pub ruled-faulty : {fault : Fault} {parents order pops starts rows : List ℕ} → plan_read_from job.n bytes at ≡ bad_from_fault fault
+    pub ruled-faulty : (fault : Fault) {parents order pops starts rows : List ℕ} → plan_read_from job.n bytes at ≡ bad_from_fault fault
         → Ruled (check_of job bytes lent) parents order pops starts rows (answer_refusing (refused_without_count fault))
     unfolding plan_read
-    ruled-faulty {fault} e =
-        refuses (early-passes job bytes lent p long) (refuses-12 job bytes lent begins {fault = fault} (rw at_key at e)) (number-not-zero fault.refusal)
+    ruled-faulty fault e =
+        refuses (early-passes job bytes lent p long) (refuses-12 job bytes lent begins fault (rw at_key at e)) (number-not-zero fault.refusal)
 
     -- a plan was read to its end
     module _ {found : PlanFound} {o q s r : List ℕ} (told : PlanRead (plan_read_from job.n bytes at) found o₁ o q₁ q s₁ s r₁ r) where

@@ -60,10 +60,10 @@ module _ (job : Job) (bytes : List ℕ) (lent : Lent) where
 
   module _ (begins : other_key.test call ≡ passed) where
     -- 12 to 15
-    pub refuses-12 : {fault : Fault} → plan_read job bytes ≡ bad_from_fault fault
+    pub refuses-12 : (fault : Fault) → plan_read job bytes ≡ bad_from_fault fault
         → first check_late call ≡ refused (answer_refusing (refused_without_count fault))
     unfolding check_late
-    refuses-12 f = first_passes other_key _ call begins ∙ first-refuses bad_plan _ call (read-bad call f)
+    refuses-12 fault f = first_passes other_key _ call begins ∙ first-refuses bad_plan _ call (read-bad call f)
 
     module _ {plan : Plan} {at : ℕ} (read : plan_read job bytes ≡ got plan at) where
       -- the refusals of the plan that was read are left

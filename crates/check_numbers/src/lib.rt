@@ -2,7 +2,8 @@
 // the place behind what it compared, or the first byte, counted from 1, that differs or that the plan lacks, as refusal 11.
 #![tactic(auto)]
 
-ghost use Rattle.std.specs.Prelude.{◌≡◌, [], ◌∷◌, length};
+ghost use Rattle.std.specs.Prelude.{◌≡◌, [], ◌∷◌};
+ghost use Rattle.std.proofs.Math.Seq.{slice};
 ghost use Rattle.papers.specs.Job.{column_of};
 ghost use Rattle.papers.specs.Numbers.{bytes_of, encode};
 ghost use Rattle.papers.specs.Key.{gaps_of, list_numbers, lists_numbers, lists_of};
@@ -50,16 +51,23 @@ pub fn match_two(plan: &[u8], at: usize, x: u64, y: u64) -> Result<usize, Fault>
     match_number(plan, next, y)
 }
 
-// Compares the gaps of the rows of column j. In the loop the gaps of the rows before this one agree, up to k; `before` is the last of
-// these rows, or j.
-fn match_gaps(plan: &[u8], at: usize, rows: &[u32], j: u64) -> Result<usize, Fault>
-    requires { ListMatchAsked plan.now at rows.now 0 (length rows.now) j }
-    ensures { result ≡ match_from (encode (gaps_of j rows.now)) plan.now at }
+// Compares the gaps of the rows of column j, those at the places `from` up to `to`. In the loop the gaps before i agree, up to k; `before`
+// is the last of these rows, or j.
+fn match_gaps(
+    plan: &[u8],
+    at: usize,
+    rows: &[u32],
+    from: usize,
+    to: usize,
+    j: u64,
+) -> Result<usize, Fault>
+    requires { ListMatchAsked plan.now at rows.now from to j }
+    ensures { result ≡ match_from (encode (gaps_of j (slice from to rows.now))) plan.now at }
 {
     let mut k = at;
     let mut before = j;
-    for row in rows {
-        let row = u64::from(*row);
+    for i in from..to {
+        let row = u64::from(rows[i]);
         k = match_number(plan, k, row - before)?;
         before = row;
     }
@@ -67,12 +75,19 @@ fn match_gaps(plan: &[u8], at: usize, rows: &[u32], j: u64) -> Result<usize, Fau
 }
 
 // Compares the list of column j, its count and its gaps.
-fn match_list(plan: &[u8], at: usize, rows: &[u32], j: u64) -> Result<usize, Fault>
-    requires { ListMatchAsked plan.now at rows.now 0 (length rows.now) j }
-    ensures { result ≡ match_from (encode (list_numbers j rows.now)) plan.now at }
+fn match_list(
+    plan: &[u8],
+    at: usize,
+    rows: &[u32],
+    from: usize,
+    to: usize,
+    j: u64,
+) -> Result<usize, Fault>
+    requires { ListMatchAsked plan.now at rows.now from to j }
+    ensures { result ≡ match_from (encode (list_numbers j (slice from to rows.now))) plan.now at }
 {
-    let next = match_number(plan, at, rows.len() as u64)?;
-    match_gaps(plan, next, rows, j)
+    let next = match_number(plan, at, (to - from) as u64)?;
+    match_gaps(plan, next, rows, from, to, j)
 }
 
 // Compares the lists of the columns 1 to n. In the loop those of the columns before c agree, up to k; c counts the columns from 0.
@@ -88,8 +103,14 @@ pub fn match_lists(
 {
     let mut k = at;
     for c in 0..n as usize {
-        let list = &rows[starts[c] as usize..starts[c + 1] as usize];
-        k = match_list(plan, k, list, c as u64 + 1)?;
+        k = match_list(
+            plan,
+            k,
+            rows,
+            starts[c] as usize,
+            starts[c + 1] as usize,
+            c as u64 + 1,
+        )?;
     }
     Ok(k)
 }
