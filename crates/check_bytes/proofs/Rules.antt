@@ -12,7 +12,7 @@ use Rattle.papers.specs.Lists.{up_to, flat, zeros}
 use Rattle.papers.specs.Refusals.{answer, passed, first}
 use Rattle.papers.specs.Job.{Job, pattern}
 use Rattle.papers.specs.Tree.{parent}
-use Rattle.papers.specs.Numbers.{Read, got, bad, Bytes}
+use Rattle.papers.specs.Numbers.{got, Bytes}
 use Rattle.papers.specs.Key.{key_of}
 use Rattle.papers.specs.Plan.{Plan, plan_read_from, plan_read, Fit}
 use Rattle.papers.specs.Analysis.{Lent, all_zero, holding_plan, LongEnough, fixed_lengths}
@@ -32,8 +32,8 @@ use Rattle.refusals.specs.declared.Fault.{Fault}
 use Rattle.refusals.specs.Answers.{answer_refusing, refused_without_count}
 use Rattle.refusals.proofs.Numbered.{number-not-zero}
 use Rattle.read_fields.specs.Reading.{bad_from_fault}
-use Rattle.read_plan.specs.Plans.{PlanAsked, PlanKept, PlanRead}
-use Rattle.check_judge.specs.Judged.{plan_from, PlanAtStart, HoldPlan, PlanGiven, ruling, Judged}
+use Rattle.read_plan.specs.Plans.{PlanAsked, PlanRead}
+use Rattle.check_judge.specs.Judged.{plan_from, PlanAtStart, PlanGiven, ruling, Judged}
 use Rattle.check_judge.proofs.Rulings.{Told, refusal, clean, told, number_of}
 use Rattle.check_bytes.specs.Ruled.{check_of, Checkable, Ruled, refuses, passes}
 use Rattle.check_bytes.proofs.Ways.{early-passes, refuses-11, passes-11, refuses-12, refuses-8, from-16}

@@ -1,7 +1,7 @@
 -- Proves the outcome of a check for each way through its tests: each test refuses, or leaves the answer to the next one.
 -- Assumes nothing.
 use Prim.Native.Nat.{ℕ, ◌<◌, ◌≤◌}
-use mathlib.Core.Path.{◌≡◌, refl, sym, ap, ◌∙◌}
+use mathlib.Core.Path.{◌≡◌, refl, sym, ◌∙◌}
 use mathlib.Core.Logic.{◌≢◌}
 use mathlib.Core.List.{List}
 use native.Mathlib.Omega.{arith}
@@ -10,7 +10,7 @@ use Rattle.papers.specs.declared.Answer.{Answer}
 use Rattle.papers.specs.Lists.{flat, zeros}
 use Rattle.papers.specs.Refusals.{answer, passed, refused, first, EndsAs}
 use Rattle.papers.specs.Job.{Job}
-use Rattle.papers.specs.Numbers.{got, bad}
+use Rattle.papers.specs.Numbers.{got}
 use Rattle.papers.specs.Key.{key_of}
 use Rattle.papers.specs.Plan.{Plan, plan_read}
 use Rattle.papers.specs.Analysis.{Lent, all_zero, fixed_lengths, LongEnough, early_refusals, early_of}

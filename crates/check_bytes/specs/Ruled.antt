@@ -1,12 +1,10 @@
 -- Defines what is known of a check after its tests, before the slices are cleared.
 -- Assumes nothing.
-use Rattle.std.specs.Prelude.{ℕ, ◌<◌, ◌≤◌, ◌≡◌, ◌≢◌, List, map, length}
-use Rattle.std.proofs.lemmas.List.Edits.{sets}
+use Rattle.std.specs.Prelude.{ℕ, ◌≡◌, ◌≢◌, List}
 use Rattle.papers.specs.declared.Answer.{Answer}
-use Rattle.papers.specs.Lists.{up_to, zeros}
-use Rattle.papers.specs.Refusals.{answer, passed, refused, first, Outcome}
-use Rattle.papers.specs.Job.{Job, pattern}
-use Rattle.papers.specs.Tree.{parent}
+use Rattle.papers.specs.Lists.{zeros}
+use Rattle.papers.specs.Refusals.{passed, refused, first, Outcome}
+use Rattle.papers.specs.Job.{Job}
 use Rattle.papers.specs.Analysis.{Lent, LongEnough, fixed_lengths}
 use Rattle.papers.specs.Check.{CheckCall, check_done, check_early, check_late}
 use Rattle.job_laws.specs.Passed.{Passed}

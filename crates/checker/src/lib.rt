@@ -30,11 +30,7 @@ pub fn check_plan(
         (six_slices parents.old order.old pops.old fstarts.old frows.old
         work.old)) }
 {
-    let job = Job {
-        head,
-        starts,
-        rows,
-    };
+    let job = Job { head, starts, rows };
     if let Err(refused) = lent_tests::early_fault(
         job,
         parents.len(),

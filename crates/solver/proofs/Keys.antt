@@ -20,19 +20,20 @@ use Rattle.list_laws.proofs.Stores.{length-starts, stored-at-start}
 use Rattle.bytes_laws.proofs.Fields.{got-inj, got-bad}
 use Rattle.bytes_laws.proofs.Reaches.{lists-reach}
 use Rattle.call_laws.proofs.Called.{call_fits}
-use Rattle.read_fields.specs.Reading.{Told, finds, meets-fault}
-use Rattle.read_fields.specs.declared.Reading.{Reading}
+use Rattle.std.proofs.Common.{Result, Ok, Err}
+use Rattle.refusals.specs.declared.Fault.{Fault}
+use Rattle.read_fields.specs.Reading.{Told}
 use Rattle.read_plan.specs.Plans.{ListsKept}
 use Rattle.read_key.specs.Keys.{KeyParts}
 
 -- a part that fits is kept
-kept_there : {A : Type 0} {f : A → ℕ} {Kept : A → Type 0} {found : Read A} {r : Reading} {a : A} {next : ℕ} → Told f Kept found r → found ≡ got a next
-    → Kept a
-kept_there {Kept = Kept} (finds b m e g k) h = subst Kept (got-inj (sym e ∙ h)).0 k
-kept_there (meets-fault number place e g) h = absurd (got-bad h e)
+kept_there : {A : Type 0} (f : A → ℕ) (Kept : A → Type 0) {found : Read A} (r : Result (ℕ × ℕ) Fault) {a : A} {next : ℕ} → Told f Kept found r
+    → found ≡ got a next → Kept a
+kept_there f Kept (Ok answered) t h = subst Kept (got-inj (sym t.read ∙ h)).0 t.kept
+kept_there f Kept (Err fault) t h = absurd (got-bad h t)
 
 module _ {key : List ℕ} {head : JobHead} {count at : ℕ} (parts : KeyParts key head count at) (few : head.n ≤ program_columns)
-    (short : count ≤ program_rows) {starts rows : List ℕ} {r : Reading}
+    (short : count ≤ program_rows) (starts rows : List ℕ) (r : Result (ℕ × ℕ) Fault)
     (told : Told (λ lists. length (flat lists)) (ListsKept (replicate (program_columns + 1) 0) starts (replicate program_rows 0) rows)
     (lists_read_from head.n 1 head.n key at) r) where
   starts-stored : take (head.n + 1) starts ≡ starts_counted_from 0 parts.lists
@@ -40,13 +41,13 @@ module _ {key : List ℕ} {head : JobHead} {count at : ℕ} (parts : KeyParts ke
       let c = (lists-reach head.n key 1 head.n at parts.lists parts.end parts.stand).0 in
       let l = length-starts 0 parts.lists in
       let q : head.n + 1 ≡ length (starts_counted_from 0 parts.lists) = omega arith in
-      rw ((kept_there told parts.stand).begins, q) (stored-at-start (replicate (program_columns + 1) 0) (starts_counted_from 0 parts.lists)
+      rw ((kept_there _ _ _ told parts.stand).begins, q) (stored-at-start (replicate (program_columns + 1) 0) (starts_counted_from 0 parts.lists)
       (rw length-replicate (omega arith)))
 
   rows-stored : take count rows ≡ flat parts.lists
   rows-stored =
       let c = parts.counted in
-      rw ((kept_there told parts.stand).listed, c) (stored-at-start (replicate program_rows 0) (flat parts.lists)
+      rw ((kept_there _ _ _ told parts.stand).listed, c) (stored-at-start (replicate program_rows 0) (flat parts.lists)
       (rw length-replicate (omega arith)))
 
   -- the check's answer is the call's

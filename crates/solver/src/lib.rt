@@ -45,7 +45,7 @@ fn check_for_key(key: &[u8], found: KeyFound, plan: &[u8]) -> Answer
     let n = found.head.n as usize;
     let mut starts = [0u64; program_sizes::STARTS];
     let mut rows = [0u32; program_sizes::PATTERN_ROWS];
-    read_plan::read_lists(key, found.lists, found.head.n, &mut starts, &mut rows);
+    let _ = read_plan::read_lists(key, found.lists, found.head.n, &mut starts, &mut rows);
     check_in_buffers(
         found.head,
         &starts[..n + 1],

@@ -1,7 +1,7 @@
 -- Proves that `judge_bytes` answers right: 11 if the plan's bytes do not begin with the key; else the bytes behind the key are read into the cleared
 -- slices and judged. Each way out is one way through the papers' tests (`Rules`).
 -- Assumes nothing.
-use Rattle.std.proofs.Common.{refl, sym, ◌∙◌, arith}
+use Rattle.std.proofs.Common.{refl, sym, arith}
 use Rattle.papers.specs.Job.{Job}
 use Rattle.papers.specs.Analysis.{Lent}
 use Rattle.job.specs.Given.{job_given}
@@ -36,15 +36,32 @@ returns-in_err-next c =
 pub read_plan-requires : goal.read_plan-requires
 read_plan-requires c = plan-asked (begun (goal.at.read_plan-requires c).In_ok-next) c.clear_all.ensures
 
--- the bytes are at fault
+-- the bytes behind the key are at fault
 pub returns-in_err-found : goal.returns-in_err-found
-returns-in_err-found c = ?
+returns-in_err-found c =
+    rw (handed-on c.from_residual-in_err-found.result c.from_residual-in_err-found.ensures.1)
+    (ruled-faulty (begun (goal.at.returns-in_err-found c).In_ok-next) c.clear_all.ensures _ c.in_err-found.ensures)
 
+-- its rows do not fit
 pub returns-then-frows-found : goal.returns-then-frows-found
-returns-then-frows-found c = ?
+returns-then-frows-found c =
+    rw c.refuse.ensures (ruled-rows (begun (goal.at.returns-then-frows-found c).In_ok-next) c.clear_all.ensures c.in_ok-found.ensures
+    c.if-frows-found.true)
 
+-- what was read can be judged in its slices
 pub judge-requires : goal.judge-requires
-judge-requires c = ?
+judge-requires c =
+    judgeable (begun (goal.at.judge-requires c).In_ok-next) c.clear_all.ensures c.in_ok-found.ensures c.if-frows-found.false (record {
+      parents = refl;
+      order = omega arith;
+      pops = omega arith;
+      starts = omega arith;
+      rows = omega arith;
+      work = refl;
+    })
 
+-- the judgement decides
 pub returns : goal.returns
-returns c = ?
+returns c =
+    ruled-judged (begun (goal.at.returns c).In_ok-next) c.clear_all.ensures c.in_ok-found.ensures c.if-frows-found.false
+    c.judge.ensures.answers c.judge.ensures.stores

@@ -18,4 +18,4 @@ slice_bounds-check_in_buffers-end-2 c =
 pub returns : goal.returns
 returns c =
     let within = c.requires in
-    key-answer within.parts within.columns-fit within.rows_fit c.read_lists.ensures _ c.check_in_buffers.ensures
+    key-answer within.parts within.columns-fit within.rows_fit _ _ _ c.read_lists.ensures _ c.check_in_buffers.ensures
