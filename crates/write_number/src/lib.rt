@@ -7,7 +7,7 @@ ghost use Rattle.papers.specs.Numbers.{bytes_of};
 ghost use Rattle.list_laws.specs.Wrote.{Wrote};
 ghost use Rattle.write_number.specs.NumberAt.{NumberAt};
 
-// Stores a byte if the slice has the place. A test and an index: what a slice holds after a write through its `get_mut` is not known.
+// Stores a byte if the slice has the place.
 fn put_byte(dst: &mut [u8], at: usize, b: u8)
     ensures { dst.new ≡ set dst.old at b }
 {
@@ -17,8 +17,7 @@ fn put_byte(dst: &mut [u8], at: usize, b: u8)
 }
 
 // Writes the bytes of x from `at` on, those for which there is a place, and answers the place behind them all, known from the leading zeros
-// of x. Most numbers have one byte or two, which are stored at once. Of more, in the loop the groups before `place` are written, and v is
-// what is left of x. A while: what is left of x ends it.
+// of x. Most numbers have one byte or two, which are stored at once; of more, in the loop the first i of the little array are written.
 pub fn put(dst: &mut [u8], at: usize, x: u64) -> usize
     requires { NumberAt at x }
     ensures { Wrote (bytes_of x) dst.old dst.new at result }
@@ -33,13 +32,13 @@ pub fn put(dst: &mut [u8], at: usize, x: u64) -> usize
         put_byte(dst, at + 1, (x / 128) as u8);
         return next;
     }
-    let mut v = x;
-    let mut place = at;
-    while 128 <= v {
-        put_byte(dst, place, (v % 128 + 128) as u8);
-        v /= 128;
-        place += 1;
+    let groups = groups::number(x);
+    let bytes = groups.bytes;
+    let count = groups.count;
+    let mut i = 0;
+    while i < count {
+        put_byte(dst, at + i, bytes[i]);
+        i += 1;
     }
-    put_byte(dst, place, v as u8);
     next
 }
