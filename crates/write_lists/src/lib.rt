@@ -14,8 +14,7 @@ ghost use Rattle.write_lists.specs.Lists.{RunEnd, ListsNear};
 // How many rows of a list are written in one go.
 const RUN: usize = 16;
 
-// The end of the run that begins at place i of a list that ends at `to`. A test, not min: so the compiler makes a loop of its own for a whole
-// run, and writing keys takes a third less time.
+// The end of the run that begins at place i of a list that ends at `to`.
 fn run_end(i: usize, to: usize) -> usize
     requires { i < to }
     ensures { RunEnd i to result }

@@ -1,5 +1,5 @@
 -- Proves that `put` stores the bytes of x. Below 128 times 128 it stores one byte or two; else the loop stores those of the little array, and the
--- first i are stored. Each turn leaves one byte less.
+-- first i are stored.
 -- Assumes nothing.
 use Prim.Native.Nat.{◌+◌, ◌/◌, ◌%◌, ◌<◌}
 use native.Mathlib.Omega.{arith}
