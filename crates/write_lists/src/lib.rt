@@ -9,10 +9,21 @@ ghost use Rattle.papers.specs.Numbers.{encode};
 ghost use Rattle.papers.specs.Key.{list_numbers, lists_numbers, lists_of};
 ghost use Rattle.list_laws.specs.Wrote.{Wrote};
 ghost use Rattle.write_gaps.specs.ListBetween.{ListNear};
-ghost use Rattle.write_lists.specs.Lists.{ListsNear};
+ghost use Rattle.write_lists.specs.Lists.{RunEnd, ListsNear};
 
 // How many rows of a list are written in one go.
 const RUN: usize = 16;
+
+// The end of the run that begins at place i of a list that ends at `to`.
+fn run_end(i: usize, to: usize) -> usize
+    requires { i < to }
+    ensures { RunEnd i to result }
+{
+    if to - i < RUN {
+        return to;
+    }
+    i + RUN
+}
 
 // Writes the list of column j, its count and its gaps, from `at` on, and answers the place behind it. In the loop the rows before i are
 // written up to next, and `before` is the last of them, or j. A while: the place moves by as many rows as the run has.
@@ -24,7 +35,7 @@ fn write_list(rows: &[u32], from: usize, to: usize, j: u32, bytes: &mut [u8], at
     let mut before = j;
     let mut i = from;
     while i < to {
-        let end = i + RUN.min(to - i);
+        let end = run_end(i, to);
         next = write_gaps::write_run(rows, i, end, before, bytes, next);
         before = rows[end - 1];
         i = end;

@@ -3,7 +3,7 @@
 use native.Mathlib.Omega.{arith}
 use Rattle.run_updates.proofs.Entries.{popped-small}
 use Rattle.run_updates.proofs.Stack.{held-below}
-use Rattle.run_updates.proofs.Popped.{added-start, added-end, added_next, added-within}
+use Rattle.run_updates.proofs.Popped.{added-end, added_next, added-within}
 use Rattle.run_updates.proofs.popped_entries.Goals as goal
 
 pub overflow_add-total : goal.overflow_add-total

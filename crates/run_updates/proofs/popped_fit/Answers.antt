@@ -1,9 +1,8 @@
 -- Proves that `popped_fit` tests all popped updates: those from `place` on are in the front, so the others decide.
 -- Assumes nothing.
-use native.Mathlib.Omega.{arith}
 use Rattle.run_front.proofs.Columns.{column-ascends}
 use Rattle.run_updates.proofs.Stack.{held-below}
-use Rattle.run_updates.proofs.Popped.{looked-start, looked-end, looked-next, looked-outside}
+use Rattle.run_updates.proofs.Popped.{looked-end, looked-next, looked-outside}
 use Rattle.run_updates.proofs.popped_fit.Goals as goal
 
 pub stands_in-requires : goal.stands_in-requires

@@ -1,16 +1,14 @@
 -- Proves that `write_list` stores a list, since storing the gaps from i on at next leaves what storing all of them behind the count leaves. A turn
 -- writes a run of rows, so fewer rows are left.
 -- Assumes nothing.
-use Prim.Native.Nat.{◌+◌, ◌-◌}
+use Prim.Native.Nat.{◌-◌}
 use mathlib.Core.Path.{refl}
 use native.Mathlib.Omega.{arith}
 use Rattle.bytes_laws.proofs.Numbers.{bytes-length}
 use Rattle.write_gaps.proofs.Rows.{gaps-start, place-near}
-use Rattle.write_lists.specs.Lists.{RunEnd}
 use Rattle.write_lists.proofs.Counted.{list-stop}
 use Rattle.write_lists.proofs.Runs.{run-list, run-turn}
 use Rattle.write_lists.proofs.write_list.Goals as goal
-use Rattle.write_lists.proofs.write_list.Goals.{After-min}
 
 pub put-next-requires : goal.put-next-requires
 put-next-requires c =
@@ -19,15 +17,11 @@ put-next-requires c =
 pub loop-i-init : goal.loop-i-init
 loop-i-init c = gaps-start c.requires.list
 
--- the run ends behind its first row, and not behind the list
-run_end : (c : After-min) → RunEnd c.loop-i.i c.args.to (c.loop-i.i + c.min.result)
-run_end c = record { past = omega arith; within = omega arith }
-
 pub write_run-next-requires : goal.write_run-next-requires
 write_run-next-requires c =
     let loop = c.loop-i in
     record {
-      list = run-list loop.invariant.rows_left (run_end (goal.at.write_run-next-requires c).After-min);
+      list = run-list loop.invariant.rows_left c.run_end-end.ensures;
       near = omega (
         arith,
         place-near loop.invariant c.requires.list,
@@ -39,7 +33,7 @@ write_run-next-requires c =
 
 pub loop-i-preserved : goal.loop-i-preserved
 loop-i-preserved c =
-    run-turn c.loop-i.invariant (run_end (goal.at.loop-i-preserved c).After-min) refl c.write_run-next.ensures
+    run-turn c.loop-i.invariant c.run_end-end.ensures refl c.write_run-next.ensures
 
 pub returns : goal.returns
 returns c = list-stop c.requires.list c.put-next.ensures c.loop-i.invariant c.loop-i-test.false

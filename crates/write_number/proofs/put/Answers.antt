@@ -1,11 +1,19 @@
--- Proves that `put` stores the bytes of x. Below 128 times 128 it stores one byte or two; else the loop stores group by group, and the groups left,
--- stored from the next place on, complete them. Each turn makes the rest smaller.
+-- Proves that `put` stores the bytes of x. Below 128 times 128 it stores one byte or two; else the loop stores those of the little array, and the
+-- first i are stored.
 -- Assumes nothing.
-use Rattle.std.proofs.Common.{◌+◌, ◌/◌, ◌%◌, ◌∙◌, arith}
+use Prim.Native.Nat.{◌+◌, ◌/◌, ◌%◌, ◌<◌}
+use native.Mathlib.Omega.{arith}
+use lib.ListN.{length}
+use Rattle.papers.specs.Bounds.{max_groups}
+use Rattle.papers.specs.Numbers.{bytes_of}
+use Rattle.list_laws.proofs.Writing.{copied_none, copied_all}
 use Rattle.bytes_laws.proofs.Numbers.{bytes-length}
-use Rattle.groups.proofs.Written.{bytes_small, bytes-two, written_start, inside, turn, stop}
-use Rattle.write_number.proofs.Copies.{both_stored}
+use Rattle.groups.proofs.Written.{bytes_small, bytes-two}
+use Rattle.write_number.proofs.Copies.{both_stored, copied_next}
 use Rattle.write_number.proofs.put.Goals as goal
+
+pub length-requires : goal.length-requires
+length-requires c = c.requires.fits
 
 pub overflow_add-next : goal.overflow_add-next
 overflow_add-next c = omega (arith, bytes-length c.args.x, c.length.ensures)
@@ -28,14 +36,32 @@ returns-then-x-lt16384 c =
           (c.args.x / 128) low high);
     }
 
-pub loop-v-init : goal.loop-v-init
-loop-v-init c = written_start _ _ _ c.requires.fits
+pub number-groups-requires : goal.number-groups-requires
+number-groups-requires c = c.requires.fits
 
-pub overflow_add-place : goal.overflow_add-place
-overflow_add-place c = omega (arith, bytes-length c.args.x, inside c.loop-v.invariant)
+pub loop-i-init : goal.loop-i-init
+loop-i-init c = copied_none _ _ _
 
-pub loop-v-preserved : goal.loop-v-preserved
-loop-v-preserved c = rw c.put_byte-in-loop-v.ensures (turn c.loop-v.invariant c.loop-v-test.true)
+pub overflow_add-at-in-loop-i : goal.overflow_add-at-in-loop-i
+overflow_add-at-in-loop-i c = omega (arith, bytes-length c.args.x)
+
+pub bounds-bytes-i : goal.bounds-bytes-i
+bounds-bytes-i c = omega (arith, bytes-length c.args.x)
+
+pub loop-i-preserved : goal.loop-i-preserved
+loop-i-preserved c =
+    let x = c.args.x in
+    let loop = c.loop-i in
+    let array = c.number-groups.ensures in
+    let there : loop.i < length (bytes_of x) = omega (arith, c.loop-i-test.true) in
+    copied_next (bytes_of x) max_groups loop.i array.stored (bytes-length x).1 there loop.invariant c.put_byte-in-loop-i.ensures
+
+pub shape_of-dst : goal.shape_of-dst
+shape_of-dst c = c.loop-i.invariant.written.long
 
 pub returns : goal.returns
-returns c = record { place = omega (arith, c.length.ensures); writes = c.put_byte-2.ensures ∙ (stop c.loop-v.invariant c.loop-v-test.false).0 }
+returns c =
+    record {
+      place = omega (arith, c.length.ensures);
+      writes = (copied_all c.loop-i.invariant (omega arith)).writes;
+    }

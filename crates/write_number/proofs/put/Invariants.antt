@@ -1,11 +1,9 @@
--- Proves that `put` stores the bytes of x. Below 128 times 128 it stores one byte or two; else the loop stores group by group, and the groups left,
--- stored from the next place on, complete them. Each turn makes the rest smaller.
+-- Proves that `put` stores the bytes of x. Below 128 times 128 it stores one byte or two; else the loop stores those of the little array, and the
+-- first i are stored.
 -- Assumes nothing.
-use Rattle.groups.proofs.Written.{Left}
+use Rattle.papers.specs.Numbers.{bytes_of}
+use Rattle.list_laws.proofs.Writing.{Copied}
 use Rattle.write_number.proofs.put.Given as goal
 
-abbrev pub invariant-loop-v : goal.invariant-loop-v
-invariant-loop-v l = Left l.initial.dst l.at l.x l.dst l.v l.place
-
-abbrev pub decreases-loop-v : goal.decreases-loop-v
-decreases-loop-v l = l.v
+abbrev pub invariant-loop-i : goal.invariant-loop-i
+invariant-loop-i l = Copied (bytes_of l.x) l.initial.dst l.at l.dst l.i
