@@ -23,7 +23,8 @@ pub fn step_fault(
     done: u64,
 ) -> Result<(), Refusal>
     requires { StepGiven factor.n factor.starts.now factor.rows.now columns.now pops.now stack.now held done }
-    ensures { fault_from result ≡ fault_of_step (run_of factor.entry.n factor.entry.starts.now factor.entry.rows.now columns.now pops.now room []) (suc done)
+    ensures { fault_from result ≡ fault_of_step (run_of factor.entry.n factor.entry.starts.now
+        factor.entry.rows.now columns.now pops.now room []) (suc done)
         (state_of held stack.now) }
 {
     let column = columns[done as usize] as u64;

@@ -86,7 +86,8 @@ fn alike(a: &[u32], b: &[u32]) -> usize
 }
 
 // Tests whether each row of an update is the column itself or one of its rows. Both lists ascend, so each row is searched behind the last
-// one found. Mostly the next rows follow in both lists: these are passed without a search. A while: the place moves by as many rows as agree.
+// one found. Mostly the next rows follow in both lists: these are passed without a search. A while: the place moves by as many rows as
+// agree.
 pub fn stands_in(column: u64, rows: &[u32], update: &[u32]) -> bool
     requires { BothAscend rows.now update.now }
     ensures { result ≡ every (λ i. member i (column ∷ rows.now)) update.now }

@@ -11,7 +11,8 @@ use run_front::Factor;
 use run_held::Held;
 
 // Runs all steps. Refuses by the first fault, 14, 21, 22 or 23; else by 24 if updates are left. The count, also of a refusal, is the
-// greatest room in use of the completed steps. In the loop the stack list holds the columns of the updates held after `done` steps, bottom first.
+// greatest room in use of the completed steps. In the loop the stack list holds the columns of the updates held after `done` steps,
+// bottom first.
 pub fn steps(
     n: u64,
     starts: &[u64],

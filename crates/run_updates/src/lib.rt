@@ -24,7 +24,8 @@ fn held_column(n: u64, stack: &[u32], place: u64) -> u64
 // places from `place` on pass.
 pub fn popped_fit(factor: Factor<'_>, stack: &[u32], held: Held, pops: u64, column: u64) -> bool
     requires { FrontOver factor.n factor.starts.now factor.rows.now stack.now held pops column }
-    ensures { result ≡ fits (factor_of factor.entry.n factor.entry.starts.now factor.entry.rows.now) column (take pops (held_in_order held.count stack.now)) }
+    ensures { result ≡ fits (factor_of factor.entry.n factor.entry.starts.now factor.entry.rows.now) column
+        (take pops (held_in_order held.count stack.now)) }
 {
     let front = run_front::rows_of(factor, column);
     let count = held.count;
@@ -40,7 +41,8 @@ pub fn popped_fit(factor: Factor<'_>, stack: &[u32], held: Held, pops: u64, colu
 // Sums the entries of the popped updates, from the top down. In the loop those at the places from `place` on are added.
 pub fn popped_entries(factor: Factor<'_>, stack: &[u32], held: Held, pops: u64) -> u64
     requires { PopsHeld factor.n factor.starts.now factor.rows.now stack.now held pops }
-    ensures { result ≡ sum (entries (factor_of factor.entry.n factor.entry.starts.now factor.entry.rows.now) (take pops (held_in_order held.count stack.now))) }
+    ensures { result ≡ sum (entries (factor_of factor.entry.n factor.entry.starts.now factor.entry.rows.now)
+        (take pops (held_in_order held.count stack.now))) }
 {
     let count = held.count;
     let mut total = 0;

@@ -1,5 +1,6 @@
 // Writes the gaps of a run of rows into a lent slice, as far as the slice goes: all low bytes at once if each gap has one byte, else one by
-// one. A run is all rows and two places in them: as a slice of its own it takes a third longer to write.
+// one. A run is all rows and two places in them: with a slice for each run, whose end `min` found, keys took two fifths
+// longer.
 #![tactic(auto)]
 
 ghost use Rattle.std.specs.Prelude.{◌^◌};

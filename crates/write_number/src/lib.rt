@@ -18,7 +18,7 @@ fn put_byte(dst: &mut [u8], at: usize, b: u8)
 
 // Writes the bytes of x from `at` on, those for which there is a place, and answers the place behind them all, known from the leading zeros
 // of x. Most numbers have one byte or two, which are stored at once; of more, in the loop the first i of the little array are written.
-// Stored without that array, they make the writing of all lists half as long again.
+// Without that array the writing of all lists took three fifths longer.
 pub fn put(dst: &mut [u8], at: usize, x: u64) -> usize
     requires { NumberAt at x }
     ensures { Wrote (bytes_of x) dst.old dst.new at result }

@@ -7,4 +7,5 @@ use Rattle.run_updates.proofs.Popped.{Looked}
 use Rattle.run_updates.proofs.popped_fit.Given as goal
 
 abbrev pub invariant-loop-place : goal.invariant-loop-place
-invariant-loop-place l = Looked l.factor.n l.factor.starts.now l.factor.rows.now l.stack l.column (take l.pops (held_in_order l.count l.stack)) (l.count - l.pops) l.count l.place
+invariant-loop-place l = Looked l.factor.n l.factor.starts.now l.factor.rows.now l.stack l.column
+    (take l.pops (held_in_order l.count l.stack)) (l.count - l.pops) l.count l.place
