@@ -67,17 +67,6 @@ fn hold_line(tally: &mut Tally, numbers: &Numbers, line: usize) {
     bench::hold(tally, numbers);
 }
 
-// Tries the jobs and pieces of all lines, but no more than `most`.
-fn hold_lines(tally: &mut Tally, most: usize) {
-    let mut numbers = [0u64; 4096];
-    for k in 0..most {
-        if !line::next(&mut numbers) {
-            return;
-        }
-        hold_line(tally, &numbers, k);
-    }
-}
-
 fn print(tally: &Tally) -> fmt::Result {
     let mut out = Output;
     tally.print_mismatches(&mut out)?;
@@ -96,7 +85,7 @@ fn print(tally: &Tally) -> fmt::Result {
 // Ends in the same way if the output takes nothing.
 fn main() {
     let mut tally = Tally::new(Notes::new());
-    hold_lines(&mut tally, 1000);
+    line::each(1000, |numbers, k| hold_line(&mut tally, numbers, k));
     hold_drawn(&mut tally, 800);
     let _ = print(&tally);
 }

@@ -7,38 +7,17 @@
 
 mod call; // call.rt: one call, compared
 
-use std::fmt;
-use std::fmt::Write;
 use trial_lines::line;
-use trial_tallies::{Output, Tally};
+use trial_tallies::Tally;
 
 // The numbers that the calls answer.
 const ANSWERED: [usize; 22] = [
     0, 1, 2, 3, 4, 5, 6, 8, 9, 10, 11, 12, 13, 14, 15, 16, 17, 18, 19, 20, 26, 27,
 ];
 
-// Holds the cases of all lines, but not of more than `most`.
-fn hold_all(tally: &mut Tally<()>, most: usize) {
-    let mut numbers = [0u64; 4096];
-    for _ in 0..most {
-        if !line::next(&mut numbers) {
-            return;
-        }
-        call::hold(tally, &numbers);
-    }
-}
-
-fn print(tally: &Tally<()>) -> fmt::Result {
-    let mut out = Output;
-    tally.print_mismatches(&mut out)?;
-    writeln!(out, "cases {}", tally.cases())?;
-    tally.print_numbers(&mut out, "answered", &ANSWERED)?;
-    writeln!(out, "mismatches {}", tally.wrong())
-}
-
 // Ends in the same way if the output takes nothing.
 fn main() {
     let mut tally = Tally::new(());
-    hold_all(&mut tally, 1000000);
-    let _ = print(&tally);
+    line::each(1000000, |numbers, _k| call::hold(&mut tally, numbers));
+    let _ = tally.print("answered", &ANSWERED);
 }

@@ -112,7 +112,7 @@ fn decode(text: &[u8], numbers: &mut Numbers) {
 
 // Reads the next line of the input into numbers. Answers whether there was one. By the crate io, as the output is written: std's reader
 // would also assume the C library's number and text of an error.
-pub fn next(numbers: &mut Numbers) -> bool {
+fn next(numbers: &mut Numbers) -> bool {
     let mut head = [0u8; 6];
     if io::read_full(0, &mut head) < 6 {
         return false;
@@ -123,4 +123,17 @@ pub fn next(numbers: &mut Numbers) -> bool {
     io::read_full(0, text);
     decode(text, numbers);
     true
+}
+
+// Hands the numbers of each line to a trial, with how many lines came before it, but of no more than `most` lines.
+pub fn each<F: FnMut(&Numbers, usize)>(most: usize, mut hold: F)
+    requires { F.IsAlwaysCallable hold }
+{
+    let mut numbers = [0u64; 4096];
+    for k in 0..most {
+        if !next(&mut numbers) {
+            return;
+        }
+        hold(&numbers, k);
+    }
 }

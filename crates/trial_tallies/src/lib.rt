@@ -113,8 +113,17 @@ impl<N> Tally<N> {
         Ok(())
     }
 
+    // Prints all that is counted: the mismatches, how many cases there are, how many of these numbers, and how many mismatches.
+    pub fn print(&self, word: &str, numbers: &[usize]) -> fmt::Result {
+        let mut out = Output;
+        self.print_mismatches(&mut out)?;
+        writeln!(out, "cases {}", self.cases)?;
+        self.print_numbers(&mut out, word, numbers)?;
+        writeln!(out, "mismatches {}", self.wrong)
+    }
+
     // Prints how many cases have each of these numbers and nothing wrong, each in a line of its own that begins with a word.
-    pub fn print_numbers(&self, out: &mut Output, word: &str, numbers: &[usize]) -> fmt::Result {
+    fn print_numbers(&self, out: &mut Output, word: &str, numbers: &[usize]) -> fmt::Result {
         for number in numbers {
             writeln!(out, "{word} {number}: {}", self.right(*number))?;
         }

@@ -7,9 +7,7 @@
 ghost use Rattle.std.specs.Prelude.{◌≤◌, ◌<◌};
 
 use papers::Answer;
-use std::fmt;
-use std::fmt::Write;
-use trial_tallies::{Output, Tally};
+use trial_tallies::Tally;
 
 // The head of a case, `ttttt m lllll` and a newline: bytes of text, 1 if more input follows them, bytes that must be printed.
 pub type Head = [u8; 14];
@@ -109,17 +107,9 @@ fn hold_all(tally: &mut Tally<()>, most: usize) {
     }
 }
 
-fn print(tally: &Tally<()>) -> fmt::Result {
-    let mut out = Output;
-    tally.print_mismatches(&mut out)?;
-    writeln!(out, "cases {}", tally.cases())?;
-    tally.print_numbers(&mut out, "told", &TOLD)?;
-    writeln!(out, "mismatches {}", tally.wrong())
-}
-
 // Ends in the same way if the output takes nothing.
 fn main() {
     let mut tally = Tally::new(());
     hold_all(&mut tally, 1000000);
-    let _ = print(&tally);
+    let _ = tally.print("told", &TOLD);
 }
