@@ -29,7 +29,7 @@ pub fn write_step(
     end + 1
 }
 
-// Writes the line of a step of column j, whose rows are between its start and the next one.
+// Writes the line of a step of column j, with the column's rows from the factor. Lists count their columns from 0.
 fn write_column(j: usize, pops: u64, room: u64, factor: Lists, bytes: &mut [u8], at: usize) -> usize
     requires { LineFits j pops room factor.starts.now factor.rows.now bytes.old at }
     ensures { Wrote (printed (decimal_of j) (pops ∷ room ∷ column_of factor.entry.starts.now factor.entry.rows.now j))
