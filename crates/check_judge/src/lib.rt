@@ -7,6 +7,7 @@ ghost use Rattle.refusals.specs.Answers.{answer_from};
 ghost use Rattle.check_judge.specs.Judged.{PlanGiven, TreeGiven, TreeJudged, Judgement};
 
 use job::Job;
+use lists::Lists;
 use refusals::{Refusal, Refused, refuse};
 
 // Tests 18, 19, 20 and 9 of a plan whose lists are right; parents are those of its lists. Ok is the peak.
@@ -60,9 +61,15 @@ pub fn judge(
     if let Some(step) = check_steps::first_repeat(steps, work) {
         return refuse(Refusal::ColumnRepeated, step, 0);
     }
-    if let Some(column) = check_lists::first_wrong_list(
-        n, job.starts, job.rows, fstarts, frows, parents, work,
-    ) {
+    let pattern = Lists {
+        starts: job.starts,
+        rows: job.rows,
+    };
+    let factor = Lists {
+        starts: fstarts,
+        rows: frows,
+    };
+    if let Some(column) = check_lists::first_wrong_list(n, pattern, factor, parents, work) {
         return refuse(Refusal::ListNotTheFill, column, 0);
     }
     judge_tree(

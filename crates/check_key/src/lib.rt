@@ -8,6 +8,7 @@ ghost use Rattle.job_laws.specs.Passed.{Passed};
 ghost use Rattle.check_key.specs.Matches.{key_match};
 
 use job::Job;
+use lists::Lists;
 use refusals::Fault;
 
 // Compares the key of a job that passes its tests with the beginning of the plan. Answers the place behind the key, or refusal 11.
@@ -18,5 +19,9 @@ pub fn match_key(job: Job, plan: &[u8]) -> Result<usize, Fault>
     let head = job.head;
     let middle = check_numbers::match_two(plan, 0, papers::EDITION, head.n)?;
     let next = check_numbers::match_two(plan, middle, head.mark, head.limit)?;
-    check_numbers::match_lists(head.n, job.starts, job.rows, plan, next)
+    let pattern = Lists {
+        starts: job.starts,
+        rows: job.rows,
+    };
+    check_numbers::match_lists(head.n, pattern, plan, next)
 }

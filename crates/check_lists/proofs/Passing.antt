@@ -21,7 +21,8 @@ use Rattle.fill_laws.proofs.Parents.{parent-within}
 use Rattle.column_laws.specs.Tested.{Tested}
 use Rattle.column_laws.proofs.Columns.{tested-below}
 use Rattle.list_laws.proofs.UpTo.{map-up_to}
-use Rattle.column_list.specs.Stored.{ListsStored, RowsBetween}
+use Rattle.lists.specs.Between.{RowsBetween}
+use Rattle.column_list.specs.Stored.{ListsStored}
 use Rattle.std.specs.Prelude.{Option, Some, None}
 use Rattle.refusals.specs.Answers.{place_if_any}
 use Rattle.structure.specs.Hanging.{hanging, Hangable}

@@ -16,7 +16,7 @@ use Rattle.job_laws.proofs.Starts.{start-at, column-at, start-within}
 use Rattle.job_laws.proofs.Laid.{laid-column}
 use Rattle.job_laws.proofs.Readable.{laid-pass}
 use Rattle.column_laws.proofs.Columns.{column-part}
-use Rattle.column_list.specs.Stored.{RowsBetween}
+use Rattle.lists.specs.Between.{RowsBetween}
 use Rattle.structure.specs.Hanging.{hanging}
 use Rattle.structure.specs.Listed.{Stores}
 use Rattle.check_lists.specs.Lists.{PlanLists}

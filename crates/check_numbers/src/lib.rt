@@ -10,6 +10,7 @@ ghost use Rattle.papers.specs.Key.{gaps_of, list_numbers, lists_numbers, lists_o
 ghost use Rattle.check_numbers.specs.Asked.{NumberMatchAsked, TwoMatchAsked, ListMatchAsked, ListsMatchAsked};
 ghost use Rattle.check_numbers.specs.Matches.{match_from};
 
+use lists::Lists;
 use refusals::{Fault, Refusal};
 
 // Compares the bytes of x with the plan's from `at` on. In the loop the first i bytes agree.
@@ -91,24 +92,19 @@ fn match_list(
 }
 
 // Compares the lists of the columns 1 to n. In the loop those of the columns before c agree, up to k; c counts the columns from 0.
-pub fn match_lists(
-    n: u64,
-    starts: &[u64],
-    rows: &[u32],
-    plan: &[u8],
-    at: usize,
-) -> Result<usize, Fault>
-    requires { ListsMatchAsked n starts.now rows.now plan.now at }
-    ensures { result ≡ match_from (encode (lists_numbers 1 (lists_of n (column_of starts.now rows.now)))) plan.now at }
+pub fn match_lists(n: u64, lists: Lists, plan: &[u8], at: usize) -> Result<usize, Fault>
+    requires { ListsMatchAsked n lists.starts.now lists.rows.now plan.now at }
+    ensures { result ≡ match_from (encode (lists_numbers 1 (lists_of n (column_of lists.entry.starts.now lists.entry.rows.now))))
+        plan.now at }
 {
     let mut k = at;
     for c in 0..n as usize {
         k = match_list(
             plan,
             k,
-            rows,
-            starts[c] as usize,
-            starts[c + 1] as usize,
+            lists.rows,
+            lists.starts[c] as usize,
+            lists.starts[c + 1] as usize,
             c as u64 + 1,
         )?;
     }

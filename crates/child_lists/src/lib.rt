@@ -7,6 +7,8 @@ ghost use Rattle.papers.specs.Lists.{every};
 ghost use Rattle.child_lists.specs.Marks.{marked, is_marked, Markable};
 ghost use Rattle.child_lists.specs.Joining.{Joining, ChildrenJoined};
 
+use lists::Lists;
+
 // Marks the rows of a list for column j.
 pub fn mark(n: usize, j: usize, list: &[u32], work: &mut [u64])
     requires { Markable n list.now work.old }
@@ -34,21 +36,20 @@ pub fn join_children<'a>(
     j: usize,
     c: usize,
     len: usize,
-    fstarts: &[u64],
-    frows: &[u32],
+    factor: Lists,
     work: &mut [u64],
     x: &'a mut [u32],
     y: &'a mut [u32],
 ) -> &'a [u32]
-    requires { Joining n j c len fstarts.now frows.now work.old x.old y.old }
-    ensures { ChildrenJoined n j c len fstarts.now frows.now work.old x.old y.old work.new result.now }
+    requires { Joining n j c len factor.starts.now factor.rows.now work.old x.old y.old }
+    ensures { ChildrenJoined n j c len factor.entry.starts.now factor.entry.rows.now work.old x.old y.old work.new result.now }
 {
     let mut list = x;
     let mut other = y;
     let mut count = len;
     let mut d = c;
     while d != 0 {
-        let more = linked_children::handed_on(d, fstarts, frows);
+        let more = linked_children::handed_on(d, factor);
         if !covered(n, j, more, work) {
             count = joiner::unite(&list[..count], more, other);
             mark(n, j, more, work);

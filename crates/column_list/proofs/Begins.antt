@@ -24,8 +24,9 @@ use Rattle.child_lists.specs.Marks.{marked, Markable, MarkedWithin, Changed}
 use Rattle.child_lists.specs.Joining.{Makes, ListBegun, Joining, ChildrenJoined}
 use Rattle.child_lists.proofs.Marks.{marks-sound, changed-none, changed-more, changed-marked}
 use Rattle.child_lists.proofs.Making.{makes-skip, makes-end}
+use Rattle.lists.specs.Between.{RowsBetween}
 use Rattle.column_list.specs.Hung.{hung}
-use Rattle.column_list.specs.Stored.{RowsBetween, Next, Gatherable, Gathers}
+use Rattle.column_list.specs.Stored.{Next, Gatherable, Gathers}
 use Rattle.column_list.proofs.Gathering.{below, found-child, chain, siblings, makes}
 use Rattle.column_list.proofs.Owns.{own-makes, own_alone, first-linked, only_child}
 

@@ -10,12 +10,6 @@ use Rattle.column_laws.specs.Chains.{Chain}
 use Rattle.child_lists.specs.Marks.{Changed, Fresh}
 use Rattle.column_list.specs.Hung.{hung}
 
--- the rows of column m + 1 are between its two starts
-pub record RowsBetween (m : ℕ) (starts rows : List ℕ) : Type 0 where
-  pub started : m + 1 < length starts
-  pub rises : get_or starts m 0 ≤ get_or starts (m + 1) 0
-  pub ends : get_or starts (m + 1) 0 ≤ length rows
-
 -- the rows of the lists of the columns 1 to m
 abbrev pub rows_to : Pattern → ℕ → List ℕ
 rows_to A m = flat (lists_of m (R A))

@@ -11,6 +11,7 @@ ghost use Rattle.job_laws.specs.Passed.{Passed};
 ghost use Rattle.list_laws.specs.Wrote.{Wrote};
 
 use job::Job;
+use lists::Lists;
 use papers::{Answer, JobHead};
 
 // Writes the key of a job to the start of a slice, as far as the slice goes, and answers the place behind it: the bytes needed.
@@ -23,7 +24,11 @@ pub fn put_key(job: Job, bytes: &mut [u8]) -> usize
     let n = write_number::put(bytes, edition, head.n);
     let mark = write_number::put(bytes, n, head.mark);
     let limit = write_number::put(bytes, mark, head.limit);
-    write_lists::write_lists(head.n, job.starts, job.rows, bytes, limit)
+    let pattern = Lists {
+        starts: job.starts,
+        rows: job.rows,
+    };
+    write_lists::write_lists(head.n, pattern, bytes, limit)
 }
 
 // The entry point of writing a key. Tests 1 to 6, then 10, which counts the bytes needed. When done, the slice holds the key, then zeros,
@@ -31,11 +36,7 @@ pub fn put_key(job: Job, bytes: &mut [u8]) -> usize
 pub fn write_key(head: JobHead, starts: &[u64], rows: &[u32], bytes: &mut [u8]) -> Answer
     ensures { EndsAs result bytes.new (key_written (job_of head starts.now rows.now) bytes.old) }
 {
-    let job = Job {
-        head,
-        starts,
-        rows,
-    };
+    let job = Job { head, starts, rows };
     if let Err(refused) = job::first_fault(job) {
         return Answer::from(refused);
     }

@@ -5,13 +5,14 @@ ghost use Rattle.papers.specs.Job.{column_of};
 ghost use Rattle.lent.specs.Six.{six_slices};
 ghost use Rattle.lent_lists.specs.Listing.{ListableIn, Listing};
 
+use lists::Lists;
+
 // Writes the lists of the columns to the start of the slices, as far as they fit, and answers how many columns are done. Order and pops
 // serve as the joiner's buffers here. If all columns are done, clears what is behind the lists, and behind the first n places of order and
 // pops.
 pub fn list_columns(
     n: usize,
-    starts: &[u64],
-    rows: &[u32],
+    pattern: Lists,
     parents: &mut [u32],
     order: &mut [u32],
     pops: &mut [u32],
@@ -19,8 +20,8 @@ pub fn list_columns(
     frows: &mut [u32],
     work: &mut [u64],
 ) -> usize
-    requires { ListableIn n starts.now rows.now (six_slices parents.old order.old pops.old fstarts.old frows.old work.old) }
-    ensures { Listing n result (column_of starts.now rows.now)
+    requires { ListableIn n pattern.starts.now pattern.rows.now (six_slices parents.old order.old pops.old fstarts.old frows.old work.old) }
+    ensures { Listing n result (column_of pattern.entry.starts.now pattern.entry.rows.now)
         (six_slices parents.old order.old pops.old fstarts.old frows.old
         work.old)
         (six_slices parents.new order.new pops.new fstarts.new frows.new
@@ -28,8 +29,7 @@ pub fn list_columns(
 {
     let done = structure::column_lists(
         n,
-        starts,
-        rows,
+        pattern,
         parents,
         fstarts,
         frows,

@@ -7,6 +7,7 @@ ghost use Rattle.lent.specs.Six.{six_slices};
 ghost use Rattle.lent_plan.specs.Made.{Plannable, Made};
 
 use job::Job;
+use lists::Lists;
 use refusals::{Refusal, Refused, refuse};
 
 // Makes the plan of a job that passed its tests, in slices that are long enough: the lists, or 8 with the rows needed; then the order, or 9
@@ -29,11 +30,13 @@ pub fn planned(
 {
     let head = job.head;
     let n = head.n as usize;
-    let done = lent_lists::list_columns(
-        n, job.starts, job.rows, parents, order, pops, fstarts, frows, work,
-    );
+    let pattern = Lists {
+        starts: job.starts,
+        rows: job.rows,
+    };
+    let done = lent_lists::list_columns(n, pattern, parents, order, pops, fstarts, frows, work);
     if done < n {
-        let needed = rows_needed::rows_needed(n, job.starts, job.rows, parents, work);
+        let needed = rows_needed::rows_needed(n, pattern, parents, work);
         return refuse(Refusal::FactorRowsDoNotFit, 0, needed);
     }
     let peak = lent_order::order_columns(head.mark, n, parents, order, pops, fstarts, work);

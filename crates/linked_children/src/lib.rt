@@ -5,18 +5,20 @@
 ghost use Rattle.std.specs.Prelude.{◌≡◌};
 ghost use Rattle.linked_children.specs.Children.{StoredChild, handed_rows, Linked, Longest};
 
+use lists::Lists;
+
 // The rows that column c hands on to its parent: its list without the least row, which is the parent.
-pub fn handed_on<'a>(c: usize, fstarts: &[u64], frows: &'a [u32]) -> &'a [u32]
-    requires { StoredChild c fstarts.now frows.now }
-    ensures { result.now ≡ handed_rows fstarts.now frows.now c }
+pub fn handed_on<'a>(c: usize, factor: Lists<'a>) -> &'a [u32]
+    requires { StoredChild c factor.starts.now factor.rows.now }
+    ensures { result.now ≡ handed_rows factor.entry.starts.now factor.entry.rows.now c }
 {
-    let s = fstarts[c - 1] as usize;
-    let e = fstarts[c] as usize;
-    &frows[s + 1..e]
+    let s = factor.starts[c - 1] as usize;
+    let e = factor.starts[c] as usize;
+    &factor.rows[s + 1..e]
 }
 
 // Finds the child with the most rows of those linked from c on. In the loop none of those before d has more rows than best. A while: the
-// children are linked.
+// children are linked. It needs no rows, so it takes the starts alone.
 pub fn longest(n: usize, c: usize, fstarts: &[u64], work: &[u64]) -> usize
     requires { Linked n c fstarts.now work.now }
     ensures { Longest n c fstarts.now work.now result }

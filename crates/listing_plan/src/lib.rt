@@ -7,6 +7,7 @@ ghost use Rattle.lent.specs.Six.{six_slices};
 ghost use Rattle.listing_plan.specs.PlanLines.{plan_lines, printed_from, PlanFits, PrintFits};
 
 use job::Job;
+use lists::Lists;
 use papers::JobHead;
 
 // Writes the listing of a plan, which the slices hold, to the start of bytes, and answers its length.
@@ -15,17 +16,16 @@ fn print_plan(
     peak: u64,
     order: &[u32],
     pops: &[u32],
-    fstarts: &[u64],
-    frows: &[u32],
+    factor: Lists,
     below: &mut [u64],
     bytes: &mut [u8],
 ) -> usize
-    requires { PlanFits head.n head.mark peak order.now pops.now fstarts.now frows.now below.old bytes.old }
-    ensures { Wrote (plan_lines head.n head.mark peak order.now pops.now fstarts.now frows.now)
+    requires { PlanFits head.n head.mark peak order.now pops.now factor.starts.now factor.rows.now below.old bytes.old }
+    ensures { Wrote (plan_lines head.n head.mark peak order.now pops.now factor.entry.starts.now factor.entry.rows.now)
         bytes.old bytes.new 0 result }
 {
     let first = listing_lines::write_header(head.n, head.mark, peak, bytes);
-    listing_steps::write_steps(order, pops, fstarts, frows, below, bytes, first)
+    listing_steps::write_steps(order, pops, factor, below, bytes, first)
 }
 
 // Analyses a job in lent slices, writes its listing or the line of its refusal to the start of bytes, and answers its length.
@@ -54,13 +54,16 @@ pub fn print_analysis(
     }
     let n = job.head.n as usize;
     let last = fstarts[n] as usize;
+    let factor = Lists {
+        starts: &fstarts[..n + 1],
+        rows: &frows[..last],
+    };
     print_plan(
         job.head,
         answer.count,
         &order[..n],
         &pops[..n],
-        &fstarts[..n + 1],
-        &frows[..last],
+        factor,
         work,
         bytes,
     )

@@ -7,6 +7,8 @@ ghost use Rattle.papers.specs.Text.{decimal_of, printed};
 ghost use Rattle.list_laws.specs.Wrote.{Wrote};
 ghost use Rattle.listing_steps.specs.Steps.{lines_to, LineFits, LinesFit};
 
+use lists::Lists;
+
 // Writes the line of a step: its column, its pops, its room in use and the column's rows.
 pub fn write_step(
     column: u64,
@@ -27,23 +29,13 @@ pub fn write_step(
     end + 1
 }
 
-// Writes the line of a step of column j, whose rows are between its start and the next one.
-fn write_column(
-    j: usize,
-    pops: u64,
-    room: u64,
-    fstarts: &[u64],
-    frows: &[u32],
-    bytes: &mut [u8],
-    at: usize,
-) -> usize
-    requires { LineFits j pops room fstarts.now frows.now bytes.old at }
-    ensures { Wrote (printed (decimal_of j) (pops ∷ room ∷ column_of fstarts.now frows.now j))
+// Writes the line of a step of column j, with the column's rows from the factor. Lists count their columns from 0.
+fn write_column(j: usize, pops: u64, room: u64, factor: Lists, bytes: &mut [u8], at: usize) -> usize
+    requires { LineFits j pops room factor.starts.now factor.rows.now bytes.old at }
+    ensures { Wrote (printed (decimal_of j) (pops ∷ room ∷ column_of factor.entry.starts.now factor.entry.rows.now j))
         bytes.old bytes.new at result }
 {
-    let from = fstarts[j - 1] as usize;
-    let to = fstarts[j] as usize;
-    write_step(j as u64, pops, room, &frows[from..to], bytes, at)
+    write_step(j as u64, pops, room, factor.column(j - 1), bytes, at)
 }
 
 // Writes the lines of all steps, and answers the place behind them. In the loop the first k lines are written, up to next; `depth` updates
@@ -51,14 +43,13 @@ fn write_column(
 pub fn write_steps(
     order: &[u32],
     pops: &[u32],
-    fstarts: &[u64],
-    frows: &[u32],
+    factor: Lists,
     below: &mut [u64],
     bytes: &mut [u8],
     at: usize,
 ) -> usize
-    requires { LinesFit order.now pops.now fstarts.now frows.now below.old bytes.old at }
-    ensures { Wrote (lines_to order.now pops.now fstarts.now frows.now (length order.now))
+    requires { LinesFit order.now pops.now factor.starts.now factor.rows.now below.old bytes.old at }
+    ensures { Wrote (lines_to order.now pops.now factor.entry.starts.now factor.entry.rows.now (length order.now))
         bytes.old bytes.new at result }
 {
     below[0] = 0;
@@ -67,9 +58,9 @@ pub fn write_steps(
     for k in 0..order.len() {
         let j = order[k] as usize;
         let p = pops[k] as usize;
-        let rows = room::rows_of(fstarts, j);
+        let rows = room::rows_of(factor.starts, j);
         let used = room::in_use(&below[..], depth, p, rows);
-        next = write_column(j, p as u64, used, fstarts, frows, bytes, next);
+        next = write_column(j, p as u64, used, factor, bytes, next);
         depth = room::hold(below, depth, p, rows);
     }
     next

@@ -10,6 +10,7 @@ ghost use Rattle.plan_store.specs.AtStart.{JobPlanAtStart};
 ghost use Rattle.plan_store.specs.Beside.{stored_beside};
 
 use job::Job;
+use lists::Lists;
 use refusals::Refused;
 
 // Stores the plan bytes of a job beside the slices of its analysis, which hold the plan. Counts the bytes; if they do not fit, refuses
@@ -41,15 +42,11 @@ pub fn store_beside(
 {
     let n = job.head.n as usize;
     let last = fstarts[n] as usize;
-    let stored = write_plan::store_plan(
-        job,
-        &order[..n],
-        &pops[..n],
-        &fstarts[..n + 1],
-        &frows[..last],
-        peak,
-        bytes,
-    );
+    let factor = Lists {
+        starts: &fstarts[..n + 1],
+        rows: &frows[..last],
+    };
+    let stored = write_plan::store_plan(job, &order[..n], &pops[..n], factor, peak, bytes);
     if stored.is_err() {
         lent::clear_all(parents, order, pops, fstarts, frows, work);
     }

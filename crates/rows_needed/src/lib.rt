@@ -10,14 +10,16 @@ ghost use Rattle.papers.specs.Key.{lists_of};
 ghost use Rattle.rows_needed.specs.Buckets.{filed};
 ghost use Rattle.rows_needed.specs.Walk.{Filing, Walk, Fileable, FirstFiled, RowsCountable};
 
+use lists::Lists;
+
 // Files column c under its next pattern row, which is at place q, if it has one.
-pub fn file(n: usize, c: usize, q: u64, starts: &[u64], rows: &[u32], work: &mut [u64])
-    requires { Filing n c q starts.now rows.now work.old }
-    ensures { work.new ≡ filed n c q starts.now rows.now work.old }
+pub fn file(n: usize, c: usize, q: u64, pattern: Lists, work: &mut [u64])
+    requires { Filing n c q pattern.starts.now pattern.rows.now work.old }
+    ensures { work.new ≡ filed n c q pattern.entry.starts.now pattern.entry.rows.now work.old }
 {
     work[n + n + n + c] = q;
-    if q < starts[c] {
-        let r = rows[q as usize] as usize;
+    if q < pattern.starts[c] {
+        let r = pattern.rows[q as usize] as usize;
         work[n + n + c] = work[n + r];
         work[n + r] = c as u64;
     }
@@ -29,13 +31,12 @@ pub fn walk(
     n: usize,
     i: usize,
     count: u64,
-    starts: &[u64],
-    rows: &[u32],
+    pattern: Lists,
     parents: &mut [u32],
     work: &mut [u64],
 ) -> u64
-    requires { Walk n i starts.now rows.now parents.old work.old count (get_or work.old (n + i) 0) }
-    ensures { Walk n i starts.now rows.now parents.new work.new result 0 }
+    requires { Walk n i pattern.starts.now pattern.rows.now parents.old work.old count (get_or work.old (n + i) 0) }
+    ensures { Walk n i pattern.entry.starts.now pattern.entry.rows.now parents.new work.new result 0 }
 {
     let mut c = work[n + i] as usize;
     let mut t = count;
@@ -43,41 +44,35 @@ pub fn walk(
         let next = work[n + n + c] as usize;
         t = needed_climb::climb(i, c, t, parents, work);
         let q = work[n + n + n + c] + 1;
-        file(n, c, q, starts, rows, work);
+        file(n, c, q, pattern, work);
         c = next;
     }
     t
 }
 
 // Clears work and files every column under its first pattern row.
-pub fn begin(n: usize, starts: &[u64], rows: &[u32], work: &mut [u64])
-    requires { Fileable n starts.now rows.now work.old }
-    ensures { FirstFiled n n starts.now rows.now work.new }
+pub fn begin(n: usize, pattern: Lists, work: &mut [u64])
+    requires { Fileable n pattern.starts.now pattern.rows.now work.old }
+    ensures { FirstFiled n n pattern.entry.starts.now pattern.entry.rows.now work.new }
 {
     work.fill(0);
     for m in 0..n {
-        file(n, m + 1, starts[m], starts, rows, work);
+        file(n, m + 1, pattern.starts[m], pattern, work);
     }
 }
 
 // Counts the rows of all lists R(j) together. Takes the rows one by one: a column has row i exactly when climbing from a column whose
 // pattern has row i reaches it.
-pub fn rows_needed(
-    n: usize,
-    starts: &[u64],
-    rows: &[u32],
-    parents: &mut [u32],
-    work: &mut [u64],
-) -> u64
-    requires { RowsCountable n starts.now rows.now parents.old work.old }
-    ensures { result ≡ length (flat (lists_of n (R (column_of starts.now rows.now)))) }
+pub fn rows_needed(n: usize, pattern: Lists, parents: &mut [u32], work: &mut [u64]) -> u64
+    requires { RowsCountable n pattern.starts.now pattern.rows.now parents.old work.old }
+    ensures { result ≡ length (flat (lists_of n (R (column_of pattern.entry.starts.now pattern.entry.rows.now)))) }
 {
     parents.fill(0);
-    begin(n, starts, rows, work);
+    begin(n, pattern, work);
     let mut t = 0;
     for m in 0..n {
         work[m + 1] = (m + 1) as u64;
-        t = walk(n, m + 1, t, starts, rows, parents, work);
+        t = walk(n, m + 1, t, pattern, parents, work);
     }
     t
 }

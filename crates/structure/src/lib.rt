@@ -8,6 +8,8 @@ ghost use Rattle.papers.specs.Job.{column_of};
 ghost use Rattle.structure.specs.Hanging.{hanging, Hangable};
 ghost use Rattle.structure.specs.Listed.{Storable, Stores, Listable, ColumnsListed};
 
+use lists::Lists;
+
 // Hangs column c under its parent p, before the children that p has already. A root, whose parent is written 0 as in a plan, is not hung.
 pub fn hang(n: usize, p: usize, c: usize, work: &mut [u64])
     requires { Hangable n p c work.old }
@@ -52,8 +54,7 @@ pub fn least(list: &[u32]) -> u32
 // Makes the lists R(1), R(2), .., their starts and the parents, as long as the lists fit into frows. Answers how many columns are done.
 pub fn column_lists(
     n: usize,
-    starts: &[u64],
-    rows: &[u32],
+    pattern: Lists,
     parents: &mut [u32],
     fstarts: &mut [u64],
     frows: &mut [u32],
@@ -61,14 +62,18 @@ pub fn column_lists(
     y: &mut [u32],
     work: &mut [u64],
 ) -> usize
-    requires { Listable n starts.now rows.now parents.old fstarts.old x.old y.old work.old }
-    ensures { ColumnsListed n result (column_of starts.now rows.now) parents.old fstarts.old
+    requires { Listable n pattern.starts.now pattern.rows.now parents.old fstarts.old x.old y.old work.old }
+    ensures { ColumnsListed n result (column_of pattern.entry.starts.now pattern.entry.rows.now) parents.old fstarts.old
         frows.old parents.new fstarts.new frows.new }
 {
     work.fill(0);
     fstarts[0] = 0;
     for m in 0..n {
-        let list = column_list::gather(n, m, starts, rows, fstarts, frows, work, x, y);
+        let factor = Lists {
+            starts: fstarts,
+            rows: frows,
+        };
+        let list = column_list::gather(n, m, pattern, factor, work, x, y);
         if frows.len() - (fstarts[m] as usize) < list.len() {
             return m;
         }

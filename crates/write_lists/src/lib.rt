@@ -11,6 +11,8 @@ ghost use Rattle.list_laws.specs.Wrote.{Wrote};
 ghost use Rattle.write_gaps.specs.ListBetween.{ListNear};
 ghost use Rattle.write_lists.specs.Lists.{RunEnd, ListsNear};
 
+use lists::Lists;
+
 // How many rows of a list are written in one go.
 const RUN: usize = 16;
 
@@ -45,17 +47,17 @@ fn write_list(rows: &[u32], from: usize, to: usize, j: u32, bytes: &mut [u8], at
 
 // Writes the lists of the columns 1 to n from `at` on, and answers the place behind them. In the loop those of the first `done` columns are
 // written up to next.
-pub fn write_lists(n: u64, starts: &[u64], rows: &[u32], bytes: &mut [u8], at: usize) -> usize
-    requires { ListsNear n starts.now rows.now at }
-    ensures { Wrote (encode (lists_numbers 1 (lists_of n (column_of starts.now rows.now))))
+pub fn write_lists(n: u64, lists: Lists, bytes: &mut [u8], at: usize) -> usize
+    requires { ListsNear n lists.starts.now lists.rows.now at }
+    ensures { Wrote (encode (lists_numbers 1 (lists_of n (column_of lists.entry.starts.now lists.entry.rows.now))))
         bytes.old bytes.new at result }
 {
     let mut next = at;
     for done in 0..n as usize {
         next = write_list(
-            rows,
-            starts[done] as usize,
-            starts[done + 1] as usize,
+            lists.rows,
+            lists.starts[done] as usize,
+            lists.starts[done + 1] as usize,
             done as u32 + 1,
             bytes,
             next,

@@ -11,6 +11,7 @@ ghost use Rattle.write_stored.specs.Stored.{stored};
 ghost use Rattle.write_plan.specs.Lists.{step_pairs, plan_in, StepsNear, Writable};
 
 use job::Job;
+use lists::Lists;
 use refusals::Refused;
 
 // Writes the steps from `at` on, and answers the place behind them. In the loop the first `done` are written up to next.
@@ -31,19 +32,18 @@ pub fn put_plan(
     job: Job,
     order: &[u32],
     pops: &[u32],
-    fstarts: &[u64],
-    frows: &[u32],
+    factor: Lists,
     peak: u64,
     bytes: &mut [u8],
 ) -> usize
-    requires { Writable (job_given job) order.now pops.now fstarts.now frows.now peak }
+    requires { Writable (job_given job) order.now pops.now factor.starts.now factor.rows.now peak }
     ensures { Wrote (bytes_of_plan (job_given job.entry)
-        (plan_in job.entry.head.n order.now pops.now fstarts.now frows.now peak))
+        (plan_in job.entry.head.n order.now pops.now factor.entry.starts.now factor.entry.rows.now peak))
         bytes.old bytes.new 0 result }
 {
     let key = key::put_key(job, bytes);
     let steps = write_steps(order, pops, bytes, key);
-    let lists = write_lists::write_lists(job.head.n, fstarts, frows, bytes, steps);
+    let lists = write_lists::write_lists(job.head.n, factor, bytes, steps);
     write_number::put(bytes, lists, peak)
 }
 
@@ -53,17 +53,16 @@ pub fn store_plan(
     job: Job,
     order: &[u32],
     pops: &[u32],
-    fstarts: &[u64],
-    frows: &[u32],
+    factor: Lists,
     peak: u64,
     bytes: &mut [u8],
 ) -> Result<u64, Refused>
-    requires { Writable (job_given job) order.now pops.now fstarts.now frows.now peak }
+    requires { Writable (job_given job) order.now pops.now factor.starts.now factor.rows.now peak }
     ensures { EndsAs (answer_from result) bytes.new
         (stored (bytes_of_plan (job_given job.entry)
-        (plan_in job.entry.head.n order.now pops.now fstarts.now frows.now peak))
+        (plan_in job.entry.head.n order.now pops.now factor.entry.starts.now factor.entry.rows.now peak))
         bytes.old) }
 {
-    let needed = put_plan(job, order, pops, fstarts, frows, peak, bytes);
+    let needed = put_plan(job, order, pops, factor, peak, bytes);
     write_stored::finish(bytes, needed)
 }

@@ -5,4 +5,5 @@ use Rattle.check_lists.proofs.Passing.{Passing}
 use Rattle.check_lists.proofs.first_wrong_list.Given as goal
 
 abbrev pub invariant-loop-m : goal.invariant-loop-m
-invariant-loop-m l = Passing l.n l.starts l.rows l.fstarts l.frows l.initial.parents l.initial.work l.parents l.work l.m
+invariant-loop-m l =
+    Passing l.n l.pattern.starts.now l.pattern.rows.now l.factor.starts.now l.factor.rows.now l.initial.parents l.initial.work l.parents l.work l.m

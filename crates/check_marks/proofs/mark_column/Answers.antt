@@ -15,15 +15,15 @@ place : (c : In-loop-c) → c.args.n + c.loop-c.c < length c.args.work.now
 place c =
     omega (arith, link c.loop-c.invariant c.loop-c-test.true, c.loop-c.invariant.long)
 
-pub pattern_rows-requires : goal.pattern_rows-requires
-pattern_rows-requires c = part_of c.requires
+pub column-requires : goal.column-requires
+column-requires c = part_of c.requires
 
 pub mark_new-count-requires : goal.mark_new-count-requires
-mark_new-count-requires c = own-once c.requires c.pattern_rows.ensures
+mark_new-count-requires c = own-once c.requires c.column.ensures
 
 pub loop-c-init : goal.loop-c-init
 loop-c-init c =
-    count-begin c.requires c.pattern_rows.ensures c.mark_new-count.ensures
+    count-begin c.requires c.column.ensures c.mark_new-count.ensures
     (omega arith)
 
 pub handed_on-requires : goal.handed_on-requires
@@ -59,5 +59,5 @@ loop-c-preserved c =
 
 pub returns : goal.returns
 returns c =
-    count-stop c.loop-c.invariant (own-changed c.requires c.pattern_rows.ensures c.mark_new-count.ensures)
+    count-stop c.loop-c.invariant (own-changed c.requires c.column.ensures c.mark_new-count.ensures)
     c.loop-c-test.false

@@ -6,7 +6,8 @@ use Rattle.check_marks.proofs.Counting.{Counting}
 use Rattle.check_marks.proofs.mark_column.Given as goal
 
 abbrev pub invariant-loop-c : goal.invariant-loop-c
-invariant-loop-c l = Counting l.n l.m (column_of l.starts l.rows) l.fstarts l.frows l.initial.work l.work l.c l.count
+invariant-loop-c l =
+    Counting l.n l.m (column_of l.pattern.starts.now l.pattern.rows.now) l.factor.starts.now l.factor.rows.now l.initial.work l.work l.c l.count
 
 abbrev pub decreases-loop-c : goal.decreases-loop-c
 decreases-loop-c l = l.c

@@ -17,4 +17,4 @@ pub record Columns (n : ℕ) (starts rows plan : List ℕ) (at k done : ℕ) : T
   pub matched : Left (lists_numbers 1 (lists_of n (column_of starts rows))) plan at (numbers_from n starts rows done) k
 
 abbrev pub invariant-loop-c : goal.invariant-loop-c
-invariant-loop-c l = Columns l.n l.starts l.rows l.plan l.at l.k l.c
+invariant-loop-c l = Columns l.n l.lists.starts.now l.lists.rows.now l.plan l.at l.k l.c

@@ -5,7 +5,7 @@ use Rattle.child_lists.proofs.Joining.{State}
 use Rattle.child_lists.proofs.join_children.Given as goal
 
 abbrev pub invariant-loop-d : goal.invariant-loop-d
-invariant-loop-d l = State l.n l.j l.c l.len l.fstarts l.frows l.fn.work l.fn.x l.fn.y l.work l.list l.other l.d l.count
+invariant-loop-d l = State l.n l.j l.c l.len l.factor.starts.now l.factor.rows.now l.fn.work l.fn.x l.fn.y l.work l.list l.other l.d l.count
 
 abbrev pub decreases-loop-d : goal.decreases-loop-d
 decreases-loop-d l = l.d

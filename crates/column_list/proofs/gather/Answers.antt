@@ -12,27 +12,27 @@ use Rattle.column_list.proofs.gather.Goals as goal
 use Rattle.column_list.proofs.gather.Goals.{After-handed_on-more}
 
 abbrev own : After-handed_on-more → List ℕ
-own c = c.pattern_rows-own.result.now
+own c = c.column-own.result.now
 
 -- Once the longest child has handed on its rows, what is known of these and the pattern rows: the answers below cite it with `first (search)`.
-first : (c : After-handed_on-more) → First c.args.n c.args.m c.args.starts.now c.args.rows.now
-    c.args.fstarts.now c.args.frows.now c.args.work.now c.args.x.now c.args.y.now
+first : (c : After-handed_on-more) → First c.args.n c.args.m c.args.pattern.starts.now c.args.pattern.rows.now
+    c.args.factor.starts.now c.args.factor.rows.now c.args.work.now c.args.x.now c.args.y.now
     (own c) c.handed_on-more.result.now
 first c =
     record {
       gatherable = c.requires;
-      own_is = c.pattern_rows-own.ensures;
+      own_is = c.column-own.ensures;
       some = c.if-c-eq0.false;
       child = c.longest-d.result;
       longest = c.longest-d.ensures;
       more-is = c.handed_on-more.ensures;
     }
 
-pub pattern_rows-own-requires : goal.pattern_rows-own-requires
-pattern_rows-own-requires c = part_of c.requires.next
+pub column-own-requires : goal.column-own-requires
+column-own-requires c = part_of c.requires.next
 
 pub returns-then-c-eq0 : goal.returns-then-c-eq0
-returns-then-c-eq0 c = alone c.requires c.pattern_rows-own.ensures c.if-c-eq0.true
+returns-then-c-eq0 c = alone c.requires c.column-own.ensures c.if-c-eq0.true
 
 pub longest-d-requires : goal.longest-d-requires
 longest-d-requires c = linked c.requires

@@ -28,6 +28,18 @@ returns-then-answer-ne0 c =
 pub bounds-fstarts-n : goal.bounds-fstarts-n
 bounds-fstarts-n c = omega (arith, (done-lies (done (goal.at.bounds-fstarts-n c).Else-answer-ne0)).starts-long)
 
+pub slice_bounds-factor-end : goal.slice_bounds-factor-end
+slice_bounds-factor-end c = (done-lies (done (goal.at.slice_bounds-factor-end c).Else-answer-ne0)).starts-long
+
+pub slice_bounds-factor-end-2 : goal.slice_bounds-factor-end-2
+slice_bounds-factor-end-2 c = sym (length-take-le _ _ (done-lies (done (goal.at.slice_bounds-factor-end-2 c).Else-answer-ne0)).starts-long)
+
+pub slice_bounds-factor-end-3 : goal.slice_bounds-factor-end-3
+slice_bounds-factor-end-3 c = (done-lies (done (goal.at.slice_bounds-factor-end-3 c).Else-answer-ne0)).rows_long
+
+pub slice_bounds-factor-end-4 : goal.slice_bounds-factor-end-4
+slice_bounds-factor-end-4 c = sym (length-take-le _ _ (done-lies (done (goal.at.slice_bounds-factor-end-4 c).Else-answer-ne0)).rows_long)
+
 pub slice_bounds-print_plan-end : goal.slice_bounds-print_plan-end
 slice_bounds-print_plan-end c = (done-lies (done (goal.at.slice_bounds-print_plan-end c).Else-answer-ne0)).order-long
 
@@ -39,18 +51,6 @@ slice_bounds-print_plan-end-3 c = (done-lies (done (goal.at.slice_bounds-print_p
 
 pub slice_bounds-print_plan-end-4 : goal.slice_bounds-print_plan-end-4
 slice_bounds-print_plan-end-4 c = sym (length-take-le _ _ (done-lies (done (goal.at.slice_bounds-print_plan-end-4 c).Else-answer-ne0)).pops-long)
-
-pub slice_bounds-print_plan-end-5 : goal.slice_bounds-print_plan-end-5
-slice_bounds-print_plan-end-5 c = (done-lies (done (goal.at.slice_bounds-print_plan-end-5 c).Else-answer-ne0)).starts-long
-
-pub slice_bounds-print_plan-end-6 : goal.slice_bounds-print_plan-end-6
-slice_bounds-print_plan-end-6 c = sym (length-take-le _ _ (done-lies (done (goal.at.slice_bounds-print_plan-end-6 c).Else-answer-ne0)).starts-long)
-
-pub slice_bounds-print_plan-end-7 : goal.slice_bounds-print_plan-end-7
-slice_bounds-print_plan-end-7 c = (done-lies (done (goal.at.slice_bounds-print_plan-end-7 c).Else-answer-ne0)).rows_long
-
-pub slice_bounds-print_plan-end-8 : goal.slice_bounds-print_plan-end-8
-slice_bounds-print_plan-end-8 c = sym (length-take-le _ _ (done-lies (done (goal.at.slice_bounds-print_plan-end-8 c).Else-answer-ne0)).rows_long)
 
 pub print_plan-requires : goal.print_plan-requires
 print_plan-requires c =

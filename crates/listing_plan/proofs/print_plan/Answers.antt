@@ -13,7 +13,7 @@ header c = printed word_plan (c.args.head.n ∷ c.args.head.mark ∷ c.args.peak
 
 abbrev lines : Start → List ℕ
 lines c =
-    lines_to c.args.order.now c.args.pops.now c.args.fstarts.now c.args.frows.now (length c.args.order.now)
+    lines_to c.args.order.now c.args.pops.now c.args.factor.starts.now c.args.factor.rows.now (length c.args.order.now)
 
 pub write_header-first-requires : goal.write_header-first-requires
 write_header-first-requires c = first_fits (header (goal.at.write_header-first-requires c).Start)

@@ -1,17 +1,28 @@
--- Proves that `write_column` writes the line with the column's own rows, since the part of the rows that it hands on is the column's list.
+-- Proves that `write_column` writes the line with the column's own rows: the lists hand on those of column j - 1 + 1, and that is column j.
 -- Assumes nothing.
-use Rattle.std.proofs.Common.{◌≡◌, ℕ, ◌+◌, ◌-◌, ◌<◌, List, get_or, take, drop, arith}
+use Rattle.std.proofs.Common.{◌≡◌, ℕ, ◌+◌, ◌-◌, ◌<◌, List, arith}
 use Rattle.papers.specs.Job.{column_of}
-use Rattle.column_laws.proofs.Columns.{column-part}
 use Rattle.listing_steps.proofs.write_column.Goals as goal
 
--- the part of the rows that is passed on
-list-is : (starts rows : List ℕ) (j : ℕ) → 0 < j
-    → take (get_or starts j 0 - get_or starts (j - 1) 0) (drop (get_or starts (j - 1) 0) rows) ≡ column_of starts rows j
-list-is starts rows j some = let e : j - 1 + 1 ≡ j = omega arith in rw e at (column-part starts rows (j - 1))
+-- columns are numbered from 1
+numbered : (j : ℕ) → 0 < j → j - 1 + 1 ≡ j
+numbered j some = omega arith
+
+-- the rows that are handed on
+list-is : (starts rows list : List ℕ) (j : ℕ) → 0 < j → list ≡ column_of starts rows (j - 1 + 1) → list ≡ column_of starts rows j
+list-is starts rows list j some e = rw (numbered j some) at e
+
+pub column-requires : goal.column-requires
+column-requires c =
+    let starts = c.requires.column in
+    record {
+      started = omega (arith, starts.some, starts.known);
+      rises = rw (numbered _ starts.some) starts.rise;
+      ends = rw (numbered _ starts.some) c.requires.inside;
+    }
 
 pub write_step-requires : goal.write_step-requires
-write_step-requires c = rw (list-is _ _ _ c.requires.column.some) c.requires.fits
+write_step-requires c = rw (list-is _ _ _ _ c.requires.column.some c.column.ensures) c.requires.fits
 
 pub returns : goal.returns
-returns c = rw (← (list-is _ _ _ c.requires.column.some)) c.write_step.ensures
+returns c = rw (← (list-is _ _ _ _ c.requires.column.some c.column.ensures)) c.write_step.ensures

@@ -5,4 +5,4 @@ use Rattle.listing_steps.proofs.write_steps.Given as goal
 
 abbrev pub invariant-loop-k : goal.invariant-loop-k
 invariant-loop-k l =
-    Printing l.order l.pops l.fstarts l.frows l.initial.below l.initial.bytes l.at l.below l.bytes l.depth l.next l.k
+    Printing l.order l.pops l.factor.starts.now l.factor.rows.now l.initial.below l.initial.bytes l.at l.below l.bytes l.depth l.next l.k

@@ -14,6 +14,21 @@ offset_bounds-fstarts-n c = omega (arith, few c.requires.writable)
 pub bounds-fstarts-n : goal.bounds-fstarts-n
 bounds-fstarts-n c = let h = c.requires.starts-long in omega arith
 
+pub overflow_add-factor : goal.overflow_add-factor
+overflow_add-factor c = omega (arith, few c.requires.writable)
+
+pub slice_bounds-factor-end : goal.slice_bounds-factor-end
+slice_bounds-factor-end c = c.requires.starts-long
+
+pub slice_bounds-factor-end-2 : goal.slice_bounds-factor-end-2
+slice_bounds-factor-end-2 c = sym (length-take-le _ _ c.requires.starts-long)
+
+pub slice_bounds-factor-end-3 : goal.slice_bounds-factor-end-3
+slice_bounds-factor-end-3 c = c.requires.rows_long
+
+pub slice_bounds-factor-end-4 : goal.slice_bounds-factor-end-4
+slice_bounds-factor-end-4 c = sym (length-take-le _ _ c.requires.rows_long)
+
 pub slice_bounds-store_plan-end : goal.slice_bounds-store_plan-end
 slice_bounds-store_plan-end c = c.requires.order-long
 
@@ -25,21 +40,6 @@ slice_bounds-store_plan-end-3 c = c.requires.pops-long
 
 pub slice_bounds-store_plan-end-4 : goal.slice_bounds-store_plan-end-4
 slice_bounds-store_plan-end-4 c = sym (length-take-le _ _ c.requires.pops-long)
-
-pub overflow_add-n : goal.overflow_add-n
-overflow_add-n c = omega (arith, few c.requires.writable)
-
-pub slice_bounds-store_plan-end-5 : goal.slice_bounds-store_plan-end-5
-slice_bounds-store_plan-end-5 c = c.requires.starts-long
-
-pub slice_bounds-store_plan-end-6 : goal.slice_bounds-store_plan-end-6
-slice_bounds-store_plan-end-6 c = sym (length-take-le _ _ c.requires.starts-long)
-
-pub slice_bounds-store_plan-end-7 : goal.slice_bounds-store_plan-end-7
-slice_bounds-store_plan-end-7 c = c.requires.rows_long
-
-pub slice_bounds-store_plan-end-8 : goal.slice_bounds-store_plan-end-8
-slice_bounds-store_plan-end-8 c = sym (length-take-le _ _ c.requires.rows_long)
 
 pub store_plan-stored-requires : goal.store_plan-stored-requires
 store_plan-stored-requires c = c.requires.writable

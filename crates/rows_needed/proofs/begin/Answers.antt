@@ -5,8 +5,8 @@ use Rattle.column_laws.proofs.Columns.{starts-long}
 use Rattle.rows_needed.proofs.RowLoop.{filing-first, file-next}
 use Rattle.rows_needed.proofs.begin.Goals as goal
 
-pub bounds-starts-m : goal.bounds-starts-m
-bounds-starts-m c = omega (arith, starts-long c.loop-m.invariant.tested, c.loop-m-test.true)
+pub bounds-pattern-m : goal.bounds-pattern-m
+bounds-pattern-m c = omega (arith, starts-long c.loop-m.invariant.tested, c.loop-m-test.true)
 
 pub file-requires : goal.file-requires
 file-requires c = filing-first c.loop-m.invariant c.loop-m-test.true

@@ -4,4 +4,4 @@ use Rattle.rows_needed.proofs.RowLoop.{FiledTo}
 use Rattle.rows_needed.proofs.begin.Given as goal
 
 abbrev pub invariant-loop-m : goal.invariant-loop-m
-invariant-loop-m l = FiledTo l.n l.m l.starts l.rows l.initial.work l.work
+invariant-loop-m l = FiledTo l.n l.m l.pattern.starts.now l.pattern.rows.now l.initial.work l.work

@@ -5,13 +5,13 @@ use mathlib.Core.Path.{sym, ◌∙◌}
 use Rattle.rows_needed.proofs.Stores.{filed-some, filed-none, pushed-is}
 use Rattle.rows_needed.proofs.file.Goals as goal
 
-pub returns-then-q-starts : goal.returns-then-q-starts
-returns-then-q-starts c =
-    sym (filed-some c.args.n c.args.c c.args.q c.args.starts.now
-    c.args.rows.now c.args.work.now c.if-q-starts.true ∙ pushed-is c.args.n _
+pub returns-then-q-pattern : goal.returns-then-q-pattern
+returns-then-q-pattern c =
+    sym (filed-some c.args.n c.args.c c.args.q c.args.pattern.starts.now
+    c.args.pattern.rows.now c.args.work.now c.if-q-pattern.true ∙ pushed-is c.args.n _
     c.args.c _)
 
-pub returns-else-q-starts : goal.returns-else-q-starts
-returns-else-q-starts c =
-    sym (filed-none c.args.n c.args.c c.args.q c.args.starts.now
-    c.args.rows.now c.args.work.now c.if-q-starts.false)
+pub returns-else-q-pattern : goal.returns-else-q-pattern
+returns-else-q-pattern c =
+    sym (filed-none c.args.n c.args.c c.args.q c.args.pattern.starts.now
+    c.args.pattern.rows.now c.args.work.now c.if-q-pattern.false)

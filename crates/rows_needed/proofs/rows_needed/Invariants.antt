@@ -4,4 +4,4 @@ use Rattle.rows_needed.proofs.RowLoop.{Rows}
 use Rattle.rows_needed.proofs.rows_needed.Given as goal
 
 abbrev pub invariant-loop-m : goal.invariant-loop-m
-invariant-loop-m l = Rows l.n l.m l.starts l.rows l.initial.parents l.initial.work l.parents l.work l.t
+invariant-loop-m l = Rows l.n l.m l.pattern.starts.now l.pattern.rows.now l.initial.parents l.initial.work l.parents l.work l.t

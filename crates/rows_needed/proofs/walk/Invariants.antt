@@ -5,7 +5,7 @@ use Rattle.rows_needed.proofs.Walks.{Walking, ahead}
 use Rattle.rows_needed.proofs.walk.Given as goal
 
 abbrev pub invariant-loop-c : goal.invariant-loop-c
-invariant-loop-c l = Walking l.n l.i l.starts l.rows l.initial.parents l.initial.work l.parents l.work l.t l.c
+invariant-loop-c l = Walking l.n l.i l.pattern.starts.now l.pattern.rows.now l.initial.parents l.initial.work l.parents l.work l.t l.c
 
 abbrev pub decreases-loop-c : goal.decreases-loop-c
-decreases-loop-c l = ahead l.n l.starts l.work
+decreases-loop-c l = ahead l.n l.pattern.starts.now l.work

@@ -6,5 +6,5 @@ use Rattle.structure.proofs.column_lists.Given as goal
 
 abbrev pub invariant-loop-m : goal.invariant-loop-m
 invariant-loop-m l =
-    Running l.n l.starts l.rows l.initial.parents l.initial.fstarts l.initial.frows l.initial.work l.initial.x l.initial.y l.parents l.fstarts l.frows
-    l.work l.x l.y l.m
+    Running l.n l.pattern.starts.now l.pattern.rows.now l.initial.parents l.initial.fstarts l.initial.frows l.initial.work l.initial.x l.initial.y
+    l.parents l.fstarts l.frows l.work l.x l.y l.m

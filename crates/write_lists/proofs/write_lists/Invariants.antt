@@ -4,4 +4,4 @@ use Rattle.write_lists.proofs.Columns.{WritesColumns}
 use Rattle.write_lists.proofs.write_lists.Given as goal
 
 abbrev pub invariant-loop-done : goal.invariant-loop-done
-invariant-loop-done l = WritesColumns l.n l.starts l.rows l.initial.bytes l.initial.next l.bytes l.next l.done
+invariant-loop-done l = WritesColumns l.n l.lists.starts.now l.lists.rows.now l.initial.bytes l.initial.next l.bytes l.next l.done

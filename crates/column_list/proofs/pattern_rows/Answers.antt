@@ -1,7 +1,0 @@
--- Proves that `pattern_rows` gives a column's rows: the part between its start and the next one.
--- Assumes nothing.
-use Rattle.column_laws.proofs.Columns.{column-part}
-use Rattle.column_list.proofs.pattern_rows.Goals as goal
-
-pub returns : goal.returns
-returns c = column-part _ _ _
