@@ -10,8 +10,8 @@ use Rattle.text_reader.proofs.read_job.Goals as goal
 pub returns-then-more : goal.returns-then-more
 returns-then-more c =
     elim c.then-more.branch [
-      then-more-via-then-more w ↦ told_more w.if-more.true
-    | then-more-via-else-more+then-text-gt-INPUT_BYTES w ↦ told-long w.if-more.false w.if-text-gt-INPUT_BYTES.true
+      | then-more-via-then-more w ↦ told_more w.if-more.true
+      | then-more-via-else-more+then-text-gt-INPUT_BYTES w ↦ told-long w.if-more.false w.if-text-gt-INPUT_BYTES.true
     ]
 
 pub returns-in_err-head : goal.returns-in_err-head
