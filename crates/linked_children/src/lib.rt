@@ -7,7 +7,8 @@ ghost use Rattle.linked_children.specs.Children.{StoredChild, handed_rows, Linke
 
 use lists::Lists;
 
-// The rows that column c hands on to its parent: its list without the least row, which is the parent.
+// The rows that column c hands on to its parent: its list without the least row, which is the parent. Cut
+// from all rows at once: a part of `factor.column(c - 1)` costs a few instructions more for each child.
 pub fn handed_on<'a>(c: usize, factor: Lists<'a>) -> &'a [u32]
     requires { StoredChild c factor.starts.now factor.rows.now }
     ensures { result.now ≡ handed_rows factor.entry.starts.now factor.entry.rows.now c }
