@@ -123,7 +123,7 @@ impl<N> Tally<N> {
     }
 
     // Prints how many cases have each of these numbers and nothing wrong, each in a line of its own that begins with a word.
-    fn print_numbers(&self, out: &mut Output, word: &str, numbers: &[usize]) -> fmt::Result {
+    pub fn print_numbers(&self, out: &mut Output, word: &str, numbers: &[usize]) -> fmt::Result {
         for number in numbers {
             writeln!(out, "{word} {number}: {}", self.right(*number))?;
         }
