@@ -7,6 +7,7 @@ ghost use Rattle.refusals.specs.Answers.{answer_from};
 ghost use Rattle.check_bytes.specs.Ruled.{check_of, Checkable, Ruled};
 
 use job::Job;
+use lists::Lists;
 use refusals::{Refusal, Refused, refuse};
 
 // Tests 11 to 15, 8, 16 to 20 and 9 for a job that passed its tests, in slices that are long enough. If the plan passes, the slices hold
@@ -34,5 +35,9 @@ pub fn judge_bytes(
     if (frows.len() as u64) < found.rows {
         return refuse(Refusal::FactorRowsDoNotFit, 0, found.rows);
     }
-    check_judge::judge(job, found.peak, parents, order, pops, fstarts, frows, work)
+    let factor = Lists {
+        starts: fstarts,
+        rows: frows,
+    };
+    check_judge::judge(job, found.peak, parents, order, pops, factor, work)
 }

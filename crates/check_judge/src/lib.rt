@@ -47,14 +47,13 @@ pub fn judge(
     parents: &mut [u32],
     order: &[u32],
     pops: &[u32],
-    fstarts: &[u64],
-    frows: &[u32],
+    factor: Lists,
     work: &mut [u64],
 ) -> Result<u64, Refused>
     requires { PlanGiven (job_given job) peak
-        (six_slices parents.old order.now pops.now fstarts.now frows.now work.old) }
+        (six_slices parents.old order.now pops.now factor.starts.now factor.rows.now work.old) }
     ensures { Judgement (job_given job.entry) peak parents.old order.now
-        pops.now fstarts.now frows.now parents.new (answer_from result) }
+        pops.now factor.entry.starts.now factor.entry.rows.now parents.new (answer_from result) }
 {
     let n = job.head.n as usize;
     let steps = &order[..n];
@@ -65,10 +64,6 @@ pub fn judge(
         starts: job.starts,
         rows: job.rows,
     };
-    let factor = Lists {
-        starts: fstarts,
-        rows: frows,
-    };
     if let Some(column) = check_lists::first_wrong_list(n, pattern, factor, parents, work) {
         return refuse(Refusal::ListNotTheFill, column, 0);
     }
@@ -78,7 +73,7 @@ pub fn judge(
         &parents[..n],
         steps,
         &pops[..n],
-        &fstarts[..n + 1],
+        &factor.starts[..n + 1],
         work,
     )
 }

@@ -53,7 +53,7 @@ pub fn match_two(plan: &[u8], at: usize, x: u64, y: u64) -> Result<usize, Fault>
 }
 
 // Compares the gaps of the rows of column j, those at the places `from` up to `to`. In the loop the gaps before i agree, up to k; `before`
-// is the last of these rows, or j.
+// is the last of these rows, or j. Rows and two places, as write_gaps takes them.
 fn match_gaps(
     plan: &[u8],
     at: usize,
@@ -75,7 +75,7 @@ fn match_gaps(
     Ok(k)
 }
 
-// Compares the list of column j, its count and its gaps.
+// Compares the list of column j, its count and its gaps; rows and two places again.
 fn match_list(
     plan: &[u8],
     at: usize,

@@ -9,7 +9,7 @@ ghost use Rattle.listing_lines.specs.Numbered.{numbered};
 
 use papers::Answer;
 
-// Writes x in decimal: the digits of its tenth, if that is not 0, then its last digit.
+// Writes x in decimal: the digits of its tenth, if that is not 0, then its last digit. By hand, under a contract on `decimal_of`.
 pub fn write_decimal(x: u64, bytes: &mut [u8], at: usize) -> usize
     requires { at + length (decimal_of x) ≤ length bytes.old }
     ensures { Wrote (decimal_of x) bytes.old bytes.new at result }

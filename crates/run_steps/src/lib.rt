@@ -14,19 +14,17 @@ use run_held::Held;
 // greatest room in use of the completed steps. In the loop the stack list holds the columns of the updates held after `done` steps,
 // bottom first.
 pub fn steps(
-    n: u64,
-    starts: &[u64],
-    rows: &[u32],
+    factor: Factor,
     columns: &[u32],
     pops: &[u32],
     room: u64,
     stack: &mut [u32],
 ) -> Result<u64, Refused>
-    requires { StepsGiven n starts.now rows.now columns.now pops.now stack.old }
-    ensures { answer_from result ≡ answer_of_steps (run_of n starts.now rows.now columns.now pops.now room
-        stack.old) }
+    requires { StepsGiven factor.n factor.starts.now factor.rows.now columns.now pops.now stack.old }
+    ensures { answer_from result ≡ answer_of_steps (run_of factor.entry.n factor.entry.starts.now factor.entry.rows.now
+        columns.now pops.now room stack.old) }
 {
-    let factor = Factor { n, starts, rows };
+    let n = factor.n;
     let mut held = Held {
         count: 0,
         entries: 0,

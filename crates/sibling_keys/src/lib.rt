@@ -7,7 +7,8 @@ ghost use Rattle.papers.specs.Order.{sibling_key_of};
 ghost use Rattle.list_laws.specs.Parts.{part};
 ghost use Rattle.sibling_keys.specs.Kids.{key_at, need_at, Kids, Keyable, Keyed};
 
-// The key of a child with these rows and this W, under a parent with `above` rows. Siblings go by descending key.
+// The key of a child with these rows and this W, under a parent with `above` rows. Siblings go by descending key. The mark is the rules'
+// own number, as keys, plans and C hold it.
 fn sibling_key(mark: u64, above: u64, rows: u64, w: u64) -> u64
     requires { rows ≤ max_columns }
     ensures { result ≡ sibling_key_of mark above rows w }

@@ -10,18 +10,13 @@ ghost use Rattle.run_updates.specs.Kept.{run_of};
 
 use papers::Answer;
 use refusals::{Refusal, Refused, refuse};
+use run_front::Factor;
 
-// Test 7: whether columns, pops or stack list have fewer than n places. Ifs, not `||`: each test that holds is a way out with a law of its own.
+// Test 7: whether columns, pops or stack list have fewer than n places.
 fn too_short(n: u64, columns: &[u32], pops: &[u32], stack: &[u32]) -> bool
     ensures { result ≡ some_short (run_fixed n columns.now pops.now stack.now) }
 {
-    if (columns.len() as u64) < n {
-        return true;
-    }
-    if (pops.len() as u64) < n {
-        return true;
-    }
-    (stack.len() as u64) < n
+    (columns.len() as u64) < n || (pops.len() as u64) < n || (stack.len() as u64) < n
 }
 
 // Tests 1, 4, 5, 6 and 7, which come before the first step, whatever room the run is given.
@@ -72,7 +67,8 @@ pub fn run(
     if let Err(refused) = early_fault(n, starts, rows, columns, pops, stack) {
         return Answer::from(refused);
     }
-    let outcome = run_steps::steps(n, starts, rows, columns, pops, room, stack);
+    let factor = Factor { n, starts, rows };
+    let outcome = run_steps::steps(factor, columns, pops, room, stack);
     stack.fill(0);
     refusals::answer(outcome)
 }

@@ -71,7 +71,7 @@ pub fn head(n: usize, mark: u64, limit: u64) -> JobHead {
     }
 }
 
-// What the lent slices must hold after a call: the result, then zeros; what they held before; or zeros alone.
+// What the lent slices must hold after a call, one of three: the result, then zeros; what they held before; or zeros alone.
 #[derive(Clone, Copy, Drop)]
 pub enum Held {
     Result,

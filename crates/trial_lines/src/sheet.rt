@@ -30,6 +30,7 @@ fn list<T: Copy, const N: usize, F: Fn(u64) -> T>(
     out
 }
 
+// Three uses of it, one for each width.
 pub fn longs(numbers: &Numbers, part: usize) -> Longs {
     list(numbers, part, |x| x)
 }

@@ -36,6 +36,7 @@ fn five_digits(head: &Head, first: usize) -> usize {
         .fold(0, |number, byte| number % 10000 * 10 + digit(*byte))
 }
 
+// The length of the text; like that of what is printed, but for the bound that it keeps.
 fn text_length(head: &Head) -> usize
     ensures { result ≤ 8448 }
 {

@@ -28,7 +28,8 @@ fn run_end(i: usize, to: usize) -> usize
 }
 
 // Writes the list of column j, its count and its gaps, from `at` on, and answers the place behind it. In the loop the rows before i are
-// written up to next, and `before` is the last of them, or j. A while: the place moves by as many rows as the run has.
+// written up to next, and `before` is the last of them, or j. A while: the place moves by as many rows as the run has. Rows and two
+// places, as write_gaps takes them.
 fn write_list(rows: &[u32], from: usize, to: usize, j: u32, bytes: &mut [u8], at: usize) -> usize
     requires { ListNear rows.now from to j at (2 ^ 61) }
     ensures { Wrote (encode (list_numbers j (slice from to rows.now))) bytes.old bytes.new at result }

@@ -18,12 +18,12 @@ use Rattle.check_judge.proofs.judge.Goals.{In_default, In_default-first_wrong_li
 -- ---- what the tests passed so far say of any plan that the slices hold
 
 unrepeated : (c : In_default) (plan : Plan)
-    → PlanAtStart c.args.job.head.n plan c.args.peak c.args.order.now c.args.pops.now c.args.fstarts.now c.args.frows.now
+    → PlanAtStart c.args.job.head.n plan c.args.peak c.args.order.now c.args.pops.now c.args.factor.starts.now c.args.factor.rows.now
     → column_repeated.test (plan_from (job_given c.args.job) plan) ≡ passed
 unrepeated c plan at-start = passes-16 (job_given c.args.job) plan at-start.stored c.first_repeat.ensures c.in_default.is
 
 right : (c : In_default-first_wrong_list) (plan : Plan)
-    → PlanAtStart c.args.job.head.n plan c.args.peak c.args.order.now c.args.pops.now c.args.fstarts.now c.args.frows.now
+    → PlanAtStart c.args.job.head.n plan c.args.peak c.args.order.now c.args.pops.now c.args.factor.starts.now c.args.factor.rows.now
     → list_wrong.test (plan_from (job_given c.args.job) plan) ≡ passed
 right c plan at-start =
     passes-17 (job_given c.args.job) c.requires.valid plan at-start

@@ -4,4 +4,4 @@ use Rattle.run_steps.proofs.Running.{Running}
 use Rattle.run_steps.proofs.steps.Given as goal
 
 abbrev pub invariant-loop-done : goal.invariant-loop-done
-invariant-loop-done l = Running l.n l.starts l.rows l.columns l.pops l.room l.initial.stack l.stack l.held l.done
+invariant-loop-done l = Running l.factor.n l.factor.starts.now l.factor.rows.now l.columns l.pops l.room l.initial.stack l.stack l.held l.done
