@@ -3,7 +3,7 @@
 -- Assumes nothing.
 use Rattle.std.proofs.Common.{rules, sym, ◌∙◌}
 use Rattle.job_laws.proofs.Outcomes.{early-passes-iff}
-use Rattle.refusals.proofs.Numbered.{error-numbered, done-numbered}
+use Rattle.refusals.proofs.Numbered.{error-numbered}
 use Rattle.lent_plan.proofs.Ways.{way-early}
 use Rattle.lent_plan.proofs.Made.{made-cleared}
 use Rattle.analysis.proofs.analyse.Goals as goal
@@ -25,8 +25,3 @@ returns-then-is_err c =
     let lengths = c.planned-plan.auto in
     let refused = error-numbered c.planned-plan.result (sym c.is_err.ensures.value ∙ c.if-is_err.true) in
     rw c.answer-answer.ensures (made-cleared c.planned-plan.ensures (search rules) refused c.clear_all.ensures)
-
-pub returns-else-is_err : goal.returns-else-is_err
-returns-else-is_err c =
-    let done = done-numbered c.planned-plan.result (sym c.is_err.ensures.value ∙ c.if-is_err.false) in
-    rw c.answer-answer.ensures (c.planned-plan.ensures.done done)

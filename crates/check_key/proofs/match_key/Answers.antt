@@ -9,11 +9,6 @@ use Rattle.check_numbers.proofs.Bytes.{handed_on}
 use Rattle.check_key.proofs.Keys.{size-differs, behind-size, mark-differs, behind-mark, lists-found}
 use Rattle.check_key.proofs.match_key.Goals as goal
 
-pub match_two-requires : goal.match_two-requires
-match_two-requires c =
-    let fit = numbers_fit (job_given c.args.job) c.requires in
-    record { first_fits = omega arith; second_fits = omega arith; inside = omega arith }
-
 pub returns-in_err-middle : goal.returns-in_err-middle
 returns-in_err-middle c =
     handed_on _ c.from_residual.ensures.1 ∙ size-differs (job_given c.args.job) _ c.match_two.ensures c.in_err-middle.was

@@ -1,25 +1,10 @@
 -- Proves that `match_gaps` compares all gaps: those of the rows before i agree, so the others are compared from k on.
 -- Assumes nothing.
 use mathlib.Core.Path.{◌∙◌}
-use native.Mathlib.Omega.{arith}
-use borrow.Author.Rules.{rules}
-use Rattle.write_gaps.proofs.Rows.{rows_all, gaps-next, row-above, rows_next, gaps-none}
+use Rattle.write_gaps.proofs.Rows.{gaps-next, rows_next, gaps-none}
 use Rattle.check_numbers.proofs.Bytes.{handed_on}
-use Rattle.check_numbers.proofs.Numbers.{left-all, left-number, differs-number, left-none}
+use Rattle.check_numbers.proofs.Numbers.{left-number, differs-number, left-none}
 use Rattle.check_numbers.proofs.match_gaps.Goals as goal
-
-pub loop-i-init : goal.loop-i-init
-loop-i-init c = record { left = rows_all c.requires.list; found = left-all c.requires.inside }
-
-pub bounds-rows-i : goal.bounds-rows-i
-bounds-rows-i c = let h = c.loop-i.invariant.left.inside in search rules
-
-pub overflow_sub-row : goal.overflow_sub-row
-overflow_sub-row c =
-    let h = row-above c.loop-i.invariant.left c.loop-i-test.true c.from-row.ensures in omega arith
-
-pub match_number-requires : goal.match_number-requires
-match_number-requires c = let h = c.from-row.ensures in record { fits = omega arith; inside = c.loop-i.invariant.found.inside }
 
 pub returns-in_err-k : goal.returns-in_err-k
 returns-in_err-k c =

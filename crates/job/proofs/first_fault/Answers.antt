@@ -9,7 +9,6 @@ use Rattle.papers.specs.Job.{Job, job_refusals, mark_unknown, limit_over, job_li
 use Rattle.refusals.proofs.Passed.{handed-on}
 use Rattle.job_laws.specs.Passed.{starts_test, rows_test}
 use Rattle.job_laws.proofs.Firsts.{first_passes, first-refuses, first-last, over-refuses, over-passes-iff}
-use Rattle.job_rows.proofs.Started.{started}
 use Rattle.job.proofs.first_fault.Goals as goal
 
 -- the refusals of a job's lists, which follow those of its numbers
@@ -62,9 +61,6 @@ pub returns-in_err-starts_fault : goal.returns-in_err-starts_fault
 returns-in_err-starts_fault c =
     rw (handed-on c.from_residual.result c.from_residual.ensures.1)
     (starts-refuse _ c.if-head-gt-MAX_COLUMNS.false c.if-head-gt-MAX_MARK.false c.if-head-gt-MAX_LIMIT.false c.in_err-starts_fault.ensures)
-
-pub rows_fault-requires : goal.rows_fault-requires
-rows_fault-requires c = started c.if-head-gt-MAX_COLUMNS.false c.in_ok-starts_fault.ensures
 
 pub returns : goal.returns
 returns c =

@@ -4,7 +4,7 @@
 use Rattle.std.proofs.Common.{refl, ap, ◌∙◌, arith}
 use Rattle.refusals.specs.Answers.{verdict_from}
 use Rattle.refusals.proofs.Numbered.{numbered}
-use Rattle.job_rows.proofs.Reading.{rows-begin, rows-end, row-found, row-next, columns-begin, columns-end, starts-long, starts-rise, rows-within, column-next, column-found}
+use Rattle.job_rows.proofs.Reading.{rows-end, row-found, row-next, columns-begin, columns-end, starts-long, starts-rise, rows-within, column-next, column-found}
 use Rattle.job_rows.proofs.rows_fault.Goals as goal
 
 pub columns-init : goal.columns-init
@@ -27,9 +27,6 @@ slice_bounds-column-start c = omega (arith, starts-rise c.requires c.columns-tes
 
 pub slice_bounds-column-end : goal.slice_bounds-column-end
 slice_bounds-column-end c = omega (arith, starts-rise c.requires c.columns-test.true, rows-within c.requires c.columns-test.true)
-
-pub loop-row-init : goal.loop-row-init
-loop-row-init c = (c.columns.invariant.0, rows-begin _ _ _)
 
 pub loop-row-preserved : goal.loop-row-preserved
 loop-row-preserved c =

@@ -4,21 +4,8 @@
 use native.Mathlib.Omega.{arith}
 use Rattle.std.proofs.Common.{◌+◌, ◌≤◌, ◌∙◌, ◌++◌, length, drop}
 use Rattle.list_laws.proofs.From.{cleared-from}
-use Rattle.lent.proofs.Alike.{part-long}
-use Rattle.lent_lists.proofs.Listings.{listable, some-listed, last_fits, parts-behind, parts-long, others-long, all_listed}
+use Rattle.lent_lists.proofs.Listings.{last_fits, parts-behind, parts-long, others-long, all_listed}
 use Rattle.lent_lists.proofs.list_columns.Goals as goal
-
-pub slice_bounds-column_lists-end-2 : goal.slice_bounds-column_lists-end-2
-slice_bounds-column_lists-end-2 c = part-long _ _ (omega (arith, c.requires.long))
-
-pub slice_bounds-column_lists-end-4 : goal.slice_bounds-column_lists-end-4
-slice_bounds-column_lists-end-4 c = part-long _ _ (omega (arith, c.requires.long))
-
-pub column_lists-done-requires : goal.column_lists-done-requires
-column_lists-done-requires c = listable c.requires
-
-pub returns-then-done-n : goal.returns-then-done-n
-returns-then-done-n c = some-listed c.requires c.column_lists-done.ensures c.if-done-n.true
 
 -- the rows of all columns fit
 pub offset_bounds-frows-last : goal.offset_bounds-frows-last

@@ -15,9 +15,6 @@ returns-then-pops-n c = short-pops _ _ _ _ _ _ c.if-parents-n.false c.if-order-n
 pub returns-then-starts-n : goal.returns-then-starts-n
 returns-then-starts-n c = short-starts _ _ _ _ _ _ c.if-parents-n.false c.if-order-n.false c.if-pops-n.false c.if-starts-n.true
 
-pub work_length-requires : goal.work_length-requires
-work_length-requires c = c.requires
-
 pub returns : goal.returns
 returns c =
     rw c.work_length.ensures

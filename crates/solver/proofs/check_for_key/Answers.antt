@@ -1,19 +1,8 @@
 -- Proves that `check_for_key` makes the check for the key's job: its columns and rows are within the program's sizes, so a second reading puts its
 -- lists whole at the start of two buffers, and there they are the job's lists.
 -- Assumes nothing.
-use mathlib.Core.Path.{sym}
-use native.Mathlib.Omega.{arith}
-use lib.Seq.{length-take-le}
 use Rattle.solver.proofs.Keys.{key-answer}
 use Rattle.solver.proofs.check_for_key.Goals as goal
-
-pub slice_bounds-check_in_buffers-end : goal.slice_bounds-check_in_buffers-end
-slice_bounds-check_in_buffers-end c =
-    sym (length-take-le _ _ (omega (arith, c.requires.columns-fit)))
-
-pub slice_bounds-check_in_buffers-end-2 : goal.slice_bounds-check_in_buffers-end-2
-slice_bounds-check_in_buffers-end-2 c =
-    sym (length-take-le _ _ (omega (arith, c.requires.rows_fit)))
 
 pub returns : goal.returns
 returns c =

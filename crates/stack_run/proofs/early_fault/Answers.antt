@@ -1,7 +1,6 @@
 -- Proves that `early_fault` answers the first test that refuses: it makes the tests in their order, and those before it pass.
 -- Assumes nothing.
 use Rattle.refusals.proofs.Passed.{handed-on}
-use Rattle.job_rows.proofs.Started.{started}
 use Rattle.stack_run.proofs.Outcomes.{run-many, run-starts, run-rows, run_short, run-passes}
 use Rattle.stack_run.proofs.early_fault.Goals as goal
 
@@ -11,9 +10,6 @@ returns-then-n-gt-MAX_COLUMNS c = λ room. rw c.refuse.ensures (run-many _ c.if-
 pub returns-in_err-starts_fault : goal.returns-in_err-starts_fault
 returns-in_err-starts_fault c = λ room.
     rw (handed-on c.from_residual.result c.from_residual.ensures.1) (run-starts _ c.if-n-gt-MAX_COLUMNS.false c.in_err-starts_fault.ensures)
-
-pub rows_fault-requires : goal.rows_fault-requires
-rows_fault-requires c = started c.if-n-gt-MAX_COLUMNS.false c.in_ok-starts_fault.ensures
 
 pub returns-in_err-rows_fault : goal.returns-in_err-rows_fault
 returns-in_err-rows_fault c = λ room.

@@ -2,17 +2,8 @@
 -- Assumes nothing.
 use mathlib.Core.Path.{refl}
 use native.Mathlib.Omega.{arith}
-use Rattle.write_gaps.proofs.Rows.{row-above, row_within, gaps-start, place-near, write-turn, gaps-stop}
+use Rattle.write_gaps.proofs.Rows.{row_within, place-near, write-turn, gaps-stop}
 use Rattle.write_gaps.proofs.write_gaps.Goals as goal
-
-pub loop-i-init : goal.loop-i-init
-loop-i-init c = gaps-start c.requires.list
-
-pub overflow_sub-row : goal.overflow_sub-row
-overflow_sub-row c = omega (arith, row-above c.loop-i.invariant.rows_left c.loop-i-test.true refl)
-
-pub overflow_cast-row : goal.overflow_cast-row
-overflow_cast-row c = omega (arith, row_within c.loop-i.invariant.rows_left c.loop-i-test.true refl)
 
 pub put-next-requires : goal.put-next-requires
 put-next-requires c =

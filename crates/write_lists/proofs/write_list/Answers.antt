@@ -5,17 +5,10 @@ use Prim.Native.Nat.{◌-◌}
 use mathlib.Core.Path.{refl}
 use native.Mathlib.Omega.{arith}
 use Rattle.bytes_laws.proofs.Numbers.{bytes-length}
-use Rattle.write_gaps.proofs.Rows.{gaps-start, place-near}
+use Rattle.write_gaps.proofs.Rows.{place-near}
 use Rattle.write_lists.proofs.Counted.{list-stop}
 use Rattle.write_lists.proofs.Runs.{run-list, run-turn}
 use Rattle.write_lists.proofs.write_list.Goals as goal
-
-pub put-next-requires : goal.put-next-requires
-put-next-requires c =
-    record { fits = omega (arith, c.requires.list.few); near = omega (arith, c.requires.near) }
-
-pub loop-i-init : goal.loop-i-init
-loop-i-init c = gaps-start c.requires.list
 
 pub write_run-next-requires : goal.write_run-next-requires
 write_run-next-requires c =

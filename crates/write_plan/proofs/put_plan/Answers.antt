@@ -4,9 +4,6 @@ use native.Mathlib.Omega.{arith}
 use Rattle.write_plan.proofs.Planned.{few, place-near, behind-key, behind-steps, behind-lists, plan-put}
 use Rattle.write_plan.proofs.put_plan.Goals as goal
 
-pub put_key-key-requires : goal.put_key-key-requires
-put_key-key-requires c = c.requires.passes
-
 pub write_steps-steps-requires : goal.write_steps-steps-requires
 write_steps-steps-requires c =
     let w = c.requires in

@@ -1,12 +1,8 @@
 -- Proves that `write_steps` stores all steps, since storing those behind the first `done` at next leaves what storing all of them leaves.
 -- Assumes nothing.
 use Rattle.std.proofs.Common.{arith}
-use Rattle.list_laws.proofs.Writing.{writes-all}
 use Rattle.write_plan.proofs.Steps.{column-near, pops-near, write-turn, write-stop}
 use Rattle.write_plan.proofs.write_steps.Goals as goal
-
-pub loop-done-init : goal.loop-done-init
-loop-done-init c = record { paired = c.requires.paired; written = writes-all; few = c.requires.few }
 
 pub put-next-requires : goal.put-next-requires
 put-next-requires c =
