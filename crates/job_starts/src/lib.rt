@@ -9,7 +9,8 @@ ghost use Rattle.job_laws.specs.Passed.{starts_test};
 use refusals::{Refusal, Refused, refuse};
 
 // Test 4, in this order: not n + 1 starts, or the first is not 0; the first column that would end before it begins; the last start is not
-// the number of rows. Two slices and no `Lists`: before this test they are none. One pass over the columns: in the loop no start of the first `done` columns falls.
+// the number of rows. Two slices and no `Lists`: before this test they are none. One pass over the columns: in the loop no start of the
+// first `done` columns falls.
 pub fn starts_fault(n: u64, starts: &[u64], rows: &[u32]) -> Result<(), Refused>
     requires { n ≤ max_columns }
     ensures { verdict_from result ≡ starts_test n starts.now rows.now }

@@ -5,8 +5,8 @@ ghost use Rattle.std.specs.Prelude.{◌≡◌};
 ghost use Rattle.papers.specs.Analysis.{Lent, all_zero};
 ghost use Rattle.lent.specs.Six.{six_slices};
 
-// Sets all of each slice to zero. Six parameters, here and above: a struct of six `&mut` slices would have to promise, in each function that
-// takes it, that each keeps its ghost name.
+// Sets all of each slice to zero. Six parameters, here and above: a struct of six `&mut` slices would have to promise, in each function
+// that takes it, that each keeps its ghost name.
 pub fn clear_all(
     parents: &mut [u32],
     order: &mut [u32],

@@ -21,8 +21,8 @@ fn keep_row(rows: &mut [u32], i: usize, row: u64)
 }
 
 // Reads `count` rows of column j by their gaps, from `at` on. Keeps them from place t on while there is room, and answers the place behind
-// them, kept or not, and the place in the plan. In the loop the rows before place `total` are read, `row` is the last of them, or j, and the
-// next starts at k.
+// them, kept or not, and the place in the plan. In the loop the rows before place `total` are read, `row` is the last of them, or j, and
+// the next starts at k.
 fn read_rows(
     plan: &[u8],
     at: usize,

@@ -6,8 +6,8 @@ ghost use Rattle.papers.specs.Numbers.{number_read_from};
 
 use papers::NumberFault;
 
-// Reads the number that starts at `at`, and answers its value and the place behind it. In the loop low is the value of the groups before i, w the weight of the next, and k says how many
-// may still come.
+// Reads the number that starts at `at`, and answers its value and the place behind it. In the loop low is the value of the groups before i,
+// w the weight of the next, and k says how many may still come.
 pub fn read_number(s: &[u8], at: usize) -> Result<(u64, usize), NumberFault>
     ensures { result ≡ number_read_from s.now at }
 {

@@ -12,8 +12,8 @@ fn most_short(left: usize, bytes: usize, t: usize, room: usize) -> usize
 }
 
 // Reads the rows behind row b whose gaps have one group, up to the first gap that is 0 or longer, or for which there is no room. Keeps them
-// from place t on, and answers how many they are, and the last of them, or b. Most rows are read here. In the loop the first i of `left` are
-// kept, and `last` is the last of them, or b. Rows only rise, so if the last is in its range, all are.
+// from place t on, and answers how many they are, and the last of them, or b. Most rows are read here. In the loop the first i of `left`
+// are kept, and `last` is the last of them, or b. Rows only rise, so if the last is in its range, all are.
 fn short_rows(plan: &[u8], at: usize, b: u64, left: u64, t: usize, rows: &mut [u32]) -> (usize, u64)
     requires { ShortAsked plan.now at b left }
     ensures { ShortRead plan.now b left at t rows.old rows.new result.0 result.1 }
@@ -32,8 +32,8 @@ fn short_rows(plan: &[u8], at: usize, b: u64, left: u64, t: usize, rows: &mut [u
 }
 
 // Reads the rows of column j as read_rows does, if each gap has one group or two and there is room for all, and answers the place behind
-// them. What it has kept of any other list is where read_rows will keep its own rows. All calls in the loop are put in line, so its counters
-// stay in registers.
+// them. What it has kept of any other list is where read_rows will keep its own rows. All calls in the loop are put in line, so its
+// counters stay in registers.
 pub fn quick_rows(
     plan: &[u8],
     at: usize,
