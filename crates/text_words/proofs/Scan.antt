@@ -15,6 +15,10 @@ use Rattle.text_laws.proofs.DecimalWords.{decimal-word-iff}
 use Rattle.text_words.specs.Words.{DigitsAt, DigitsRead}
 
 module _ (text : List ℕ) (at : ℕ) where
+  -- the bytes that are read are a part of the text
+  pub part_byte : (most i : ℕ) → i < most → get_or (take (at + most - at) (drop at text)) i 0 ≡ get_or text (at + i) 0
+  part_byte most i h = get_or-take (at + most - at) (drop at text) i 0 (omega arith) ∙ get_or-drop at text i 0
+
   -- no digit yet
   pub digits-start : at ≤ length text → DigitsRead text at 0 0
   unfolding value_of

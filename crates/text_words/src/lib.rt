@@ -21,12 +21,11 @@ fn read_digits(text: &[u8], at: usize) -> (usize, u64)
 {
     let most = (text.len() - at).min(program_sizes::MAX_DIGITS);
     let mut value = 0;
-    for i in 0..most {
-        let b = text[at + i];
+    for (i, b) in text[at..at + most].iter().enumerate() {
         if !b.is_ascii_digit() {
             return (i, value);
         }
-        value = 10 * value + u64::from(b - b'0');
+        value = 10 * value + u64::from(*b - b'0');
     }
     (most, value)
 }

@@ -1,7 +1,7 @@
 -- Proves that `read_digits` reads the digits: the first i bytes are digits, and value is what they make.
 -- Assumes nothing.
-use Rattle.std.proofs.Common.{arith, refl}
-use Rattle.text_words.proofs.Scan.{digits-start, digits-fit, digits-turn}
+use Rattle.std.proofs.Common.{arith}
+use Rattle.text_words.proofs.Scan.{part_byte, digits-start, digits-fit, digits-turn}
 use Rattle.text_words.proofs.read_digits.Goals as goal
 
 pub loop-i-init : goal.loop-i-init
@@ -18,4 +18,5 @@ overflow_add-value c =
 
 pub loop-i-preserved : goal.loop-i-preserved
 loop-i-preserved c =
-    rw c.from.ensures (digits-turn _ _ c.loop-i.invariant (omega arith) (omega arith) refl c.if-not-is_ascii_digit.ensures.cases)
+    let byte = part_byte c.args.text.now c.args.at c.min-most.result c.loop-i.i (omega arith) in
+    rw c.from.ensures (digits-turn _ _ c.loop-i.invariant (omega arith) (omega arith) byte c.if-not-is_ascii_digit.ensures.cases)
