@@ -1,15 +1,16 @@
 -- Proves that i rows whose gaps have one byte take i bytes, and that all are in their range if the last is, since they ascend.
 -- Assumes nothing.
-use Prim.Native.Nat.{ℕ, ◌+◌, ◌-◌, ◌<◌, ◌≤◌}
-use mathlib.Core.List.{List, [], ◌∷◌, ◌++◌}
-use mathlib.Core.Path.{◌≡◌, refl, ap}
-use native.Mathlib.Omega.{arith}
-use lib.ListN.{length, get_or, set}
+use Rattle.std.proofs.Common.{ℕ, ◌+◌, ◌-◌, ◌<◌, ◌≤◌, ◌≡◌, refl, ap, ◌∙◌, List, [], ◌∷◌, ◌++◌, arith}
+use Rattle.std.proofs.Common.{length, get_or, set, take, drop, get_or-take, get_or-drop}
 use Rattle.list_laws.proofs.Stores.{sets_more}
 use Rattle.read_fields.proofs.Answers.{one-group, field_is}
 use Rattle.read_fields.proofs.Onto.{length_more}
 use Rattle.read_rows.specs.Rows.{RowsRead, ShortRead}
 use Rattle.read_rows.proofs.Rows.{rows_start, rows-one, rows_both}
+
+-- the bytes that are read are a part of the plan
+pub part_byte : (s : List ℕ) (at most i : ℕ) → i < most → get_or (take (at + most - at) (drop at s)) i 0 ≡ get_or s (at + i) 0
+part_byte s at most i h = get_or-take (at + most - at) (drop at s) i 0 (omega arith) ∙ get_or-drop at s i 0
 
 -- a byte whose high bit is not set
 pub short-gap : {gap : ℕ} → gap ≤ 127 → gap < 128

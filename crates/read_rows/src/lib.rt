@@ -20,8 +20,8 @@ fn short_rows(plan: &[u8], at: usize, b: u64, left: u64, t: usize, rows: &mut [u
 {
     let most = most_short(left as usize, plan.len() - at, t, rows.len());
     let mut last = b;
-    for i in 0..most {
-        let gap = u64::from(plan[at + i]);
+    for (i, byte) in plan[at..at + most].iter().enumerate() {
+        let gap = u64::from(*byte);
         if gap == 0 || 127 < gap {
             return (i, last);
         }
