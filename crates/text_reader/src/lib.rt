@@ -21,21 +21,12 @@ pub fn read_job(
         rows.new result }
 {
     if more || program_sizes::INPUT_BYTES < text.len() {
-        return Err(Fault {
-            refusal: Refusal::OverProgramSizes,
-            place: 0,
-        });
+        return Err(text_rows::fault_at_line(Refusal::OverProgramSizes, 0));
     }
-    let bad_head = Fault {
-        refusal: Refusal::BadText,
-        place: 1,
-    };
+    let bad_head = text_rows::fault_at_line(Refusal::BadText, 1);
     let (head, next) = text_head::read_head(text).ok_or(bad_head)?;
     if (program_sizes::COLUMNS as u64) < head.n {
-        return Err(Fault {
-            refusal: Refusal::OverProgramSizes,
-            place: 1,
-        });
+        return Err(text_rows::fault_at_line(Refusal::OverProgramSizes, 1));
     }
     let count = text_rows::read_lines(text, next, head.n, starts, rows)?;
     Ok((head, count))

@@ -9,10 +9,10 @@ use Rattle.text_reader.proofs.read_job.Goals as goal
 
 pub returns-then-more : goal.returns-then-more
 returns-then-more c =
-    elim c.then-more.branch [
+    rw c.fault_at_line.ensures (elim c.then-more.branch [
       | then-more-via-then-more w ↦ told_more w.if-more.true
       | then-more-via-else-more+then-text-gt-INPUT_BYTES w ↦ told-long w.if-more.false w.if-text-gt-INPUT_BYTES.true
-    ]
+    ])
 
 pub returns-in_err-head : goal.returns-in_err-head
 returns-in_err-head c =
@@ -21,8 +21,8 @@ returns-in_err-head c =
 
 pub returns-then-head : goal.returns-then-head
 returns-then-head c =
-    told-columns c.if-more.false c.if-text-gt-INPUT_BYTES.false
-    (told-head (rw c.in_ok-head.ensures.ok_part at c.read_head.ensures)) c.if-head.true
+    rw c.fault_at_line-then-head.ensures (told-columns c.if-more.false c.if-text-gt-INPUT_BYTES.false
+    (told-head (rw c.in_ok-head.ensures.ok_part at c.read_head.ensures)) c.if-head.true)
 
 pub read_lines-requires : goal.read_lines-requires
 read_lines-requires c =

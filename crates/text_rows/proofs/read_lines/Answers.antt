@@ -16,8 +16,8 @@ returns-in_err-count c =
 
 pub returns-then-total-gt-PATTERN_ROWS : goal.returns-then-total-gt-PATTERN_ROWS
 returns-then-total-gt-PATTERN_ROWS c =
-    lines-over c.loop-j.invariant (rw c.in_ok-count.ensures.ok_part at c.read_line.ensures) c.requires.size c.loop-j-test.true
-    c.if-total-gt-PATTERN_ROWS.true
+    rw c.fault_at_line.ensures (lines-over c.loop-j.invariant (rw c.in_ok-count.ensures.ok_part at c.read_line.ensures) c.requires.size
+    c.loop-j-test.true c.if-total-gt-PATTERN_ROWS.true)
 
 pub loop-j-preserved : goal.loop-j-preserved
 loop-j-preserved c =
@@ -25,7 +25,8 @@ loop-j-preserved c =
     c.if-total-gt-PATTERN_ROWS.false refl
 
 pub returns-then-k-text : goal.returns-then-k-text
-returns-then-k-text c = lines_left c.loop-j.invariant c.requires.size c.loop-j-test.false c.if-k-text.true
+returns-then-k-text c =
+    rw c.fault_at_line-then-k-text.ensures (lines_left c.loop-j.invariant c.requires.size c.loop-j-test.false c.if-k-text.true)
 
 pub returns : goal.returns
 returns c = all-first (lines-done c.loop-j.invariant c.requires.size c.loop-j-test.false c.if-k-text.false)
