@@ -14,6 +14,7 @@ pub fn read_number(s: &[u8], at: usize) -> Result<(u64, usize), NumberFault>
     let mut low: u64 = 0;
     let mut w: u64 = 1;
     let mut k = papers::MAX_GROUPS;
+    // By index: `at` may lie behind the end, where no part of s begins.
     for i in at..s.len() {
         if k == 0 {
             return Err(NumberFault::TooLong);
