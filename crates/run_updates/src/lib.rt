@@ -17,7 +17,7 @@ fn held_column(n: u64, stack: &[u32], place: u64) -> u64
     requires { PlaceHeld n stack.now place }
     ensures { HeldColumn n stack.now place result }
 {
-    stack[place as usize - 1] as u64
+    u64::from(stack[place as usize - 1])
 }
 
 // Tests whether every row of every popped update is in the front of the column, from the top down. In the loop the updates at the
