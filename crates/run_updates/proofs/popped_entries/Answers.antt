@@ -10,15 +10,13 @@ overflow_add-total c =
     let asked = c.requires in
     omega (
       arith,
-      added-within _ _ _ _ c.loop-place.invariant c.loop-place-test.true c.from.ensures
-          c.entries_of-total.ensures,
+      added-within _ _ _ _ c.loop-place.invariant c.loop-place-test.true c.from.ensures c.entries_of-total.ensures,
       popped-small _ _ _ asked.tested asked.kept c.args.pops,
     )
 
 pub loop-place-preserved : goal.loop-place-preserved
 loop-place-preserved c =
-    added_next _ _ _ _ c.loop-place.invariant c.loop-place-test.true c.from.ensures
-    c.entries_of-total.ensures
+    added_next _ _ _ _ c.loop-place.invariant c.loop-place-test.true c.from.ensures c.entries_of-total.ensures
 
 pub returns : goal.returns
 returns c = added-end _ _ _ _ c.loop-place.invariant c.loop-place-test.false

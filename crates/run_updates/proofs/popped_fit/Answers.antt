@@ -1,6 +1,5 @@
 -- Proves that `popped_fit` tests all popped updates: those from `place` on are in the front, so the others decide.
 -- Assumes nothing.
-use Prim.Native.Nat.{◌-◌}
 use native.Mathlib.Omega.{arith}
 use Rattle.run_front.proofs.Columns.{column-ascends}
 use Rattle.run_updates.proofs.Popped.{looked-end, looked-next, looked-outside}
@@ -10,10 +9,11 @@ pub stands_in-requires : goal.stands_in-requires
 stands_in-requires c =
     let asked = c.requires in
     let within = c.loop-place.invariant.within in
-    let top = asked.kept.columns (c.loop-place.place - 1) (omega (arith, c.loop-place-test.true)) in
     record {
       front-ascends = rw c.rows_of-front.ensures (column-ascends asked.tested asked.column);
-      update-ascends = rw c.rows_of-update.ensures (column-ascends asked.tested (rw c.from.ensures top));
+      update-ascends =
+          rw c.rows_of-update.ensures
+          (column-ascends asked.tested (rw c.from.ensures (asked.kept.columns _ (omega (arith, c.loop-place-test.true)))));
     }
 
 pub loop-place-preserved : goal.loop-place-preserved
