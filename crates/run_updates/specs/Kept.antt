@@ -36,7 +36,7 @@ pub record Kept (n : ℕ) (starts rows stack : List ℕ) (held : Held) : Type 0 
   pub columns : AllColumns n held.count stack
   pub entries-are : held.entries ≡ sum (entries (factor_of n starts rows) (held_in_order held.count stack))
 
--- ---- what the functions require and promise
+-- ---- what the functions require
 
 -- the step pops no more updates than are held
 pub record PopsHeld (n : ℕ) (starts rows stack : List ℕ) (held : Held) (pops : ℕ) : Type 0 where
