@@ -27,8 +27,8 @@ pub fn step_fault(
         factor.entry.rows.now columns.now pops.now room []) (suc done)
         (state_of held stack.now) }
 {
-    let column = columns[done as usize] as u64;
-    let off = pops[done as usize] as u64;
+    let column = u64::from(columns[done as usize]);
+    let off = u64::from(pops[done as usize]);
     if column < 1 {
         return Err(Refusal::ValueOutOfRange);
     }

@@ -96,7 +96,7 @@ pub fn stands_in(column: u64, rows: &[u32], update: &[u32]) -> bool
     let mut i = 0;
     while i < update.len() {
         let row = update[i];
-        if row as u64 == column {
+        if u64::from(row) == column {
             i += 1;
         } else {
             let place = seek(rows, row, found);

@@ -20,10 +20,10 @@ pub fn take_step(
         stack.new result }
 {
     let column = columns[done as usize];
-    let off = pops[done as usize] as u64;
+    let off = u64::from(pops[done as usize]);
     let popped = run_updates::popped_entries(factor, stack, held, off);
-    let room = run_updates::room_in_use(factor, stack, held, off, column as u64);
-    let update = run_front::entries_of(factor, column as u64);
+    let room = run_updates::room_in_use(factor, stack, held, off, u64::from(column));
+    let update = run_front::entries_of(factor, u64::from(column));
     let next = run_held::advance(held, off, popped, update, room);
     if update == 0 {
         return next;

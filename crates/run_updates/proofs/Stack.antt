@@ -29,10 +29,6 @@ module _ (stack : List ℕ) where
   held-top zero h = absurd (omega arith)
   held-top (suc k) h = let e : suc k - 1 ≡ k = omega arith in rw e
 
-  -- the column at the place below `top`, counted from 1
-  pub held-below : {u end top : ℕ} → end < top → u ≡ get_or stack (top - 1 + 1 - 1) 0 → u ≡ get_or stack (top - 1) 0
-  held-below {top = top} h e = let same : top - 1 + 1 - 1 ≡ top - 1 = omega arith in rw same at e
-
   -- the columns that stay after p pops
   pub held-drop : (p k : ℕ) → p ≤ k → drop p (held_in_order k stack) ≡ held_in_order (k - p) stack
   unfolding held_in_order

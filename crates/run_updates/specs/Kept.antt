@@ -1,6 +1,6 @@
 -- Defines how the lent stack list and the record hold the updates of a run.
 -- Assumes nothing.
-use Rattle.std.specs.Prelude.{ℕ, zero, suc, ◌-◌, ◌<◌, ◌≤◌, ◌≡◌, List, [], ◌∷◌, length, get_or}
+use Rattle.std.specs.Prelude.{ℕ, zero, suc, ◌<◌, ◌≤◌, ◌≡◌, List, [], ◌∷◌, length, get_or}
 use Rattle.papers.specs.Lists.{sum}
 use Rattle.papers.specs.Run.{RunCall, State, entries}
 use Rattle.column_laws.specs.Tested.{Tested}
@@ -36,18 +36,7 @@ pub record Kept (n : ℕ) (starts rows stack : List ℕ) (held : Held) : Type 0 
   pub columns : AllColumns n held.count stack
   pub entries-are : held.entries ≡ sum (entries (factor_of n starts rows) (held_in_order held.count stack))
 
--- ---- what the functions require and promise
-
--- the stack list holds columns up to this place, counted from 1
-pub record PlaceHeld (n : ℕ) (stack : List ℕ) (place : ℕ) : Type 0 where
-  pub columns : AllColumns n place stack
-  pub low : 1 ≤ place
-  pub listed : place ≤ length stack
-
--- r is the column at that place
-pub record HeldColumn (n : ℕ) (stack : List ℕ) (place r : ℕ) : Type 0 where
-  pub is : r ≡ get_or stack (place - 1) 0
-  pub column : Column n r
+-- ---- what the functions require
 
 -- the step pops no more updates than are held
 pub record PopsHeld (n : ℕ) (starts rows stack : List ℕ) (held : Held) (pops : ℕ) : Type 0 where

@@ -7,18 +7,10 @@ ghost use Rattle.papers.specs.Lists.{sum};
 ghost use Rattle.papers.specs.Job.{column_of};
 ghost use Rattle.papers.specs.Room.{room_at};
 ghost use Rattle.papers.specs.Run.{entries, fits};
-ghost use Rattle.run_updates.specs.Kept.{held_in_order, factor_of, PlaceHeld, HeldColumn, PopsHeld, FrontOver};
+ghost use Rattle.run_updates.specs.Kept.{held_in_order, factor_of, PopsHeld, FrontOver};
 
 use run_front::Factor;
 use run_held::Held;
-
-// The column of an update held, by its place from the bottom, counted from 1.
-fn held_column(n: u64, stack: &[u32], place: u64) -> u64
-    requires { PlaceHeld n stack.now place }
-    ensures { HeldColumn n stack.now place result }
-{
-    stack[place as usize - 1] as u64
-}
 
 // Tests whether every row of every popped update is in the front of the column, from the top down. In the loop the updates at the
 // places from `place` on pass.
@@ -30,7 +22,7 @@ pub fn popped_fit(factor: Factor<'_>, stack: &[u32], held: Held, pops: u64, colu
     let front = run_front::rows_of(factor, column);
     let count = held.count;
     for place in (count - pops..count).rev() {
-        let update = run_front::rows_of(factor, held_column(factor.n, stack, place + 1));
+        let update = run_front::rows_of(factor, u64::from(stack[place as usize]));
         if !run_front::stands_in(column, front, update) {
             return false;
         }
@@ -47,7 +39,7 @@ pub fn popped_entries(factor: Factor<'_>, stack: &[u32], held: Held, pops: u64) 
     let count = held.count;
     let mut total = 0;
     for place in (count - pops..count).rev() {
-        total += run_front::entries_of(factor, held_column(factor.n, stack, place + 1));
+        total += run_front::entries_of(factor, u64::from(stack[place as usize]));
     }
     total
 }
@@ -62,6 +54,6 @@ pub fn room_in_use(factor: Factor<'_>, stack: &[u32], held: Held, pops: u64, col
     if pops == 0 {
         return held.entries + front;
     }
-    let top = run_front::entries_of(factor, held_column(factor.n, stack, held.count));
+    let top = run_front::entries_of(factor, u64::from(stack[held.count as usize - 1]));
     held.entries - top + front
 }

@@ -42,7 +42,7 @@ fn write_gaps(rows: &[u32], from: usize, to: usize, b: u32, bytes: &mut [u8], at
     let mut before = b;
     for i in from..to {
         let row = rows[i];
-        next = write_number::put(bytes, next, (row - before) as u64);
+        next = write_number::put(bytes, next, u64::from(row - before));
         before = row;
     }
     next

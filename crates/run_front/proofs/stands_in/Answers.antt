@@ -4,13 +4,13 @@
 use Rattle.run_front.proofs.Sweeps.{swept-end, swept-column, swept-alike, swept-missing}
 use Rattle.run_front.proofs.stands_in.Goals as goal
 
-pub loop-i-preserved-then-row-column : goal.loop-i-preserved-then-row-column
-loop-i-preserved-then-row-column c = swept-column c.loop-i.invariant c.loop-i-test.true c.requires.update-ascends c.if-row-column.true
+pub loop-i-preserved-then-from-column : goal.loop-i-preserved-then-from-column
+loop-i-preserved-then-from-column c = swept-column c.loop-i.invariant c.loop-i-test.true c.requires.update-ascends (rw c.from.ensures at c.if-from-column.true)
 
 pub returns-then-same-eq0 : goal.returns-then-same-eq0
 returns-then-same-eq0 c =
     swept-missing c.loop-i.invariant c.loop-i-test.true c.requires.front-ascends
-    c.if-row-column.false
+    (rw c.from.ensures at c.if-from-column.false)
     c.seek-place.ensures (rw c.if-same-eq0.true at c.alike-same.ensures)
 
 pub loop-i-preserved : goal.loop-i-preserved

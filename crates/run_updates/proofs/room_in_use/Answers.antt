@@ -24,8 +24,7 @@ returns-then-pops-eq0 c =
 
 pub overflow_sub-result : goal.overflow_sub-result
 overflow_sub-result c =
-    top_within c.requires (omega arith) c.held_column.ensures.is
-    c.entries_of-top.ensures
+    top_within c.requires (omega arith) c.from.ensures c.entries_of-top.ensures
 
 pub overflow_add-result-2 : goal.overflow_add-result-2
 overflow_add-result-2 c = omega (arith, fits (goal.at.overflow_add-result-2 c).After-entries-front)
@@ -33,4 +32,4 @@ overflow_add-result-2 c = omega (arith, fits (goal.at.overflow_add-result-2 c).A
 pub returns : goal.returns
 returns c =
     room-on-top c.requires c.rows_of.ensures c.entries-front.ensures
-    (omega arith) c.held_column.ensures.is c.entries_of-top.ensures
+    (omega arith) c.from.ensures c.entries_of-top.ensures

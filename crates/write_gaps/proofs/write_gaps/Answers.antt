@@ -9,13 +9,13 @@ pub put-next-requires : goal.put-next-requires
 put-next-requires c =
     let loop = c.loop-i in
     record {
-      fits = omega (arith, row_within loop.invariant.rows_left c.loop-i-test.true refl);
+      fits = omega (arith, c.from.ensures, row_within loop.invariant.rows_left c.loop-i-test.true refl);
       near = omega (arith, place-near loop.invariant c.requires.list, c.requires.near);
     }
 
 pub loop-i-preserved : goal.loop-i-preserved
 loop-i-preserved c =
-    write-turn c.loop-i.invariant c.loop-i-test.true refl c.put-next.ensures
+    write-turn c.loop-i.invariant c.loop-i-test.true refl (rw c.from.ensures at c.put-next.ensures)
 
 pub returns : goal.returns
 returns c = gaps-stop c.loop-i.invariant c.loop-i-test.false
