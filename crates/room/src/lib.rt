@@ -60,7 +60,7 @@ pub struct Needs {
     pub peak: u64,
 }
 
-// What all steps need, each with its column's rows and its pops. In the loop the first k steps are done, and depth updates are held.
+// What all steps need, each with its column's rows and its pops. In the loop the steps that came are done: depth updates are held.
 pub fn peak(factor: &[u64], order: &[u32], pops: &[u32], below: &mut [u64]) -> Needs
     requires { PeakGiven factor.now order.now pops.now below.old }
     ensures { result.peak ≡ peak_of (rows_at factor.now order.now) (pops_of_step pops.now)
@@ -69,8 +69,8 @@ pub fn peak(factor: &[u64], order: &[u32], pops: &[u32], below: &mut [u64]) -> N
     below[0] = 0;
     let mut depth = 0;
     let mut most: u64 = 0;
-    for (k, column) in order.iter().enumerate() {
-        let p = pops[k] as usize;
+    for (column, popped) in order.iter().zip(pops) {
+        let p = *popped as usize;
         let rows = rows_of(factor, *column as usize);
         most = most.max(in_use(&below[..], depth, p, rows));
         depth = hold(below, depth, p, rows);

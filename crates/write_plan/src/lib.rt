@@ -14,15 +14,15 @@ use job::Job;
 use lists::Lists;
 use refusals::Refused;
 
-// Writes the steps from `at` on, and answers the place behind them. In the loop the first `done` are written up to next.
+// Writes the steps from `at` on, and answers the place behind them. In the loop those that came are written up to next.
 pub fn write_steps(order: &[u32], pops: &[u32], bytes: &mut [u8], at: usize) -> usize
     requires { StepsNear order.now pops.now at }
     ensures { Wrote (encode (step_numbers (step_pairs order.now pops.now))) bytes.old bytes.new at result }
 {
     let mut next = at;
-    for done in 0..order.len() {
-        next = write_number::put(bytes, next, u64::from(order[done]));
-        next = write_number::put(bytes, next, u64::from(pops[done]));
+    for (column, popped) in order.iter().zip(pops) {
+        next = write_number::put(bytes, next, u64::from(*column));
+        next = write_number::put(bytes, next, u64::from(*popped));
     }
     next
 }
