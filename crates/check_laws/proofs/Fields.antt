@@ -118,7 +118,8 @@ module _ (n : ℕ) (s : List ℕ) where
         there r (at-number h e) = bad-number r h e
         there r (behind e l) = fifteen (rw e at r) l
 
-        either : {at : ℕ} → Stands s at (Err TooLong) ⊎ Stands s at (Err NotShortest) → (number_read_from s at ≡ Err TooLong) ⊎ (number_read_from s at ≡ Err NotShortest)
+        either : {at : ℕ} → Stands s at (Err TooLong) ⊎ Stands s at (Err NotShortest)
+            → (number_read_from s at ≡ Err TooLong) ⊎ (number_read_from s at ≡ Err NotShortest)
         either (inl e) = inl ((number-stands-iff s _ _).1 e)
         either (inr e) = inr ((number-stands-iff s _ _).1 e)
 

@@ -15,7 +15,7 @@ use Rattle.papers.specs.Numbers.{bytes_of}
 use Rattle.list_laws.proofs.Tests.{Test, passes, fails, test, below_or}
 use Rattle.groups.proofs.Written.{bytes_small}
 use Rattle.check_numbers.specs.Matches.{match_from, not_the_key}
-use Rattle.std.specs.Prelude.{Result, Ok, Err, IsErrAnd}
+use Rattle.std.specs.Prelude.{Result, Ok, Err}
 use Rattle.refusals.specs.declared.Fault.{Fault}
 
 pub begins-inj : {a b : ℕ} → ◌≡◌ {A = Result ℕ Fault} (Ok a) (Ok b) → a ≡ b
@@ -23,11 +23,6 @@ begins-inj e = cc
 
 pub begins-differs : {r : Result ℕ Fault} {next : ℕ} {fault : Fault} → r ≡ Ok next → r ≡ Err fault → ⊥
 begins-differs e f = let z : ◌≡◌ {A = ℕ} 0 1 = cc in omega arith
-
--- what `?` hands on is the fault that came in
-pub handed_on : {T E : Type 0} {fault : E} (r : Result T E) → IsErrAnd r (λ y. y ≡ fault) → r ≡ Err fault
-handed_on (Ok x) h = absurd h
-handed_on (Err y) h = ap (λ z. Err z) h
 
 -- ---- the first byte
 

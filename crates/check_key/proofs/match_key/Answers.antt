@@ -5,13 +5,13 @@ use native.Mathlib.Omega.{arith}
 use Rattle.job.specs.Given.{job_given}
 use Rattle.column_laws.proofs.Testing.{tested}
 use Rattle.key.proofs.Written.{numbers_fit}
-use Rattle.check_numbers.proofs.Bytes.{handed_on}
+use Rattle.refusals.proofs.Passed.{handed-on}
 use Rattle.check_key.proofs.Keys.{size-differs, behind-size, mark-differs, behind-mark, lists-found}
 use Rattle.check_key.proofs.match_key.Goals as goal
 
 pub returns-in_err-middle : goal.returns-in_err-middle
 returns-in_err-middle c =
-    handed_on _ c.from_residual.ensures.1 ∙ size-differs (job_given c.args.job) _ c.match_two.ensures c.in_err-middle.was
+    handed-on _ c.from_residual.ensures.1 ∙ size-differs (job_given c.args.job) _ c.match_two.ensures c.in_err-middle.was
 
 pub match_two-requires-2 : goal.match_two-requires-2
 match_two-requires-2 c =
@@ -25,7 +25,7 @@ match_two-requires-2 c =
 
 pub returns-in_err-next : goal.returns-in_err-next
 returns-in_err-next c =
-    handed_on _ c.from_residual-in_err-next.ensures.1
+    handed-on _ c.from_residual-in_err-next.ensures.1
     ∙ mark-differs (job_given c.args.job) _ c.match_two.ensures c.in_ok-middle.was c.match_two-2.ensures c.in_err-next.was
 
 pub match_lists-requires : goal.match_lists-requires

@@ -2,14 +2,14 @@
 -- Assumes nothing.
 use mathlib.Core.Path.{◌∙◌}
 use Rattle.write_gaps.proofs.Rows.{gaps-next, rows_next, gaps-none}
-use Rattle.check_numbers.proofs.Bytes.{handed_on}
+use Rattle.refusals.proofs.Passed.{handed-on}
 use Rattle.check_numbers.proofs.Numbers.{left-number, differs-number, left-none}
 use Rattle.check_numbers.proofs.match_gaps.Goals as goal
 
 pub returns-in_err-k : goal.returns-in_err-k
 returns-in_err-k c =
     let gaps = c.loop-i.invariant in
-    handed_on _ c.from_residual.ensures.1 ∙ differs-number gaps.found (gaps-next gaps.left c.loop-i-test.true c.from-row.ensures)
+    handed-on _ c.from_residual.ensures.1 ∙ differs-number gaps.found (gaps-next gaps.left c.loop-i-test.true c.from-row.ensures)
     c.match_number.ensures c.in_err-k.was
 
 pub loop-i-preserved : goal.loop-i-preserved

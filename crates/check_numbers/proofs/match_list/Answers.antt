@@ -2,14 +2,14 @@
 -- Assumes nothing.
 use mathlib.Core.Path.{◌∙◌}
 use Rattle.write_lists.proofs.Counted.{list-is}
-use Rattle.check_numbers.proofs.Bytes.{handed_on}
+use Rattle.refusals.proofs.Passed.{handed-on}
 use Rattle.check_numbers.proofs.Numbers.{left-all, left-number, differs-number, left-last}
 use Rattle.check_numbers.proofs.match_list.Goals as goal
 
 pub returns-in_err-next : goal.returns-in_err-next
 returns-in_err-next c =
     let asked = c.requires in
-    handed_on _ c.from_residual.ensures.1 ∙ differs-number (left-all asked.inside) (list-is asked.list) c.match_number.ensures c.in_err-next.was
+    handed-on _ c.from_residual.ensures.1 ∙ differs-number (left-all asked.inside) (list-is asked.list) c.match_number.ensures c.in_err-next.was
 
 pub match_gaps-requires : goal.match_gaps-requires
 match_gaps-requires c =

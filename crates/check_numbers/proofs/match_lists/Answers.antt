@@ -3,7 +3,7 @@
 use mathlib.Core.Path.{◌∙◌}
 use Rattle.job_laws.proofs.Passed.{lists-iff}
 use Rattle.write_lists.proofs.Columns.{column-list, numbers-next, numbers-none}
-use Rattle.check_numbers.proofs.Bytes.{handed_on}
+use Rattle.refusals.proofs.Passed.{handed-on}
 use Rattle.check_numbers.proofs.Numbers.{left-all, left-numbers, differs-numbers, left-none}
 use Rattle.check_numbers.proofs.match_lists.Goals as goal
 
@@ -21,7 +21,7 @@ match_list-requires c =
 pub returns-in_err-k : goal.returns-in_err-k
 returns-in_err-k c =
     let l = c.loop-c.invariant in
-    handed_on _ c.from_residual.ensures.1 ∙ differs-numbers l.matched _ _ (numbers-next l.few l.lists c.loop-c-test.true)
+    handed-on _ c.from_residual.ensures.1 ∙ differs-numbers l.matched _ _ (numbers-next l.few l.lists c.loop-c-test.true)
     c.match_list.ensures c.in_err-k.was
 
 pub loop-c-preserved : goal.loop-c-preserved

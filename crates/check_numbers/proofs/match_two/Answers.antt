@@ -2,13 +2,14 @@
 -- Assumes nothing.
 use mathlib.Core.Path.{refl, sym, ◌∙◌}
 use Rattle.papers.specs.Numbers.{bytes_of}
-use Rattle.check_numbers.proofs.Bytes.{handed_on, bytes_inside}
+use Rattle.refusals.proofs.Passed.{handed-on}
+use Rattle.check_numbers.proofs.Bytes.{bytes_inside}
 use Rattle.check_numbers.proofs.Numbers.{left-all, left-number, differs-number, left_one}
 use Rattle.check_numbers.proofs.match_two.Goals as goal
 
 pub returns-in_err-next : goal.returns-in_err-next
 returns-in_err-next c =
-    handed_on _ c.from_residual.ensures.1 ∙ differs-number (left-all c.requires.inside) refl c.match_number.ensures c.in_err-next.was
+    handed-on _ c.from_residual.ensures.1 ∙ differs-number (left-all c.requires.inside) refl c.match_number.ensures c.in_err-next.was
 
 pub match_number-requires-2 : goal.match_number-requires-2
 match_number-requires-2 c = record {

@@ -7,10 +7,16 @@ pub returns-in-Ok : goal.returns-in-Ok
 returns-in-Ok c = field-by-number _ _ _ _ c.in-Ok.ensures c.in_range.ensures
 
 pub returns-in-Err-Ended : goal.returns-in-Err-Ended
-returns-in-Err-Ended c = rw c.fault_at.ensures (field-by-number _ _ _ _ (rw c.in-Err-Ended.field-0-is at c.in-Err-Ended.ensures) (ended-is-12 _ _ _))
+returns-in-Err-Ended c =
+    rw c.fault_at.ensures
+    (field-by-number _ _ _ _ (rw c.in-Err-Ended.field-0-is at c.in-Err-Ended.ensures) (ended-is-12 _ _ _))
 
 pub returns-in-Err-TooLong : goal.returns-in-Err-TooLong
-returns-in-Err-TooLong c = rw c.fault_at-in-Err-TooLong.ensures (field-by-number _ _ _ _ (rw c.in-Err-TooLong.field-0-is at c.in-Err-TooLong.ensures) (too-long-is-13 _ _ _))
+returns-in-Err-TooLong c =
+    rw c.fault_at-in-Err-TooLong.ensures
+    (field-by-number _ _ _ _ (rw c.in-Err-TooLong.field-0-is at c.in-Err-TooLong.ensures) (too-long-is-13 _ _ _))
 
 pub returns-in-Err-NotShortest : goal.returns-in-Err-NotShortest
-returns-in-Err-NotShortest c = rw c.fault_at-in-Err-NotShortest.ensures (field-by-number _ _ _ _ (rw c.in-Err-NotShortest.field-0-is at c.in-Err-NotShortest.ensures) (not-shortest-is-13 _ _ _))
+returns-in-Err-NotShortest c =
+    rw c.fault_at-in-Err-NotShortest.ensures
+    (field-by-number _ _ _ _ (rw c.in-Err-NotShortest.field-0-is at c.in-Err-NotShortest.ensures) (not-shortest-is-13 _ _ _))

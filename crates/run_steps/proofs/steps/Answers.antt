@@ -2,7 +2,7 @@
 -- Assumes nothing.
 use mathlib.Core.Path.{refl, ◌∙◌}
 use native.Mathlib.Omega.{arith}
-use Rattle.run_steps.proofs.Refused.{numbered}
+use Rattle.refusals.proofs.Numbered.{number-not-zero}
 use Rattle.run_steps.proofs.Running.{running-start, ready, running-next, answers-fault, answers-left, answers-done}
 use Rattle.run_steps.proofs.steps.Goals as goal
 
@@ -11,7 +11,7 @@ loop-done-init c = running-start _ _ _ _ _ _ _ c.requires.stack-long
 
 pub returns-in-Err : goal.returns-in-Err
 returns-in-Err c =
-    (rw c.refuse.ensures) ∙ answers-fault _ _ _ _ _ _ _ c.loop-done.invariant (omega arith) c.in-Err.ensures (numbered c.in-Err.refusal)
+    (rw c.refuse.ensures) ∙ answers-fault _ _ _ _ _ _ _ c.loop-done.invariant (omega arith) c.in-Err.ensures (number-not-zero c.in-Err.refusal)
 
 pub take_step-held-requires : goal.take_step-held-requires
 take_step-held-requires c =
