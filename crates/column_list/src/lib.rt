@@ -13,7 +13,7 @@ use lists::Lists;
 pub fn gather<'a>(
     n: usize,
     m: usize,
-    pattern: Lists<'a>,
+    pattern: Lists<'_, 'a>,
     factor: Lists,
     work: &mut [u64],
     x: &'a mut [u32],

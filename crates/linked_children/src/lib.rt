@@ -9,7 +9,7 @@ use lists::Lists;
 
 // The rows that column c hands on to its parent: its list without the least row, which is the parent. Cut
 // from all rows at once: a part of `factor.column(c - 1)` costs a few instructions more for each child.
-pub fn handed_on<'a>(c: usize, factor: Lists<'a>) -> &'a [u32]
+pub fn handed_on<'r>(c: usize, factor: Lists<'_, 'r>) -> &'r [u32]
     requires { StoredChild c factor.starts.now factor.rows.now }
     ensures { result.now ≡ handed_rows factor.entry.starts.now factor.entry.rows.now c }
 {

@@ -14,7 +14,7 @@ use run_held::Held;
 // The fault of a step after `done` steps: 14 if there is no such column; 21 if fewer updates are held than it pops; 22 if the front has no
 // place for a popped row; 23 if it needs more room than is given.
 pub fn step_fault(
-    factor: Factor<'_>,
+    factor: Factor,
     columns: &[u32],
     pops: &[u32],
     room: u64,

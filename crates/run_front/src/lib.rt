@@ -8,16 +8,17 @@ ghost use Rattle.papers.specs.Tree.{t};
 ghost use Rattle.run_front.specs.Column.{ColumnIn};
 ghost use Rattle.run_front.specs.Search.{Bracket, Sought, BothAscend, Alike};
 
-// A factor as code hands it on: its number of columns, and its starts and rows, which stay where they were lent.
+// A factor as code hands it on: its number of columns, and its starts and rows, which stay where they were lent. Two lifetimes, as in
+// `Lists`.
 #[derive(Clone, Copy)]
-pub struct Factor<'a> {
+pub struct Factor<'s, 'r> {
     pub n: u64,
-    pub starts: &'a [u64],
-    pub rows: &'a [u32],
+    pub starts: &'s [u64],
+    pub rows: &'r [u32],
 }
 
 // The rows of a column, as a part of the factor's rows.
-pub fn rows_of<'a>(factor: Factor<'a>, column: u64) -> &'a [u32]
+pub fn rows_of<'r>(factor: Factor<'_, 'r>, column: u64) -> &'r [u32]
     requires { ColumnIn factor.n factor.starts.now factor.rows.now column }
     ensures { result.now ≡ column_of factor.entry.starts.now factor.entry.rows.now column }
 {
@@ -28,7 +29,7 @@ pub fn rows_of<'a>(factor: Factor<'a>, column: u64) -> &'a [u32]
 }
 
 // The number of entries of a column's update.
-pub fn entries_of(factor: Factor<'_>, column: u64) -> u64
+pub fn entries_of(factor: Factor, column: u64) -> u64
     requires { ColumnIn factor.n factor.starts.now factor.rows.now column }
     ensures { result ≡ t (length (column_of factor.entry.starts.now factor.entry.rows.now column)) }
 {

@@ -8,7 +8,7 @@ use run_held::Held;
 
 // Takes a step that has no fault, after `done` steps: pops its updates, and puts its own column on the stack list, unless it is a root.
 pub fn take_step(
-    factor: Factor<'_>,
+    factor: Factor,
     columns: &[u32],
     pops: &[u32],
     stack: &mut [u32],

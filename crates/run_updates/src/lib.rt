@@ -14,7 +14,7 @@ use run_held::Held;
 
 // Tests whether every row of every popped update is in the front of the column, from the top down. In the loop the updates at the
 // places from `place` on pass.
-pub fn popped_fit(factor: Factor<'_>, stack: &[u32], held: Held, pops: u64, column: u64) -> bool
+pub fn popped_fit(factor: Factor, stack: &[u32], held: Held, pops: u64, column: u64) -> bool
     requires { FrontOver factor.n factor.starts.now factor.rows.now stack.now held pops column }
     ensures { result ≡ fits (factor_of factor.entry.n factor.entry.starts.now factor.entry.rows.now) column
         (take pops (held_in_order held.count stack.now)) }
@@ -31,7 +31,7 @@ pub fn popped_fit(factor: Factor<'_>, stack: &[u32], held: Held, pops: u64, colu
 }
 
 // Sums the entries of the popped updates, from the top down. In the loop those at the places from `place` on are added.
-pub fn popped_entries(factor: Factor<'_>, stack: &[u32], held: Held, pops: u64) -> u64
+pub fn popped_entries(factor: Factor, stack: &[u32], held: Held, pops: u64) -> u64
     requires { PopsHeld factor.n factor.starts.now factor.rows.now stack.now held pops }
     ensures { result ≡ sum (entries (factor_of factor.entry.n factor.entry.starts.now factor.entry.rows.now)
         (take pops (held_in_order held.count stack.now))) }
@@ -45,7 +45,7 @@ pub fn popped_entries(factor: Factor<'_>, stack: &[u32], held: Held, pops: u64) 
 }
 
 // The room in use at a step: all that is held before it, without the top update if it pops any, and its front.
-pub fn room_in_use(factor: Factor<'_>, stack: &[u32], held: Held, pops: u64, column: u64) -> u64
+pub fn room_in_use(factor: Factor, stack: &[u32], held: Held, pops: u64, column: u64) -> u64
     requires { FrontOver factor.n factor.starts.now factor.rows.now stack.now held pops column }
     ensures { result ≡ room_at pops (length (column_of factor.entry.starts.now factor.entry.rows.now column))
         (entries (factor_of factor.entry.n factor.entry.starts.now factor.entry.rows.now) (held_in_order held.count stack.now)) }
