@@ -14,7 +14,7 @@ const MARK: usize = 20;
 const SEED: usize = 21;
 
 // What else is counted of all patterns: the factor rows, and the peaks under each mark.
-#[derive(Drop)]
+#[derive(Clone, Copy, Drop)]
 pub struct Notes {
     pub rows: u64,
     pub peaks: [u64; 3],

@@ -80,7 +80,7 @@ fn write_plan(numbers: &Numbers, starts: &[u64], rows: &[u32]) -> Found {
     if answer.number != 0 {
         return found;
     }
-    let plan = &bytes[..(answer.count % 4097) as usize];
+    let plan = slices::part(&bytes, (answer.count % 4097) as usize);
     let fails = usize::from(fails(numbers, starts, rows, plan));
     Found {
         answer,

@@ -94,6 +94,6 @@ pub fn check(case: &mut Sheet, job: &Sheet, plan: &Plan, length: u64, key: u8) -
         head(job, key),
         &starts[..count(job, sheet::STARTS)],
         &rows[..count(job, sheet::ROWS)],
-        &keyed(plan, key)[..(length % 1025) as usize],
+        slices::part(&keyed(plan, key), (length % 1025) as usize),
     )
 }

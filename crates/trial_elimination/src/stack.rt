@@ -4,7 +4,7 @@ use super::sheet;
 use super::sheet::{Sheet, get, row_count};
 
 // The columns whose updates are held, the lowest first, and how many there are. Places wrap, so every height is allowed.
-#[derive(Drop)]
+#[derive(Clone, Copy, Drop)]
 pub struct Stack {
     columns: [usize; 32],
     height: usize,

@@ -4,7 +4,7 @@ use trial_elimination::sheet;
 use trial_elimination::sheet::{Sheet, get, set};
 
 // Done cases with a repeated column, cases refused with 22 for an update below the top, the sum of all places and of all counts.
-#[derive(Drop)]
+#[derive(Clone, Copy, Drop)]
 pub struct Notes {
     pub repeated: u64,
     pub deep: u64,

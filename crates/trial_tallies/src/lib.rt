@@ -44,7 +44,7 @@ impl fmt::Display for Mismatch {
 
 // Counts all cases, by their number those with nothing wrong, and those with anything wrong, of which it keeps the first twenty. The notes
 // are what else a program counts.
-#[derive(Drop)]
+#[derive(Clone, Copy, Drop)]
 pub struct Tally<N> {
     cases: u64,
     right: [u64; 32],

@@ -76,7 +76,7 @@ fn listed(answer: Answer, printed: usize) -> bool {
 // wrong.
 fn hold(tally: &mut Tally<()>, head: &Head, text: &Text, right: &Printed) {
     let mut printed = [7u8; 24600];
-    let given = &text[..text_length(head)];
+    let given = slices::part(text, text_length(head));
     let answer = listing::listing(given, more(head), &mut printed);
     let sound = listed(answer, printed_length(head)) && printed == *right;
     let told = number_told(&printed) as u64;
