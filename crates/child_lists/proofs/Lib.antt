@@ -1,4 +1,5 @@
 pub mod Marks
+pub mod Buffers
 pub mod Making
 pub mod Joining
 pub mod NextChild

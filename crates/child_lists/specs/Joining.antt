@@ -1,9 +1,10 @@
 -- Defines the list that a column's rows and the rows its children hand on make, and the state before and after the children are joined.
 -- Assumes nothing.
-use Rattle.std.specs.Prelude.{ℕ, ◌+◌, ◌<◌, ◌≤◌, ◌≡◌, ◌⊎◌, List, length, get_or, take}
+use Rattle.std.specs.Prelude.{ℕ, ◌+◌, ◌<◌, ◌≤◌, ◌⊎◌, List, length, get_or, take}
 use Rattle.papers.specs.Lists.{◌∈◌, Asc}
 use Rattle.linked_children.specs.Children.{handed_rows, Siblings}
 use Rattle.child_lists.specs.Marks.{MarkedWithin, Changed}
+use Rattle.child_lists.specs.Buffers.{Holds}
 
 -- acc and the rows that the children hand on make the ascending list whole
 pub record Makes (j : ℕ) (hands : ℕ → List ℕ) (children acc whole : List ℕ) : Type 0 where
@@ -31,7 +32,8 @@ pub record Joining (n j c len : ℕ) (fstarts frows work x y : List ℕ) : Type 
   pub whole : List ℕ
   pub begun : ListBegun n j c len fstarts frows work x y children whole
 
--- the list of column j is made; work has changed only in marks, which were set to j
-pub record ChildrenJoined (n j c len₀ : ℕ) (fstarts frows work₀ x₀ y₀ work list : List ℕ) : Type 0 where
-  pub made : (children whole : List ℕ) → ListBegun n j c len₀ fstarts frows work₀ x₀ y₀ children whole → list ≡ whole
+-- the buffers hold the list of column j; work has changed only in marks, which were set to j
+pub record ChildrenJoined (n j c len₀ : ℕ) (fstarts frows work₀ x₀ y₀ : List ℕ) (turn len : ℕ) (work x y : List ℕ) : Type 0 where
+  pub list : (children whole : List ℕ) → ListBegun n j c len₀ fstarts frows work₀ x₀ y₀ children whole
+      → Holds turn len x y whole
   pub changed : Changed n j work₀ work

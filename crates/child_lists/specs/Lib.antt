@@ -1,2 +1,3 @@
 pub mod Marks
+pub mod Buffers
 pub mod Joining

@@ -1,9 +1,9 @@
 -- Proves that `join_children` makes the whole list of the rows so far and what the children hand on. It may skip a child whose rows are all marked,
 -- since every marked row is in the list. Each turn d falls, since the chain descends.
 -- Assumes nothing.
-use Rattle.std.proofs.Common.{◌+◌, ◌<◌, ◌∙◌, length, sym, refl, arith}
-use Rattle.child_lists.proofs.Joining.{stop}
-use Rattle.child_lists.proofs.NextChild.{child-at, falls, link-first, falls-marked, markable, fits, passes_over, joins}
+use Rattle.std.proofs.Common.{◌+◌, ◌<◌, ◌∙◌, length, sym, arith}
+use Rattle.child_lists.proofs.Joining.{begin, stop}
+use Rattle.child_lists.proofs.NextChild.{child-at, falls, link-first, falls-marked, markable, roomy, passes_over, joins}
 use Rattle.child_lists.proofs.join_children.Goals as goal
 use Rattle.child_lists.proofs.join_children.Goals.{In-loop-d, then-not-covered, else-not-covered}
 
@@ -11,14 +11,17 @@ use Rattle.child_lists.proofs.join_children.Goals.{In-loop-d, then-not-covered, 
 place : (c : In-loop-d) → c.args.n + c.loop-d.d < length c.args.work.now
 place c = link-first c.loop-d.invariant c.loop-d-test.true
 
+pub loop-d-init : goal.loop-d-init
+loop-d-init c = begin c.requires
+
 pub handed_on-more-requires : goal.handed_on-more-requires
 handed_on-more-requires c = child-at c.loop-d.invariant c.loop-d-test.true
 
 pub covered-requires : goal.covered-requires
 covered-requires c = markable c.loop-d.invariant c.loop-d-test.true c.handed_on-more.ensures
 
-pub unite-count-requires : goal.unite-count-requires
-unite-count-requires c = fits c.loop-d.invariant c.loop-d-test.true c.handed_on-more.ensures
+pub join_rows-count-requires : goal.join_rows-count-requires
+join_rows-count-requires c = roomy c.loop-d.invariant c.loop-d-test.true c.handed_on-more.ensures
 
 pub mark-requires : goal.mark-requires
 mark-requires c = markable c.loop-d.invariant c.loop-d-test.true c.handed_on-more.ensures
@@ -47,12 +50,12 @@ loop-d-preserved c =
     let h = c.loop-d-test.true in
     elim c.if-not-covered.branch [
       | then-not-covered w ↦
-          rw (w.work-is, w.list-is, w.other-is, w.count-is)
-          (joins s h c.handed_on-more.ensures w.mark.ensures w.unite-count.ensures (omega arith) (omega arith))
+          rw (w.work-is, w.x-is, w.y-is, w.turn-is, w.count-is)
+          (joins s h c.handed_on-more.ensures w.mark.ensures w.join_rows-count.ensures (omega arith) (omega arith) (omega arith))
       | else-not-covered w ↦
-          rw (w.work-is, w.list-is, w.other-is, w.count-is)
+          rw (w.work-is, w.x-is, w.y-is, w.turn-is, w.count-is)
           (passes_over s h c.handed_on-more.ensures (sym w.if-not-covered.false ∙ c.covered.ensures))
     ]
 
 pub returns : goal.returns
-returns c = stop c.loop-d.invariant c.loop-d-test.false refl
+returns c = stop c.loop-d.invariant c.loop-d-test.false
