@@ -2,13 +2,13 @@
 -- follow.
 -- Assumes nothing.
 use Prim.Native.Nat.{ℕ, ◌+◌, ◌<◌, ◌≤◌}
-use mathlib.Core.Path.{◌≡◌, ap, ◌∙◌}
+use mathlib.Core.Path.{◌≡◌, refl, ap, ◌∙◌}
 use mathlib.Core.Logic.{⊎_elim, ◌≢◌}
 use mathlib.Core.List.Memᴰ
 use mathlib.Core.List.{List, [], ◌∷◌}
 use native.Mathlib.Omega.{arith}
 use lib.ListN.{length, get_or, take}
-use lib.Seq.{length-sets}
+use lib.Seq.{sets, length-sets}
 use Rattle.papers.specs.Lists.{◌∈◌, Asc, merge}
 use Rattle.papers.specs.Job.{Pattern, column_of}
 use Rattle.papers.specs.Fill.{R}
@@ -23,12 +23,13 @@ use Rattle.linked_children.proofs.Picking.{siblings-ext}
 use Rattle.child_lists.specs.Marks.{marked, Markable, MarkedWithin, Changed}
 use Rattle.child_lists.specs.Joining.{Makes, ListBegun, Joining, ChildrenJoined}
 use Rattle.child_lists.proofs.Marks.{marks-sound, changed-none, changed-more, changed-marked}
+use Rattle.child_lists.proofs.Buffers.{first-buffer}
 use Rattle.child_lists.proofs.Making.{makes-skip, makes-end}
 use Rattle.lists.specs.Between.{RowsBetween}
 use Rattle.column_list.specs.Hung.{hung}
 use Rattle.column_list.specs.Stored.{Next, Gatherable, Gathers}
 use Rattle.column_list.proofs.Gathering.{below, found-child, chain, siblings, makes}
-use Rattle.column_list.proofs.Owns.{own-makes, own_alone, first-linked, only_child}
+use Rattle.column_list.proofs.Owns.{own-asc, own_in, own-makes, own_alone, first-linked, only_child}
 
 -- the pattern rows of the next column are a part of the slice
 pub part_of : {n m : ℕ} {starts rows fs fr w : List ℕ} → Next n m starts rows fs fr w → RowsBetween m starts rows
@@ -47,12 +48,24 @@ module _ {n m : ℕ} {starts rows fs fr w x y : List ℕ} (g : Gatherable n m st
   few : (l : List ℕ) → Asc (m + 1) l → ((i : ℕ) → i ∈ l → i ∈ R A (m + 1)) → length l ≤ n
   few l s f = omega (arith, asc-length n (m + 1) l s (λ i t. (R-range (below g.next) (m + 1) i (f i t)).1))
 
+  -- R(m + 1) is at the start of x
+  holds : (l x₁ : List ℕ) → x₁ ≡ sets x 0 l → length l ≤ length x → l ≡ R A (m + 1) → Gathers n m A w w x₁ y 0 (length l)
+  holds l x₁ e h q =
+      record {
+        holds = record { count = ap length q; list = rw (first-buffer 0 x₁ y refl, e) (stored-at-start x l h ∙ q) };
+        changed = changed-none n (m + 1) w;
+      }
+
   -- ---- the pattern rows
 
   module _ {own : List ℕ} (o : own ≡ A (m + 1)) where
+    -- the pattern rows find room
+    pub own-fits : length own ≤ length x
+    own-fits = omega (arith, few own (own-asc g.next o) (own_in g.next o), g.room-x)
+
     -- without a child they are the whole list
-    pub alone : get_or w (m + 1) 0 ≡ 0 → Gathers n m A w w own
-    alone z = record { made = own_alone g.next o z; changed = changed-none n (m + 1) w }
+    pub alone : {x₁ : List ℕ} → get_or w (m + 1) 0 ≡ 0 → x₁ ≡ sets x 0 own → Gathers n m A w w x₁ y 0 (length own)
+    alone {x₁} z e = holds own x₁ e own-fits (own_alone g.next o z)
 
   -- ---- the longest child
 
@@ -109,8 +122,8 @@ module _ {n m : ℕ} {starts rows fs fr w x y own more : List ℕ} (f : First n 
     first-len = omega (arith, u.counts, long, first_fits)
 
     -- the column has one child
-    pub single : get_or w (n + get_or w (m + 1) 0) 0 ≡ 0 → Gathers n m (A g) w w (take len x₁)
-    single q = record { made = at-start ∙ whole; changed = changed-none n (m + 1) w }
+    pub single : get_or w (n + get_or w (m + 1) 0) 0 ≡ 0 → Gathers n m (A g) w w x₁ y 0 len
+    single q = rw u.counts (holds g (merge own more) x₁ u.joins first_fits whole)
       where
         whole : merge own more ≡ R (A g) (m + 1)
         whole =
@@ -149,6 +162,7 @@ module _ {n m : ℕ} {starts rows fs fr w x y own more : List ℕ} (f : First n 
       pub several : Joining n (m + 1) (get_or w (m + 1) 0) len fs fr w₁ x₁ y
       several = record { children = hung (A g) m (m + 1); whole = R (A g) (m + 1); begun = ready }
 
-      pub all-joined : {w₂ list : List ℕ} → ChildrenJoined n (m + 1) (get_or w (m + 1) 0) len fs fr w₁ x₁ y w₂ list → Gathers n m (A g) w w₂ list
+      pub all-joined : {w₂ x₂ y₂ : List ℕ} {turn count : ℕ} → ChildrenJoined n (m + 1) (get_or w (m + 1) 0) len fs fr w₁ x₁ y turn count w₂ x₂ y₂
+          → Gathers n m (A g) w w₂ x₂ y₂ turn count
       all-joined {w₂} r =
-          record { made = r.made (hung (A g) m (m + 1)) (R (A g) (m + 1)) ready; changed = changed-more w₂ change r.changed }
+          record { holds = r.list (hung (A g) m (m + 1)) (R (A g) (m + 1)) ready; changed = changed-more w₂ change r.changed }

@@ -8,6 +8,7 @@ use Rattle.papers.specs.Key.{lists_of}
 use Rattle.column_laws.specs.Tested.{Tested}
 use Rattle.column_laws.specs.Chains.{Chain}
 use Rattle.child_lists.specs.Marks.{Changed, Fresh}
+use Rattle.child_lists.specs.Buffers.{Holds}
 use Rattle.column_list.specs.Hung.{hung}
 
 -- the rows of the lists of the columns 1 to m
@@ -36,7 +37,12 @@ pub record Gatherable (n m : ℕ) (starts rows fstarts frows work x y : List ℕ
   pub room-x : n ≤ length x
   pub room-y : n ≤ length y
 
--- its list is made; work has changed only in marks
-pub record Gathers (n m : ℕ) (A : Pattern) (work₀ work list : List ℕ) : Type 0 where
-  pub made : list ≡ R A (m + 1)
+-- the buffers hold its list; work has changed only in marks
+pub record Gathers (n m : ℕ) (A : Pattern) (work₀ work x y : List ℕ) (turn len : ℕ) : Type 0 where
+  pub holds : Holds turn len x y (R A (m + 1))
   pub changed : Changed n (m + 1) work₀ work
+
+-- each buffer holds len rows
+pub record Buffered (len : ℕ) (x y : List ℕ) : Type 0 where
+  pub in-x : len ≤ length x
+  pub in-y : len ≤ length y

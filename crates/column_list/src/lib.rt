@@ -4,35 +4,54 @@
 
 ghost use Rattle.std.specs.Prelude.{◌≡◌};
 ghost use Rattle.papers.specs.Job.{column_of};
-ghost use Rattle.column_list.specs.Stored.{Gatherable, Gathers};
+ghost use Rattle.child_lists.specs.Buffers.{list_in_turn};
+ghost use Rattle.column_list.specs.Stored.{Gatherable, Gathers, Buffered};
 
+use child_lists::Gathered;
 use lists::Lists;
 
-// Gathers R(m + 1): joins the pattern rows with those that the longest child hands on, then with those of the other children. Rows are
-// marked only if there are several children. The list is in one of the buffers; without a child it is the pattern rows.
-pub fn gather<'a>(
+// Gathers R(m + 1) in the buffers: joins the pattern rows with those that the longest child hands on, then with those of the other
+// children. Rows are marked only if there are several children.
+pub fn gather(
     n: usize,
     m: usize,
-    pattern: Lists<'_, 'a>,
+    pattern: Lists,
     factor: Lists,
     work: &mut [u64],
-    x: &'a mut [u32],
-    y: &'a mut [u32],
-) -> &'a [u32]
+    x: &mut [u32],
+    y: &mut [u32],
+) -> Gathered
     requires { Gatherable n m pattern.starts.now pattern.rows.now factor.starts.now factor.rows.now work.old x.old y.old }
-    ensures { Gathers n m (column_of pattern.entry.starts.now pattern.entry.rows.now) work.old work.new result.now }
+    ensures { Gathers n m (column_of pattern.entry.starts.now pattern.entry.rows.now) work.old work.new x.new
+        y.new result.turn result.len }
 {
     let own = pattern.column(m);
     let c = work[m + 1] as usize;
     if c == 0 {
-        return own;
+        joiner::copy_at(x, 0, own);
+        return Gathered {
+            turn: 0,
+            len: own.len(),
+        };
     }
     let d = linked_children::longest(n, c, factor.starts, work);
     let more = linked_children::handed_on(d, factor);
     let len = joiner::unite(own, more, x);
     if work[n + c] == 0 {
-        return &x[..len];
+        return Gathered { turn: 0, len };
     }
     child_lists::mark(n, m + 1, &x[..len], work);
     child_lists::join_children(n, m + 1, c, len, factor, work, x, y)
+}
+
+// The list that was gathered.
+pub fn gathered<'a>(g: Gathered, x: &'a [u32], y: &'a [u32]) -> &'a [u32]
+    requires { Buffered g.len x.now y.now }
+    ensures { result.now ≡ list_in_turn g.turn g.len x.now y.now }
+{
+    if g.turn == 0 {
+        &x[..g.len]
+    } else {
+        &y[..g.len]
+    }
 }

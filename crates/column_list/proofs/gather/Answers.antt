@@ -1,12 +1,12 @@
--- Proves that `gather` makes R(m + 1). Without a child it is the pattern rows; else these are joined with what the longest child hands on, and then
--- with what the other children hand on.
+-- Proves that `gather` leaves R(m + 1) in a buffer. Without a child it copies the pattern rows; else it joins them with what the longest child hands
+-- on, and then with what the other children hand on.
 -- Assumes nothing.
 use Prim.Native.Nat.{ℕ}
 use mathlib.Core.Path.{sym}
 use mathlib.Core.List.{List}
 use native.Mathlib.Omega.{arith}
 use lib.Seq.{length-take-le}
-use Rattle.column_list.proofs.Begins.{part_of, alone, linked, longest-stands}
+use Rattle.column_list.proofs.Begins.{part_of, own-fits, alone, linked, longest-stands}
 use Rattle.column_list.proofs.Begins.{First, first-link, first_fits, first-len, single, first-markable, several, all-joined}
 use Rattle.column_list.proofs.gather.Goals as goal
 use Rattle.column_list.proofs.gather.Goals.{After-handed_on-more}
@@ -31,8 +31,11 @@ first c =
 pub column-own-requires : goal.column-own-requires
 column-own-requires c = part_of c.requires.next
 
+pub copy_at-requires : goal.copy_at-requires
+copy_at-requires c = omega (arith, own-fits c.requires c.column-own.ensures)
+
 pub returns-then-c-eq0 : goal.returns-then-c-eq0
-returns-then-c-eq0 c = alone c.requires c.column-own.ensures c.if-c-eq0.true
+returns-then-c-eq0 c = alone c.requires c.column-own.ensures c.if-c-eq0.true c.copy_at.ensures
 
 pub longest-d-requires : goal.longest-d-requires
 longest-d-requires c = linked c.requires
@@ -51,10 +54,6 @@ offset_bounds-work-n c = omega (arith, first-link (first (goal.at.offset_bounds-
 
 pub bounds-work-n : goal.bounds-work-n
 bounds-work-n c = first-link (first (goal.at.bounds-work-n c).After-handed_on-more)
-
-pub slice_bounds-result-end : goal.slice_bounds-result-end
-slice_bounds-result-end c =
-    sym (length-take-le _ _ (first-len (first (goal.at.slice_bounds-result-end c).After-handed_on-more) c.unite-len.ensures))
 
 pub returns-then-work-n-eq0 : goal.returns-then-work-n-eq0
 returns-then-work-n-eq0 c = single (first (goal.at.returns-then-work-n-eq0 c).After-handed_on-more) c.unite-len.ensures c.if-work-n-eq0.true
