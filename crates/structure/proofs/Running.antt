@@ -13,14 +13,17 @@ use Rattle.papers.specs.Job.{Pattern, Below, column_of}
 use Rattle.papers.specs.Fill.{R}
 use Rattle.papers.specs.Tree.{parent}
 use Rattle.papers.specs.Key.{lists_of}
+use Rattle.list_laws.proofs.Ascending.{asc-length}
 use Rattle.list_laws.proofs.UpTo.{length-up_to}
 use Rattle.list_laws.proofs.Stores.{sets-append, length-starts, starts-again}
 use Rattle.job_laws.proofs.Laid.{length-lists, lists-none}
+use Rattle.fill_laws.proofs.Fill.{R-asc, R-range}
 use Rattle.column_laws.specs.Tested.{Tested}
 use Rattle.column_laws.proofs.Columns.{tested-below}
 use Rattle.column_laws.proofs.Families.{flat-more, length_more, starts-next}
 use Rattle.list_laws.proofs.UpTo.{map-up_to}
-use Rattle.column_list.specs.Stored.{rows_to, ListsStored, Gatherable, Gathers}
+use Rattle.child_lists.specs.Buffers.{list_in_turn}
+use Rattle.column_list.specs.Stored.{rows_to, ListsStored, Gatherable, Gathers, Buffered}
 use Rattle.structure.specs.Listed.{Storable, Stores, Listable, ColumnsListed}
 use Rattle.structure.proofs.Storing.{parent_is, stored-none, lacks, storable, stored_on}
 
@@ -101,9 +104,9 @@ module _ {n m : ℕ} {starts rows p₀ s₀ f₀ w₀ x₀ y₀ p s f w x y : Li
       }
 
   -- the next list does not fit
-  pub run_short : {s₁ w₁ list : List ℕ} → s₀ ≡ set s₁ 0 0 → m < n → Gathers n m A w w₁ list
-      → length f - get_or s m 0 < length list → ColumnsListed n m A p₀ s₁ f₀ p s f
-  run_short {list = list} e l g h = listed e (λ k. lacks good r.stored l list g.made h)
+  pub run_short : {s₁ w₁ x₁ y₁ : List ℕ} {turn len : ℕ} → s₀ ≡ set s₁ 0 0 → m < n → Gathers n m A w w₁ x₁ y₁ turn len
+      → length f - get_or s m 0 < len → ColumnsListed n m A p₀ s₁ f₀ p s f
+  run_short e l g h = listed e (λ k. lacks good r.stored l (R A (m + 1)) refl (rw (← g.holds.count) h))
 
   -- all columns are done
   pub run-all : {s₁ : List ℕ} → s₀ ≡ set s₁ 0 0 → n ≤ m → ColumnsListed n n A p₀ s₁ f₀ p s f
@@ -111,59 +114,71 @@ module _ {n m : ℕ} {starts rows p₀ s₀ f₀ w₀ x₀ y₀ p s f w x y : Li
 
   -- ---- column m + 1
 
-  module _ (l : m < n) {w₁ list : List ℕ} (g : Gathers n m A w w₁ list) (room : length list ≤ length f - get_or s m 0) where
-    pub run_store : length w₁ ≡ length w → Storable n m list p s f w₁
-    run_store lw = storable good r.stored l list g.made room w₁ g.changed lw p (rw long-p r.room-p)
+  module _ (l : m < n) {w₁ x₁ y₁ : List ℕ} {turn len : ℕ} (g : Gathers n m A w w₁ x₁ y₁ turn len) where
+    pub run-buffered : length x₁ ≡ length x → length y₁ ≡ length y → Buffered len x₁ y₁
+    run-buffered lx ly =
+        let k = asc-length n (m + 1) (R A (m + 1)) (R-asc good (m + 1)) (λ i t. (R-range good (m + 1) i t).1) in
+        record { in-x = omega (arith, g.holds.count, r.long-x, r.room-x); in-y = omega (arith, g.holds.count, r.long-y, r.room-y) }
 
-    pub run_on : {p₁ s₁ f₁ w₂ x₁ y₁ : List ℕ} → Stores n m list p s f w₁ p₁ s₁ f₁ w₂
-        → length w₁ ≡ length w → length w₂ ≡ length w₁ → length x₁ ≡ length x → length y₁ ≡ length y
-        → Running n starts rows p₀ s₀ f₀ w₀ x₀ y₀ p₁ s₁ f₁ w₂ x₁ y₁ (m + 1)
-    run_on {p₁} {s₁} {f₁} {w₂} k lw lv lx ly =
-        record {
-          tested = r.tested;
-          most = omega arith;
-          stored = rw add-one on;
-          parents-are = rw (
-            add-one,
-            map-up_to (parent A) m,
-            sets-append (map (parent A) (up_to m)) p₀ 0 (parent A (suc m) ∷ []),
-            at_p,
-            ← r.parents-are,
-          ) (k.parents-are ∙ ap (set p m) head);
-          starts-are = rw (
-            add-one,
-            starts-next (R A) m,
-            sets-append (starts_counted_from 0 (lists_of m (R A))) s₀ 0 (length (rows_to A (suc m)) ∷ []),
-            at-s,
-            ← r.starts-are,
-          ) (k.starts-are ∙ ap (set s (m + 1)) end);
-          rows_are = rw (add-one, flat-more (R A) m, sets-append (rows_to A m) f₀ 0 (R A (suc m)), at_f, ← r.rows_are)
-              (k.rows_are ∙ ap (sets f (get_or s m 0)) (g.made ∙ next));
-          room-p = r.room-p;
-          room-x = r.room-x;
-          room-y = r.room-y;
-          long-w = lv ∙ lw ∙ r.long-w;
-          long-x = lx ∙ r.long-x;
-          long-y = ly ∙ r.long-y;
-        }
-      where
-        on : ListsStored n (suc m) A s₁ f₁ w₂
-        on = stored_on good r.stored l list g.made room w₁ g.changed lw k
+    module _ {list : List ℕ} (q : list ≡ list_in_turn turn len x₁ y₁) (h : len ≤ length f - get_or s m 0) where
+      is : list ≡ R A (m + 1)
+      is = q ∙ g.holds.list
 
-        next : R A (m + 1) ≡ R A (suc m)
-        next = rw add-one
+      room : length list ≤ length f - get_or s m 0
+      room = rw (is, ← g.holds.count) h
 
-        head : head0 list ≡ parent A (suc m)
-        head = ap head0 (g.made ∙ next) ∙ parent_is A (suc m)
+      pub run_store : length w₁ ≡ length w → Storable n m list p s f w₁
+      run_store lw = storable good r.stored l list is room w₁ g.changed lw p (rw long-p r.room-p)
 
-        end : get_or s m 0 + length list ≡ length (rows_to A (suc m))
-        end = omega (arith, r.stored.starts-are m (omega arith), length_more (R A) m, ap length (g.made ∙ next))
+      pub run_on : {p₁ s₁ f₁ w₂ : List ℕ} → Stores n m list p s f w₁ p₁ s₁ f₁ w₂
+          → length w₁ ≡ length w → length w₂ ≡ length w₁ → length x₁ ≡ length x → length y₁ ≡ length y
+          → Running n starts rows p₀ s₀ f₀ w₀ x₀ y₀ p₁ s₁ f₁ w₂ x₁ y₁ (m + 1)
+      run_on {p₁} {s₁} {f₁} {w₂} k lw lv lx ly =
+          record {
+            tested = r.tested;
+            most = omega arith;
+            stored = rw add-one on;
+            parents-are = rw (
+              add-one,
+              map-up_to (parent A) m,
+              sets-append (map (parent A) (up_to m)) p₀ 0 (parent A (suc m) ∷ []),
+              at_p,
+              ← r.parents-are,
+            ) (k.parents-are ∙ ap (set p m) head);
+            starts-are = rw (
+              add-one,
+              starts-next (R A) m,
+              sets-append (starts_counted_from 0 (lists_of m (R A))) s₀ 0 (length (rows_to A (suc m)) ∷ []),
+              at-s,
+              ← r.starts-are,
+            ) (k.starts-are ∙ ap (set s (m + 1)) end);
+            rows_are = rw (add-one, flat-more (R A) m, sets-append (rows_to A m) f₀ 0 (R A (suc m)), at_f, ← r.rows_are)
+                (k.rows_are ∙ ap (sets f (get_or s m 0)) (is ∙ next));
+            room-p = r.room-p;
+            room-x = r.room-x;
+            room-y = r.room-y;
+            long-w = lv ∙ lw ∙ r.long-w;
+            long-x = lx ∙ r.long-x;
+            long-y = ly ∙ r.long-y;
+          }
+        where
+          on : ListsStored n (suc m) A s₁ f₁ w₂
+          on = stored_on good r.stored l list is room w₁ g.changed lw k
 
-        at_p : 0 + length (map (parent A) (up_to m)) ≡ m
-        at_p = omega (arith, length-map (up_to m) (parent A), length-up_to m)
+          next : R A (m + 1) ≡ R A (suc m)
+          next = rw add-one
 
-        at-s : 0 + length (starts_counted_from 0 (lists_of m (R A))) ≡ m + 1
-        at-s = omega (arith, length-starts 0 (lists_of m (R A)), length-lists (R A) m)
+          head : head0 list ≡ parent A (suc m)
+          head = ap head0 (is ∙ next) ∙ parent_is A (suc m)
 
-        at_f : 0 + length (rows_to A m) ≡ get_or s m 0
-        at_f = omega (arith, r.stored.starts-are m (omega arith))
+          end : get_or s m 0 + length list ≡ length (rows_to A (suc m))
+          end = omega (arith, r.stored.starts-are m (omega arith), length_more (R A) m, ap length (is ∙ next))
+
+          at_p : 0 + length (map (parent A) (up_to m)) ≡ m
+          at_p = omega (arith, length-map (up_to m) (parent A), length-up_to m)
+
+          at-s : 0 + length (starts_counted_from 0 (lists_of m (R A))) ≡ m + 1
+          at-s = omega (arith, length-starts 0 (lists_of m (R A)), length-lists (R A) m)
+
+          at_f : 0 + length (rows_to A m) ≡ get_or s m 0
+          at_f = omega (arith, r.stored.starts-are m (omega arith))

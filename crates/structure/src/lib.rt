@@ -73,11 +73,19 @@ pub fn column_lists(
             starts: fstarts,
             rows: frows,
         };
-        let list = column_list::gather(n, m, pattern, factor, work, x, y);
-        if frows.len() - (fstarts[m] as usize) < list.len() {
+        let g = column_list::gather(n, m, pattern, factor, work, x, y);
+        if frows.len() - (fstarts[m] as usize) < g.len {
             return m;
         }
-        store(n, m, list, parents, fstarts, frows, work);
+        store(
+            n,
+            m,
+            column_list::gathered(g, x, y),
+            parents,
+            fstarts,
+            frows,
+            work,
+        );
     }
     n
 }
