@@ -1,18 +1,10 @@
 -- Proves that `join_rows` joins the list of one buffer and further rows into the other buffer, which is then next in turn.
 -- Assumes nothing.
-use mathlib.Core.Path.{sym}
-use lib.Seq.{length-take-le}
 use Rattle.child_lists.proofs.Buffers.{fits-x, fits-y, joined-in-x, joined-in-y}
 use Rattle.child_lists.proofs.join_rows.Goals as goal
 
-pub slice_bounds-unite-end-then-turn-eq0 : goal.slice_bounds-unite-end-then-turn-eq0
-slice_bounds-unite-end-then-turn-eq0 c = sym (length-take-le _ _ c.requires.list-x)
-
 pub unite-requires : goal.unite-requires
 unite-requires c = fits-y c.requires c.if-turn-eq0.true
-
-pub slice_bounds-unite-end-else-turn-eq0-2 : goal.slice_bounds-unite-end-else-turn-eq0-2
-slice_bounds-unite-end-else-turn-eq0-2 c = sym (length-take-le _ _ c.requires.list-y)
 
 pub unite-requires-else-turn-eq0 : goal.unite-requires-else-turn-eq0
 unite-requires-else-turn-eq0 c = fits-x c.requires c.if-turn-eq0.false

@@ -2,15 +2,8 @@
 -- Assumes nothing.
 use mathlib.Core.Path.{sym, ap}
 use lib.ListN.{take}
-use lib.Seq.{length-take-le}
 use Rattle.child_lists.proofs.Buffers.{first-buffer, second-buffer}
 use Rattle.column_list.proofs.gathered.Goals as goal
-
-pub slice_bounds-result-end : goal.slice_bounds-result-end
-slice_bounds-result-end c = sym (length-take-le _ _ c.requires.in-x)
-
-pub slice_bounds-result-end-else-g-eq0 : goal.slice_bounds-result-end-else-g-eq0
-slice_bounds-result-end-else-g-eq0 c = sym (length-take-le _ _ c.requires.in-y)
 
 pub returns-then-g-eq0 : goal.returns-then-g-eq0
 returns-then-g-eq0 c =
