@@ -38,8 +38,9 @@ fn write_column(j: usize, pops: u64, room: u64, factor: Lists, bytes: &mut [u8],
     write_step(j as u64, pops, room, factor.column(j - 1), bytes, at)
 }
 
-// Writes the lines of all steps, and answers the place behind them. In the loop the lines of the steps that came are written, up to next;
-// `depth` updates are held after these steps, and below holds the sums of their entries.
+// Writes the lines of all steps, and answers the place behind them. In the loop the lines of the first k steps are written, up to next;
+// `depth` updates are held after these steps, and below holds the sums of their entries. By index: so a loop that begins a step late, which
+// an edit tries, is refused for that step.
 pub fn write_steps(
     order: &[u32],
     pops: &[u32],
@@ -55,9 +56,9 @@ pub fn write_steps(
     below[0] = 0;
     let mut depth = 0;
     let mut next = at;
-    for (column, popped) in order.iter().zip(pops) {
-        let j = *column as usize;
-        let p = *popped as usize;
+    for k in 0..order.len() {
+        let j = order[k] as usize;
+        let p = pops[k] as usize;
         let rows = room::rows_of(factor.starts, j);
         let used = room::in_use(&below[..], depth, p, rows);
         next = write_column(j, p as u64, used, factor, bytes, next);
