@@ -1,15 +1,13 @@
 -- Proves that `judge` answers right: 16 or 17 decides; else the order names each column once and the lists are R with the job's parents, so the tests
 -- of the tree decide.
 -- Assumes nothing.
-use Rattle.std.proofs.Common.{◌≡◌, refl, ap, arith}
+use Rattle.std.proofs.Common.{◌≡◌, refl, arith}
 use Rattle.papers.specs.Check.{column_repeated, list_wrong}
 use Rattle.papers.specs.Refusals.{passed}
 use Rattle.papers.specs.Plan.{Plan}
 use Rattle.job.specs.Given.{job_given}
-use Rattle.refusals.specs.Answers.{answer_from}
 use Rattle.column_laws.proofs.Testing.{tested}
 use Rattle.check_judge.specs.Judged.{PlanAtStart, plan_from}
-use Rattle.check_judge.proofs.Rulings.{number_of}
 use Rattle.check_judge.proofs.Stored.{order-length, within, refuses-16, passes-16}
 use Rattle.check_judge.proofs.Lists.{lists-stored, refuses-17, passes-17, tree-given, left-to-tree}
 use Rattle.check_judge.proofs.judge.Goals as goal
@@ -39,10 +37,9 @@ first_repeat-requires c =
 
 pub returns-in-Some : goal.returns-in-Some
 returns-in-Some c =
-    let answered = ap answer_from c.refuse.ensures in
     record {
-      answers = λ plan at-start. refuses-16 _ plan at-start.stored c.first_repeat.ensures c.in-Some.is answered;
-      stores = λ z. absurd (omega (arith, number_of answered, z));
+      answers = λ plan at-start. refuses-16 _ plan at-start.stored c.first_repeat.ensures c.in-Some.is (grind arith);
+      stores = λ z. absurd (grind arith);
     }
 
 pub first_wrong_list-requires : goal.first_wrong_list-requires
@@ -58,11 +55,10 @@ first_wrong_list-requires c =
 pub returns-in-Some-first_wrong_list : goal.returns-in-Some-first_wrong_list
 returns-in-Some-first_wrong_list c =
     let at = goal.at.returns-in-Some-first_wrong_list c in
-    let answered = ap answer_from c.refuse-in-Some-first_wrong_list.ensures in
     record {
       answers = λ plan at-start. refuses-17 _ c.requires.valid plan at-start (unrepeated at.In_default plan at-start)
-          c.first_wrong_list.ensures.answers c.in-Some-first_wrong_list.is answered;
-      stores = λ z. absurd (omega (arith, number_of answered, z));
+          c.first_wrong_list.ensures.answers c.in-Some-first_wrong_list.is (grind arith);
+      stores = λ z. absurd (grind arith);
     }
 
 pub judge_tree-requires : goal.judge_tree-requires

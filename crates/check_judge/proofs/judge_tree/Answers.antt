@@ -1,12 +1,11 @@
 -- Proves that `judge_tree` answers right: each test refuses, or its passing gives what the next one requires. In an order with whole subtrees and
 -- right pops no step pops more than is held.
 -- Assumes nothing.
-use Rattle.std.proofs.Common.{◌≡◌, refl, ap, arith}
+use Rattle.std.proofs.Common.{◌≡◌, arith}
 use Rattle.papers.specs.Check.{pops_wrong, subtree_scattered}
 use Rattle.papers.specs.Refusals.{passed}
 use Rattle.papers.specs.Job.{Job}
 use Rattle.papers.specs.Plan.{Plan}
-use Rattle.refusals.specs.Answers.{answer_from}
 use Rattle.check_judge.specs.Judged.{OnTree, plan_from}
 use Rattle.check_judge.proofs.OnTrees.{few, tree-in, as_long, pops-as-long, each-once, within-order}
 use Rattle.check_judge.proofs.Trees.{refuses-18, passes-18, refuses-19, passes-19, stepped, refuses-20, refuses-9, passes-all}
@@ -31,7 +30,7 @@ first_scattered-requires c =
     record { tree = tree-in on; few = few on; each = each-once on; long = as_long on; room = c.requires.room }
 
 pub returns-in-Some : goal.returns-in-Some
-returns-in-Some c = λ job plan on. refuses-18 on c.first_scattered.ensures c.in-Some.is (ap answer_from c.refuse.ensures)
+returns-in-Some c = λ job plan on. refuses-18 on c.first_scattered.ensures c.in-Some.is (grind arith)
 
 pub first_wrong_pops-requires : goal.first_wrong_pops-requires
 first_wrong_pops-requires c =
@@ -47,7 +46,7 @@ first_wrong_pops-requires c =
 pub returns-in-Some-first_wrong_pops : goal.returns-in-Some-first_wrong_pops
 returns-in-Some-first_wrong_pops c = λ job plan on.
     refuses-19 on (whole (goal.at.returns-in-Some-first_wrong_pops c).In_default on) c.first_wrong_pops.ensures
-    c.in-Some-first_wrong_pops.is (ap answer_from c.refuse-in-Some-first_wrong_pops.ensures)
+    c.in-Some-first_wrong_pops.is (grind arith)
 
 pub peak-true_peak-requires : goal.peak-true_peak-requires
 peak-true_peak-requires c =
@@ -62,16 +61,16 @@ pub returns-then-true_peak-peak : goal.returns-then-true_peak-peak
 returns-then-true_peak-peak c = λ job plan on.
     let at = goal.at.returns-then-true_peak-peak c in
     refuses-20 on (whole at.In_default on) (popped at.In_default-first_wrong_pops on)
-    c.peak-true_peak.ensures c.if-true_peak-peak.true (ap answer_from c.refuse-then-true_peak-peak.ensures)
+    c.peak-true_peak.ensures c.if-true_peak-peak.true (grind arith)
 
 pub returns-then-limit-true_peak : goal.returns-then-limit-true_peak
 returns-then-limit-true_peak c = λ job plan on.
     let at = goal.at.returns-then-limit-true_peak c in
     refuses-9 on (whole at.In_default on) (popped at.In_default-first_wrong_pops on)
-    c.peak-true_peak.ensures c.if-true_peak-peak.false c.if-limit-true_peak.true (ap answer_from c.refuse-then-limit-true_peak.ensures)
+    c.peak-true_peak.ensures c.if-true_peak-peak.false c.if-limit-true_peak.true (grind arith)
 
 pub returns : goal.returns
 returns c = λ job plan on.
     let at = goal.at.returns c in
     passes-all on (whole at.In_default on) (popped at.In_default-first_wrong_pops on)
-    c.peak-true_peak.ensures c.if-true_peak-peak.false c.if-limit-true_peak.false refl
+    c.peak-true_peak.ensures c.if-true_peak-peak.false c.if-limit-true_peak.false (grind arith)
