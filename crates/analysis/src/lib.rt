@@ -42,7 +42,8 @@ pub fn analyse(
     }
     let plan = lent_plan::planned(job, parents, order, pops, fstarts, frows, work);
     let answer = refusals::answer(plan);
-    if plan.is_err() {
+    let refused = plan.is_err();
+    if refused {
         lent::clear_all(parents, order, pops, fstarts, frows, work);
     }
     answer
