@@ -43,7 +43,8 @@ pub fn check_plan(
     }
     let judged = check_bytes::judge_bytes(job, plan, parents, order, pops, fstarts, frows, work);
     let answer = refusals::answer(judged);
-    if judged.is_err() {
+    let refused = judged.is_err();
+    if refused {
         lent::clear_all(parents, order, pops, fstarts, frows, work);
         return answer;
     }

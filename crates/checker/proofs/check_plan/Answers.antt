@@ -1,7 +1,8 @@
 -- Proves that `check_plan` answers right: 1 to 7 end it at once; in every other case the tests decide, and then it
 -- clears all slices, or work alone.
 -- Assumes nothing.
-use Rattle.std.proofs.Common.{sym, ◌∙◌, arith}
+use Rattle.std.proofs.Common.{◌≡◌, ◌≢◌, sym, arith}
+use Rattle.refusals.specs.Answers.{answer_from}
 use Rattle.refusals.proofs.Numbered.{error-numbered, done-numbered}
 use Rattle.job_laws.proofs.Outcomes.{early-passes-iff}
 use Rattle.lent.proofs.Alike.{zeros-alike}
@@ -16,11 +17,11 @@ judge_bytes-judged-requires c =
     let (passes, long) = (early-passes-iff _).0 (sym c.in_default.ensures) in
     record { passes = passes; long = long }
 
-pub returns-then-is_err : goal.returns-then-is_err
-returns-then-is_err c =
+pub returns-then-refused : goal.returns-then-refused
+returns-then-refused c =
     let k = c.judge_bytes-judged.auto in
-    let refused = error-numbered c.judge_bytes-judged.result (sym c.is_err.ensures.value ∙ c.if-is_err.true) in
-    rw c.answer-answer.ensures (way-refused c.judge_bytes-judged.ensures refused
+    let numbered : (answer_from c.judge_bytes-judged.result).number ≢ 0 = grind (arith, error-numbered) in
+    rw c.answer-answer.ensures (way-refused c.judge_bytes-judged.ensures numbered
     (zeros-alike _ _ (record {
       parents = omega arith;
       order = omega arith;
@@ -32,6 +33,6 @@ returns-then-is_err c =
 
 pub returns : goal.returns
 returns c =
-    let done = done-numbered c.judge_bytes-judged.result (sym c.is_err.ensures.value ∙ c.if-is_err.false) in
+    let done : (answer_from c.judge_bytes-judged.result).number ≡ 0 = grind (arith, done-numbered) in
     rw c.answer-answer.ensures (way-done c.judge_bytes-judged.ensures done
     (let kept = c.judge_bytes-judged.auto in cc (c.fill.ensures.after (λ y e. e))))
