@@ -39,7 +39,8 @@ fn read_head(key: &[u8]) -> Result<(JobHead, usize), Fault>
 }
 
 // Reads the lists of all columns from `at` on, keeps nothing, and answers how many rows they have, and the place behind them. In the loop
-// the lists of the columns before j are read, with `total` rows, and the next starts at k.
+// the lists of the columns before j are read, with `total` rows, and the next starts at k. A match and not a `?`: so what a fault answers
+// stands as a value.
 fn count_rows(key: &[u8], at: usize, n: u64) -> Result<(u64, usize), Fault>
     requires { CountAsked key.now at n }
     ensures { Told (λ lists. length (flat lists)) (λ lists. Unit {0}) (lists_read_from n 1 n key.now at) result }
@@ -48,7 +49,10 @@ fn count_rows(key: &[u8], at: usize, n: u64) -> Result<(u64, usize), Fault>
     let mut k = at;
     let mut total: u64 = 0;
     for j in 1..=n {
-        let (counted, next) = read_lists::read_list(key, k, n, j, total as usize, &mut none)?;
+        let (counted, next) = match read_lists::read_list(key, k, n, j, total as usize, &mut none) {
+            Ok(found) => found,
+            Err(fault) => return Err(fault),
+        };
         total = counted;
         k = next;
     }
