@@ -7,7 +7,7 @@ ghost use Rattle.std.specs.Prelude.{◌≤◌};
 use papers::{Answer, JobHead};
 use std::array;
 use trial_elimination::sheet;
-use trial_elimination::sheet::{Part, Sheet};
+use trial_elimination::sheet::Sheet;
 
 // The six slices that an analysis or a check is lent, as arrays with places enough.
 #[derive(Drop)]
@@ -42,24 +42,26 @@ pub fn count(sheet: &Sheet, part: usize) -> usize
     sheet::length(sheet, part) % 301
 }
 
-// The numbers of a part that a call is handed, then zeros.
-fn list(sheet: &Sheet, part: usize) -> Part {
-    let mut list = [0; 300];
+// The numbers of a part that a call is handed, each narrowed, then zeros.
+fn list<T: Copy, F: Fn(usize) -> T>(sheet: &Sheet, part: usize, narrow: F) -> [T; 300]
+    requires { F.IsAlwaysCallable narrow }
+{
+    let mut list = [narrow(0); 300];
     let numbers = sheet::part(sheet, part).iter();
     for (x, number) in list.iter_mut().zip(numbers).take(count(sheet, part)) {
-        *x = *number;
+        *x = narrow(*number);
     }
     list
 }
 
 // A part of a sheet as rows, columns or pops.
 pub fn words(sheet: &Sheet, part: usize) -> [u32; 300] {
-    list(sheet, part).map(|x| (x % 4294967296) as u32)
+    list(sheet, part, |x| (x % 4294967296) as u32)
 }
 
 // A part of a sheet as starts.
 pub fn longs(sheet: &Sheet, part: usize) -> [u64; 300] {
-    list(sheet, part).map(|x| x as u64)
+    list(sheet, part, |x| x as u64)
 }
 
 // The head of a job.
