@@ -22,20 +22,6 @@ fn length(lent: &Lengths, slice: usize) -> usize
     lent[slice % 6] % 301
 }
 
-// The six slices before a call.
-fn before() -> Slices<300, 300> {
-    let words = filled();
-    let longs = filled();
-    Slices {
-        parents: words,
-        order: words,
-        pops: words,
-        starts: longs,
-        rows: words,
-        work: longs,
-    }
-}
-
 // Counts the places of the six slices that are wrong after a call. Work must be zero, like the stack list of a sheet.
 fn wrong_slices(slices: &Slices<300, 300>, lent: &Lengths, held: Held, res: &Sheet) -> usize {
     let parents = wrong(&slices.parents, length(lent, 0), held, res, sheet::PARENTS);
@@ -61,7 +47,16 @@ pub fn wrong_in_call(
     res: &Sheet,
     right: Right,
 ) -> usize {
-    let mut slices = before();
+    let words = filled();
+    let longs = filled();
+    let mut slices = Slices {
+        parents: words,
+        order: words,
+        pops: words,
+        starts: longs,
+        rows: words,
+        work: longs,
+    };
     let found = analysis::analyse(
         head,
         starts,

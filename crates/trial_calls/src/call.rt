@@ -1,6 +1,6 @@
 // One call of write_key, of write_plan or of the solver's check, compared with what it has to do.
 use papers::Answer;
-use trial_comparison::{Slices, differences};
+use trial_comparison::{LARGE, differences};
 use trial_lines::line::Numbers;
 use trial_lines::sheet::{BEFORE, Bytes};
 use trial_lines::{line, sheet};
@@ -42,7 +42,7 @@ fn write_key(numbers: &Numbers, starts: &[u64], rows: &[u32]) -> Found {
 
 // Tests whether the check of its own job refuses a written plan. The plan is handed on as the part of the slice that holds it.
 fn fails(numbers: &Numbers, starts: &[u64], rows: &[u32], plan: &[u8]) -> bool {
-    let mut slices = Slices::<512, 1152>::of(0);
+    let mut slices = LARGE;
     let answer = checker::check_plan(
         line::head(numbers),
         starts,
@@ -61,7 +61,8 @@ fn fails(numbers: &Numbers, starts: &[u64], rows: &[u32], plan: &[u8]) -> bool {
 // Writes the plan of the case's job, in slices that are long enough but for the factor rows and the bytes. A written plan is checked.
 fn write_plan(numbers: &Numbers, starts: &[u64], rows: &[u32]) -> Found {
     let mut bytes = [BEFORE as u8; 4096];
-    let mut slices = Slices::<512, 1152>::of(BEFORE);
+    let mut slices = LARGE;
+    slices.fill(BEFORE);
     let a = line::lent(numbers, WRITTEN) % 4097;
     let b = line::lent(numbers, FACTOR_ROWS) % 513;
     let answer = plan_bytes::write_plan(

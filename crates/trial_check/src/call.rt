@@ -1,6 +1,6 @@
 // Calls the check once, and compares what it does with what it must do.
 use papers::Answer;
-use trial_comparison::{Slices, differences};
+use trial_comparison::{LARGE, Slices, differences};
 use trial_lines::line::{Numbers, lent};
 use trial_lines::sheet::{BEFORE, wrong};
 use trial_lines::{line, sheet};
@@ -25,7 +25,8 @@ fn wrong_slices(numbers: &Numbers, slices: &Slices<512, 1152>) -> usize {
 
 // Lends slices of the case's lengths, calls the check, and compares.
 fn call(numbers: &Numbers, starts: &[u64], rows: &[u32], plan: &[u8]) -> Found {
-    let mut slices = Slices::<512, 1152>::of(BEFORE);
+    let mut slices = LARGE;
+    slices.fill(BEFORE);
     let answer = checker::check_plan(
         line::head(numbers),
         starts,

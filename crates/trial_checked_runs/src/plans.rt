@@ -1,6 +1,6 @@
 // Writes plans, and checks them under the key of any mark. Writes the lists of a check into a case, as a run takes them.
 use papers::{Answer, JobHead};
-use trial_comparison::{Slices, count, longs, words};
+use trial_comparison::{SMALL, Slices, count, longs, words};
 use trial_elimination::grid::add;
 use trial_elimination::sheet;
 use trial_elimination::sheet::{Sheet, get, set, set_length};
@@ -17,7 +17,7 @@ fn head(job: &Sheet, mark: u8) -> JobHead {
 pub fn write(job: &Sheet, mark: u8, plan: &mut Plan) -> u64 {
     let starts = longs(job, sheet::STARTS);
     let rows = words(job, sheet::ROWS);
-    let mut slices = Slices::<300, 300>::of(0);
+    let mut slices = SMALL;
     let written = plan_bytes::write_plan(
         head(job, mark),
         &starts[..count(job, sheet::STARTS)],
@@ -61,7 +61,7 @@ fn check_lists(
     rows: &[u32],
     plan: &[u8],
 ) -> Answer {
-    let mut slices = Slices::<300, 300>::of(0);
+    let mut slices = SMALL;
     let answer = checker::check_plan(
         head,
         starts,

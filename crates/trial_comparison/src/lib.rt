@@ -20,18 +20,35 @@ pub struct Slices<const WORDS: usize, const LONGS: usize> {
     pub work: [u64; LONGS],
 }
 
+// Slices of two sizes, for small patterns and for the cases that come as lines. They hold zeros.
+pub const SMALL: Slices<300, 300> = Slices {
+    parents: [0; 300],
+    order: [0; 300],
+    pops: [0; 300],
+    starts: [0; 300],
+    rows: [0; 300],
+    work: [0; 300],
+};
+
+pub const LARGE: Slices<512, 1152> = Slices {
+    parents: [0; 512],
+    order: [0; 512],
+    pops: [0; 512],
+    starts: [0; 1152],
+    rows: [0; 512],
+    work: [0; 1152],
+};
+
 impl<const WORDS: usize, const LONGS: usize> Slices<WORDS, LONGS> {
-    // Slices that hold a number at every place.
-    pub fn of(number: u32) -> Slices<WORDS, LONGS> {
+    // Puts a number at every place. Works in place, since moving so many bytes is slow.
+    pub fn fill(&mut self, number: u32) {
         let long = u64::from(number);
-        Slices {
-            parents: [number; WORDS],
-            order: [number; WORDS],
-            pops: [number; WORDS],
-            starts: [long; LONGS],
-            rows: [number; WORDS],
-            work: [long; LONGS],
-        }
+        self.parents.fill(number);
+        self.order.fill(number);
+        self.pops.fill(number);
+        self.starts.fill(long);
+        self.rows.fill(number);
+        self.work.fill(long);
     }
 }
 
