@@ -22,7 +22,8 @@ fn bad_last(case: &Sheet, n: usize) -> bool {
 
 // The column whose list contains the row at a place: the first that ends behind it. 0 if there is none, which no list that gets here has.
 fn owner(case: &Sheet, n: usize, place: usize) -> usize {
-    (1..=n)
+    (0..n)
+        .map(|j| j + 1)
         .find(|j| place < get(case, sheet::STARTS, *j))
         .unwrap_or(0)
 }
