@@ -69,7 +69,6 @@ fn hold_line(tally: &mut Tally, numbers: &Numbers, line: usize) {
 
 fn print(tally: &Tally) -> fmt::Result {
     let mut out = Output;
-    tally.print_mismatches(&mut out)?;
     writeln!(out, "cases {}", tally.cases())?;
     write!(out, "done, and refused 1 to 9")?;
     for number in 0..10 {

@@ -96,7 +96,6 @@ fn hold_all(tally: &mut Tally, seeds: usize) {
 
 fn print(tally: &Tally) -> fmt::Result {
     let mut out = Output;
-    tally.print_mismatches(&mut out)?;
     writeln!(out, "plans that passed the check: {}", tally.right(CHECKED))?;
     writeln!(out, "runs in the peak, done: {}", tally.right(DONE))?;
     writeln!(out, "runs in one less, refused 23: {}", tally.right(BELOW))?;

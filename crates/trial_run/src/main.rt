@@ -53,7 +53,6 @@ fn print_notes(out: &mut Output, tally: &Tally<Notes>) -> fmt::Result {
 
 fn print(tally: &Tally<Notes>) -> fmt::Result {
     let mut out = Output;
-    tally.print_mismatches(&mut out)?;
     writeln!(out, "cases {}", tally.cases())?;
     writeln!(out, "done: {}", tally.right(0))?;
     tally.print_numbers(&mut out, "refused", &REFUSED)?;

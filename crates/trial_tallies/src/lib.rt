@@ -1,5 +1,5 @@
-// Counts what a test program finds over its cases, and prints it at the end. Only this is proved: every function is safe and ends: places
-// wrap, so no function asks anything of its caller.
+// Counts what a test program finds over its cases. Prints a case with anything wrong at once, and what is counted at the end. Only this is
+// proved: every function is safe and ends: places wrap, so no function asks anything of its caller.
 #![tactic(auto)]
 
 use std::fmt;
@@ -42,14 +42,12 @@ impl fmt::Display for Mismatch {
     }
 }
 
-// Counts all cases, by their number those with nothing wrong, and those with anything wrong, of which it keeps the first twenty. The notes
-// are what else a program counts.
+// Counts all cases, by their number those with nothing wrong, and those with anything wrong. The notes are what else a program counts.
 #[derive(Clone, Copy, Drop)]
 pub struct Tally<N> {
     cases: u64,
     right: [u64; 32],
     wrong: u64,
-    mismatches: [Option<Mismatch>; 20],
     pub notes: N,
 }
 
@@ -59,7 +57,6 @@ impl<N> Tally<N> {
             cases: 0,
             right: [0; 32],
             wrong: 0,
-            mismatches: [None; 20],
             notes,
         }
     }
@@ -84,7 +81,8 @@ impl<N> Tally<N> {
         self.wrong = self.wrong.saturating_add(1);
     }
 
-    // Counts a case, by its number if nothing of it is wrong. Keeps it if it is one of the first twenty with anything wrong.
+    // Counts a case, by its number if nothing of it is wrong. Prints the first twenty with anything wrong, each at once: so what was found
+    // is told also if the program is cut off. A program goes on if the output takes nothing.
     pub fn tell(&mut self, number: u64, wrong: usize, a: u64, b: u64) {
         self.cases = self.cases.saturating_add(1);
         if wrong == 0 {
@@ -92,31 +90,23 @@ impl<N> Tally<N> {
             *right = right.saturating_add(1);
             return;
         }
-        if let Some(place) = self.mismatches.get_mut(self.wrong as usize) {
-            let case = self.cases;
-            *place = Some(Mismatch {
-                case,
+        self.count_wrong();
+        if self.wrong <= 20 {
+            let mismatch = Mismatch {
+                case: self.cases,
                 number,
                 wrong,
                 a,
                 b,
-            });
+            };
+            let mut out = Output;
+            let _ = writeln!(out, "{mismatch}");
         }
-        self.count_wrong();
     }
 
-    // Prints a line for each of the first twenty cases with anything wrong.
-    pub fn print_mismatches(&self, out: &mut Output) -> fmt::Result {
-        for mismatch in self.mismatches.iter().flatten() {
-            writeln!(out, "{mismatch}")?;
-        }
-        Ok(())
-    }
-
-    // Prints all that is counted: the mismatches, how many cases there are, how many of these numbers, and how many mismatches.
+    // Prints all that is counted: how many cases there are, how many of these numbers, and how many mismatches.
     pub fn print(&self, word: &str, numbers: &[usize]) -> fmt::Result {
         let mut out = Output;
-        self.print_mismatches(&mut out)?;
         writeln!(out, "cases {}", self.cases)?;
         self.print_numbers(&mut out, word, numbers)?;
         writeln!(out, "mismatches {}", self.wrong)
